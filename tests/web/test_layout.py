@@ -1,5 +1,9 @@
-"""Each panel with hundreds of rows at several widths: the page ends where its footer ends, and nothing is cut or stands in a thin column."""
+"""Each panel with hundreds of rows at several widths: the page ends where its footer ends, and nothing is cut or stands in a thin column.
 
+With PICTURES, a directory, each state is drawn there at each width.
+"""
+
+import os
 from pathlib import Path
 
 import common
@@ -39,6 +43,8 @@ class Layout(PageTest):
             self.assertLessEqual(over, 0, f'{state} at {width} goes on below its footer')
             self.assertEqual(cut, [], f'{state} at {width} is cut')
             self.assertLessEqual(self.browser.wider(width), 0, f'{state} at {width}')
+            if 'PICTURES' in os.environ:
+                self.browser.picture(Path(os.environ['PICTURES']) / f"layout-{state.replace(' ', '-')}-{width}.png", width)
         self.browser.size(1280)
 
     def begin(self, image: bytes, name: str = LONG_NAME) -> Path:

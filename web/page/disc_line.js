@@ -126,7 +126,8 @@ function trackChoice(app, image) {
  * @param {number} length
  */
 function shaWaits({ reader }, { hashed }, length) {
-    return (hashed === 0 ? '(after reading)' : `(${Math.floor(100 * hashed / reader.size)} %)`).padEnd(length).replace(/ /g, '\u00a0');
+    const words = hashed < 0 ? 'not known' : `(${reader.size === 0 ? 0 : Math.floor(100 * hashed / reader.size)} %)`;
+    return words.padEnd(length).replace(/ /g, '\u00a0');
 }
 
 /**

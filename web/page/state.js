@@ -31,10 +31,10 @@ import { USUAL_ENCODING } from '../core/text.js';
  */
 
 /**
- * What happens: an image was opened or closed (`image`); more of it was surveyed (`survey`), or all (`surveyed`); its hash or its files
- * are known (`hash`, `files`); there is a second image, or none any more (`second`); a place was chosen (`place`); the script has
- * changed (`script`); the encoding was chosen, or a table is new (`encoding`); another panel is shown (`panel`); the data of a patcher are
- * to be worked on (`patcher`).
+ * What happens: an image was opened or closed (`image`); more of it was surveyed (`survey`), or all (`surveyed`); more of it was hashed
+ * (`hash`, with how many bytes, or -1 if nobody goes on with it); its files are known (`files`); there is a second image, or none any more
+ * (`second`); a place was chosen (`place`); the script has changed (`script`); the encoding was chosen, or a table is new (`encoding`);
+ * another panel is shown (`panel`); the data of a patcher are to be worked on (`patcher`).
  * @typedef {'image' | 'survey' | 'surveyed' | 'hash' | 'files' | 'second' | 'place' | 'script' | 'encoding' | 'panel' |
  *     'patcher'} Happening
  */

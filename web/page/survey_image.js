@@ -29,9 +29,8 @@ export async function readImage(app, image) {
     app.emit('second');
     if (image === null) return;
     try {
-        await surveyImage(app, image);
-        await listFiles(app, image, signal);
-        await hashImage(app, image, signal);
+        const surveyed = surveyImage(app, image).then(() => listFiles(app, image, signal));
+        await Promise.all([surveyed, hashImage(app, image, signal)]);
     } catch (error) {
         if (!isCancelled(error) && app.image === image) showFailure(error);
     }
@@ -88,7 +87,12 @@ async function listFiles(app, { part }, signal) {
  * @param {AbortSignal} signal
  */
 async function hashImage(app, image, signal) {
-    Object.assign(image, await sumsOf(app.parts, image.reader, signal, done => app.emit('hash', done)));
+    try {
+        Object.assign(image, await sumsOf(app.parts, image.reader, signal, done => app.emit('hash', done)));
+    } catch (error) {
+        if (app.image === image) app.emit('hash', -1);
+        throw error;
+    }
     if (signal.aborted) throw new JobAborted();
     app.emit('hash', image.reader.size);
 }
