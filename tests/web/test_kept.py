@@ -220,6 +220,23 @@ class Kept(PageTest):
         self.assertEqual(applied(discs.written(patched=patched)['patched'], undo)[2], discs.game())
         self.assertEqual(self.browser.run('return document.querySelectorAll("#panel-script .progress").length'), 0)
 
+    def test_20000_patches_are_saved_as_the_program_saves_them_whatever_is_done_meanwhile(self) -> None:
+        lines = [f'fill {block} {block % 2000} 8 {block % 256}\n' for block in range(200, 18200)] + [f'rebuild {at}\n' for at in range(10, 2010)]
+        files = discs.written(scratches=discs.scratches(), many='cdpatch 1\n' + ''.join(lines), other=discs.game())
+        self.open_image(files['scratches'])
+        self.open_script(files['many'])
+        self.browser.run('chosen.pickLater()')
+        self.press('Apply and save')
+        self.browser.wait('#panel-script .progress')
+        self.browser.run('chosen.pick()')
+        self.browser.click('#tab-text')
+        self.browser.drop('#main', [files['other']])
+        self.browser.click('#find-text')
+        self.browser.press('a', Keys.ESCAPE)
+        self.browser.click('#tab-script')
+        self.browser.wait('#panel-script .say', 'Saved: scratches (patched).bin')
+        self.browser.wait('#saved-sha1', common.sha1(applied(files['scratches'], files['many'])[2]))
+
     def test_lines_that_are_being_made_keep_their_bar(self) -> None:
         self.open_image(discs.written(many=discs.many_texts())['many'])
         self.browser.click('#tab-text')

@@ -161,7 +161,7 @@ function askBase(app, drawn) {
     };
     const form = element('form', { class: 'row', submit: (/** @type {Event} */ event) => {
         event.preventDefault();
-        drawn.changing = false;
+        close();
         changeBase(app, Number(input.value));
     } }, element('label', { for: 'base' }, 'The block of the first sector'), input, element('button', { class: 'btn slim main' }, 'Set'),
     button('slim bare', close, 'Leave it'));

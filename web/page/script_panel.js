@@ -180,7 +180,8 @@ class ScriptPanel {
     }
 
     drawSide() {
-        const none = this.lines.patches === 0 && this.lines.faults === 0 && !this.lines.long && !this.check.saving.shown();
+        const works = this.check.busy || this.check.saving.shown();
+        const none = this.lines.patches === 0 && this.lines.faults === 0 && !this.lines.long && !works;
         if (none) return fill(this.side, this.emptyCard());
         this.check.draw();
         return fill(this.side, this.check.card, this.log);
