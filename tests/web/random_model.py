@@ -8,8 +8,8 @@ import common
 import discs
 
 NEW = 'cdpatch 1\n'
-SCRIPTS = {'one.txt': 'cdpatch 1\nfill 120 5 4 1\n', 'two.txt': 'cdpatch 1\n# two\nfill 130 5 4 2\nrebuild 131\n',
-           'three.txt': 'cdpatch 1\nset 99999 0 41\nfill 121 0 2 3\n'}
+SCRIPTS = {'one.txt': 'cdpatch 1\nfill 120 5 4 01\n', 'two.txt': 'cdpatch 1\n# two\nfill 130 5 4 02\nrebuild 131\n',
+           'three.txt': 'cdpatch 1\nset 99999 0 41\nfill 121 0 2 03\n'}
 DAMAGED = {'sound.bin': (), 'bad.bin': (40, 60), 'worse.bin': (60, 80, 100)}
 
 
@@ -32,7 +32,7 @@ def repaired(image: bytes, other: bytes) -> bytes | None:
 def line(dice: random.Random) -> str:
     """A line of a script, of which some are refused."""
     block = dice.randrange(110, 150)
-    return dice.choice([f'fill {block} {dice.randrange(2000)} 4 {dice.randrange(256)}', f'rebuild {block}', '# a note', 'set 99999 0 41'])
+    return dice.choice([f'fill {block} {dice.randrange(2000)} 4 {dice.randrange(256):02X}', f'rebuild {block}', '# a note', 'set 99999 0 41'])
 
 
 @dataclasses.dataclass

@@ -221,7 +221,7 @@ class Kept(PageTest):
         self.assertEqual(self.browser.run('return document.querySelectorAll("#panel-script .progress").length'), 0)
 
     def test_20000_patches_are_saved_as_the_program_saves_them_whatever_is_done_meanwhile(self) -> None:
-        lines = [f'fill {block} {block % 2000} 8 {block % 256}\n' for block in range(200, 18200)] + [f'rebuild {at}\n' for at in range(10, 2010)]
+        lines = [f'fill {block} {block % 2000} 8 {block % 256:02X}\n' for block in range(200, 18200)] + [f'rebuild {at}\n' for at in range(10, 2010)]
         files = discs.written(scratches=discs.scratches(), many='cdpatch 1\n' + ''.join(lines), other=discs.game())
         self.open_image(files['scratches'])
         self.open_script(files['many'])
@@ -273,4 +273,4 @@ class Kept(PageTest):
         self.browser.click('#tab-text')
         self.browser.run('late.forEach(it => it())')
         self.wait_for_hash()
-        self.assertEqual(self.browser.run('return [document.querySelectorAll("#panel-text .progress").length, document.querySelector("#panel-text .hits").checkVisibility()]'), [0, False])
+        self.assertEqual(self.browser.run('return [document.querySelectorAll("#panel-text .progress").length, document.querySelector("#panel-text .hits")?.checkVisibility() ?? false]'), [0, False])

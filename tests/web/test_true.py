@@ -8,12 +8,12 @@ import discs
 from pages import GATE, NO_PICKER, PageTest
 from selenium.webdriver.common.keys import Keys
 
-# The reading of the volume's descriptor, at sector 16, waits until the gate is opened.
+# The reading of the open image's volume descriptor, at sector 16, waits until the gate is opened.
 LATE_FILES = '''const { slice, arrayBuffer } = Blob.prototype, held = new WeakSet();
 const open = new Promise(done => { globalThis.openFiles = done; });
 Blob.prototype.slice = function (from, ...given) {
     const part = slice.call(this, from, ...given);
-    if (from === 16 * 2352) held.add(part);
+    if (from === 16 * 2352 && !document.querySelector('#disc-line').hidden) held.add(part);
     return part;
 };
 Blob.prototype.arrayBuffer = async function () {

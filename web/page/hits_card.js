@@ -23,6 +23,8 @@ const SHOWN = 200;
 const BEFORE = 14;
 const AFTER = 24;
 const BYTES_AFTER = 48;
+/** So many hits are read at a time. */
+const AT_ONCE = 25;
 
 /** @param {string[]} characters */
 function shownText(characters) {
@@ -127,24 +129,38 @@ export class HitsCard {
     }
 
     /**
-     * Reads what stands round the hits that are shown, and draws their rows again.
+     * Reads what stands round the hits that are shown, and puts it into their rows.
      * @param {Search} search
      */
-    async readContexts(search) {
+    async readContexts({ hits }) {
         const { app } = this;
         const { image } = app;
         const number = ++this.reader;
-        for (let i = 0; i < Math.min(this.shown, search.hits.length) && image !== null; i++) {
-            if (this.contexts.has(i)) continue;
-            const encoding = chosenEncoding(app);
-            const context = await contextOf(image, encoding, search.hits[i], BYTES_AFTER);
-            if (number !== this.reader || encoding !== chosenEncoding(app)) return;
-            this.contexts.set(i, context);
-            const row = this.body.rows[i];
-            const cell = row && row.cells[3];
-            const waiting = cell && cell.querySelector('.ctx');
-            if (waiting) waiting.replaceWith(...this.context(i).filter(it => it instanceof Node).map(it => /** @type {Node} */ (it)));
+        const encoding = chosenEncoding(app);
+        const wanted = hits.slice(0, this.shown).map((_, i) => i).filter(i => !this.contexts.has(i));
+        for (let at = 0; at < wanted.length && image !== null; at += AT_ONCE) {
+            const part = wanted.slice(at, at + AT_ONCE);
+            const read = await Promise.all(part.map(i => contextOf(image, encoding, hits[i], BYTES_AFTER)));
+            if (number !== this.reader) return;
+            part.forEach((i, k) => this.showContext(i, read[k]));
         }
+    }
+
+    /**
+     * @param {number} i
+     * @param {Context} context
+     */
+    showContext(i, context) {
+        this.contexts.set(i, context);
+        const row = this.body.rows[i];
+        const waiting = row && row.cells[3].querySelector('.ctx');
+        if (waiting) waiting.replaceWith(...this.context(i).filter(it => it instanceof Node).map(it => /** @type {Node} */ (it)));
+    }
+
+    /** They are those of another encoding. */
+    forgetContexts() {
+        this.contexts.clear();
+        this.reader += 1;
     }
 
     copy() {

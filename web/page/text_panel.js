@@ -63,7 +63,7 @@ class TextPanel {
         app.on('encoding', () => {
             this.drawAsked();
             this.replace.draw();
-            this.hits.contexts.clear();
+            this.hits.forgetContexts();
             this.drawHits();
         });
         for (const name of /** @type {const} */ (['script', 'files', 'panel'])) app.on(name, () => this.drawHits());
@@ -98,6 +98,10 @@ class TextPanel {
     drawAsked() {
         this.drawHint();
         if (!this.search.running && !this.adding) fill(this.state);
+        this.drawResults();
+    }
+
+    drawResults() {
         this.results.hidden = this.found === null || !(this.adding || this.isAsked(this.found));
     }
 
@@ -220,7 +224,7 @@ class TextPanel {
         if (this.adding) return;
         this.adding = true;
         await job().finally(() => { this.adding = false; });
-        this.results.hidden = this.found === null || !this.isAsked(this.found);
+        this.drawResults();
     }
 
     /**
