@@ -178,8 +178,8 @@ class Random(PageTest):
 
     def type_byte(self) -> None:
         block = self.model.next_block()
-        self.browser.type('#go-to' if not self.browser.run('return document.querySelector("#go-to").closest("[hidden]") !== null') else '#map',
-                          str(block)) if self.model.second == '' else self.go_by_map(block)
+        self.browser.find('#map').send_keys('g')
+        self.browser.type('#go-to', str(block))
         self.browser.press(Keys.ENTER)
         self.browser.wait('#sector-title', f'block {block}')
         self.browser.run('document.querySelector(".hex").focus()')
@@ -189,10 +189,6 @@ class Random(PageTest):
         common.waited(lambda: self.browser.run(at) == 'byte-16', 'not at the first byte')
         self.browser.press('a5')
         self.model.add_line(f'set {block} 0 A5 was {self.images[self.model.image][block * 2352 + 16]:02X}')
-
-    def go_by_map(self, block: int) -> None:
-        self.browser.find('#map').send_keys('g')
-        self.browser.type('#go-to', str(block))
 
     def add_text(self) -> None:
         if 'Start' in self.model.text() or discs.START.hex().upper() in self.model.text():
@@ -209,6 +205,7 @@ class Random(PageTest):
     def check(self) -> None:
         if self.model.saving and self.model.saving.card == 'script':
             return
+        self.back_to_check()
         self.press('Check')
         self.browser.wait('#panel-script .tally', 'would apply')
 
@@ -225,6 +222,10 @@ class Random(PageTest):
         self.assertEqual(again, self.images[self.model.image])
         path.unlink()
 
+    def back_to_check(self) -> None:
+        """Closes what is said of the last save."""
+        self.browser.run('[...document.querySelectorAll("#panel-script button.back")].forEach(it => it.click())')
+
     # ---- saving
 
     def hold(self) -> None:
@@ -238,10 +239,8 @@ class Random(PageTest):
             return
         self.hold()
         due = applied(self.paths[self.model.image], self.script_file())[2]
-        self.browser.run('const it = [...document.querySelectorAll("button")].find(it => it.innerText === "Apply and save…") ?? '
-                         '[...document.querySelectorAll("button")].find(it => it.innerText === "Back to Check" || it.innerText === "Back"); it.click()')
-        if self.browser.run('return chosen.asked') == 0:
-            self.press('Apply and save')
+        self.back_to_check()
+        self.press('Apply and save')
         self.begun()
         self.model.begin('script', due)
 
