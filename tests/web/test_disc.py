@@ -268,7 +268,7 @@ class Disc(unittest.TestCase):
         browser.wait(VERDICT, 'Reading the disc')
         browser.press(Keys.ESCAPE)
         browser.wait(VERDICT, 'and no further')
-        browser.wait('#disc-line .sha-wait', 'not known')
+        browser.wait('#disc-line .sha-wait', 'not\u00a0known')
         browser.click('#tab-publish')
         browser.wait('#panel-publish', 'The image was not read to its end.')
         browser.click('#tab-disc')

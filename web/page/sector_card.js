@@ -59,7 +59,7 @@ export class SectorCard {
         this.goTo = element('input', { type: 'text', id: 'go-to', class: 'num slim', inputmode: 'numeric', autocomplete: 'off' });
         const form = element('form', { submit: (/** @type {Event} */ event) => this.goToBlock(event) },
             element('label', { class: 'row small' }, 'Go to block', this.goTo));
-        this.noBlock = element('p', { class: 'say bad thin', role: 'alert', hidden: true });
+        this.noBlock = element('div');
         this.choice = element('select', { class: 'slim' });
         bindEncodings(app, this.choice, ['hex']);
         this.body = element('div', {}, this.said, this.fields, this.view.part, this.foot);
@@ -219,8 +219,7 @@ export class SectorCard {
     /** @param {string} fault of the block that was typed, or '' */
     sayBlock(fault) {
         this.goTo.setAttribute('aria-invalid', String(fault !== ''));
-        this.noBlock.hidden = fault === '';
-        fill(this.noBlock, fault);
+        fill(this.noBlock, fault !== '' && element('p', { class: 'say bad thin', role: 'alert' }, fault));
     }
 
     /**
