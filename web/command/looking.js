@@ -77,7 +77,15 @@ export async function filesIfAny(part) {
  * @param {Place} place
  */
 function filesText(files, place) {
-    return files.with(place).map(({ path, at }) => `${visible(path)}+${at}`).join(' ') || '-';
+    return files.with(place).map(({ path, at }) => `${path}+${at}`).join(' ') || '-';
+}
+
+/**
+ * The files as they are printed, for places one after the other.
+ * @param {FileEntry[]} files
+ */
+function printedFiles(files) {
+    return new FilesAlong(files.map(file => ({ ...file, path: visible(file.path) })));
 }
 
 /**
@@ -87,7 +95,7 @@ function filesText(files, place) {
  * @param {Context} context
  */
 function hitLine(files, hit, { before, hit: text, after, doubt }) {
-    const around = visible([...before, text, ...after].join(''));
+    const around = visible(`${before.join('')}${text}${after.join('')}`);
     return [hit.block, hit.offset, hit.size, filesText(files, hit), around, ...doubt === '' ? [] : [doubt]].join('\t');
 }
 
@@ -100,7 +108,7 @@ function hitLine(files, hit, { before, hit: text, after, doubt }) {
  * @param {Hit[]} hits
  */
 async function writeHits(target, part, files, encoding, hits) {
-    const along = new FilesAlong(files);
+    const along = printedFiles(files);
     for await (const near of contextsOf(part, encoding, hits)) {
         await target.write(bytesOfLines(Array.from(near, ({ hit, context }) => hitLine(along, hit, context))));
     }
@@ -160,7 +168,7 @@ async function sectorLines(run, part, sector, place) {
     return [
         `block ${place.block} address ${addressText(addressIn(sector, 0))} ${kind} edc ${edc}`,
         ...found.startsWith('sectors ') ? [] : [`wrong: ${found.replace(/^\d+ /, '')}`],
-        `file ${filesText(new FilesAlong(files), place)}`,
+        `file ${filesText(printedFiles(files), place)}`,
     ];
 }
 
