@@ -46,7 +46,7 @@ for (const [what, { table, text, fault: due = '' }] of Object.entries(TABLES)) {
     test(`a table takes no longer: ${what}`, async () => {
         const { answer, fault, seconds } = await timed(() => {
             const own = tableOf(table);
-            own.lengthAt(new Uint8Array(USER), 0);
+            own.characterAt(new Uint8Array(USER), 0);
             return findIn(rawOf(new Uint8Array(64 * USER)), 0, { texts: [own.units(text)], count: 64, limit: 5 })[0].count;
         });
         assert.ok(seconds < 4, `${seconds} s`);

@@ -122,8 +122,8 @@ function utf8Scores(number, scores) {
 export function allScores() {
     const scores = characterScores();
     const inTable = (/** @type {{ table: import('./characters.js').CharacterTable }} */ { table }) => (/** @type {number} */ code) => {
-        const text = table.texts.get(String.fromCharCode(code >> 8, code & 0xFF));
-        return text === undefined || code >> 8 < 0x81 ? 0 : text.charCodeAt(0);
+        const { size, text } = table.characterAt(Uint8Array.of(code >> 8, code & 0xFF), 0);
+        return size < 2 || code >> 8 < 0x81 ? 0 : text.charCodeAt(0);
     };
     return [
         pairScores(CP932, 0, inTable(CP932), scores),
