@@ -11,7 +11,7 @@ import { codeOfThree } from './best_path.js';
 const REACH = 64;
 const REACH_WITHOUT_ZERO = 4;
 
-/** Beside a text, over so many bytes of filling, others up to 00 are accepted from so many bits on. */
+/** Beside a text, over so many bytes of filling, others up to 00 are accepted from so many bits on, by a game's own table from 0 on. */
 const BETWEEN = 8;
 const LEAST_BESIDE = 4;
 const LONGEST_BESIDE = 256;
@@ -128,7 +128,7 @@ function bitsOf({ wide, three, one, oneKind, pair, pairKind }, bytes, start, end
  */
 function neighbour(bytes, { scores }, start, end) {
     const score = bitsOf(scores, bytes, start, end);
-    return score < LEAST_BESIDE ? null : { start, end, score, scores, before: true, after: true, near: true };
+    return score < (scores.own ? 0 : LEAST_BESIDE) ? null : { start, end, score, scores, before: true, after: true, near: true };
 }
 
 /**
