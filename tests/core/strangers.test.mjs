@@ -58,7 +58,7 @@ const USER = 2048;
 
 test('a harmless volume is listed', async () => {
     const { files, faults } = await listed(harmlessVolume(30));
-    assert.deepStrictEqual([files, faults], [[{ path: '/FILE', block: 20, size: 5000, fault: '' }], []]);
+    assert.deepStrictEqual([files, faults], [[{ path: '/FILE', block: 20, size: 5000, fault: '', before: 0, record: { block: 18, offset: 34 } }], []]);
 });
 
 test('a sector belongs to one directory only', async () => {

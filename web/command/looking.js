@@ -3,7 +3,8 @@
 import { bytesOfLines } from '../core/bytes.js';
 import { sectorsOfRange } from '../core/edit.js';
 import { Fault } from '../core/faults.js';
-import { VolumeFault, filesOf } from '../core/iso.js';
+import { fileOrder } from '../core/file_order.js';
+import { VolumeFault, filesOf, wholeFile } from '../core/iso.js';
 import { kindName } from '../core/records.js';
 import { FIELDS, USER_SIZE, addressIn, addressText } from '../core/sector.js';
 import { LONGEST_CHARACTER, LOOKED_BACK, bytesInside, charactersFrom } from '../core/texts/boundaries.js';
@@ -31,16 +32,15 @@ const ROW = 16;
 const SHOWN = 128;
 
 /**
- * The file of a path. Throws a Fault if there is none.
+ * The file of a path, and what names the files of its volume. Throws a Fault if there is none.
  * @param {DiscImage} part
  * @param {string} path
  */
 export async function fileNamed(part, path) {
-    const { files } = await filesOf(part.reader, part.base);
+    const { files, ...names } = await filesOf(part.reader, part.base);
     const rooted = (/** @type {string} */ name) => `/${name}`.replace(/^\/+/, '/');
     const named = files.filter(file => [file.path, visible(file.path)].map(rooted).includes(rooted(path)));
-    if (named.length === 1) return named[0];
-    if (named.length > 1) throw new Fault(`${path} has ${named.length} parts`);
+    if (named.length > 0) return { ...wholeFile(named), names };
     const meant = nearest(rooted(path), files.map(file => rooted(file.path)));
     throw new Fault(`there is no file ${path}; ${meant === null ? 'cdscript files lists them' : `there is ${meant}`}`);
 }
@@ -69,6 +69,19 @@ export async function filesIfAny(part) {
         if (!(error instanceof VolumeFault)) throw error;
         return { files: [], why: [`no file is named: ${error.message}`] };
     }
+}
+
+/**
+ * The data track that a job means, as `openTrack` gives it, whose texts are read in the order of its files; and these.
+ * @param {Run} run
+ * @param {string} name
+ * @param {boolean} [whole]
+ */
+export async function openTexts(run, name, whole) {
+    const { image, part, ...opened } = await openTrack(run, name, whole);
+    const found = await filesIfAny(part);
+    const inOrder = (/** @type {DiscImage} */ it) => ({ ...it, order: fileOrder(it, found.files) });
+    return { ...opened, image: inOrder(image), part: inOrder(part), ...found };
 }
 
 /**
@@ -118,10 +131,9 @@ async function writeHits(target, part, files, encoding, hits) {
 export async function findJob(run) {
     const { limit = DEFAULT_LIMIT } = run.options;
     const target = await run.target();
-    const opened = await openTrack(run, run.names[0]);
+    const { files, why, ...opened } = await openTexts(run, run.names[0]);
     const { part } = opened;
-    // The files are read while the threads search.
-    const [found, { files, why }] = await Promise.all([hitsOf(run, opened, run.names[1], limit), filesIfAny(part)]);
+    const found = await hitsOf(run, opened, run.names[1], limit);
     if (found !== null) {
         why.forEach(text => run.say(text));
         await writeHits(target, part, files, found.encoding, found.hits);

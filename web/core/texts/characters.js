@@ -5,7 +5,16 @@ import { Fault } from '../faults.js';
 const NO_CHARACTER = '\uFFFD';
 
 /** Why a text has no bytes, or a table can't be read. */
-export class TextFault extends Fault {}
+export class TextFault extends Fault {
+    /**
+     * @param {string} message
+     * @param {number} [at] where a character stands in the text that has no bytes, if that is why
+     */
+    constructor(message, at = -1) {
+        super(message);
+        this.at = at;
+    }
+}
 
 /**
  * A character as a message shows it.
@@ -24,7 +33,7 @@ function shownCharacter(character) {
 export function lacks(name, text, at) {
     const place = [...text.slice(0, at)].length + 1;
     const character = String.fromCodePoint(text.codePointAt(at) || 0);
-    return new TextFault(`${name} has no ${shownCharacter(character)}, character ${place} of the text`);
+    return new TextFault(`${name} has no ${shownCharacter(character)}, character ${place} of the text`, at);
 }
 
 /**
@@ -79,6 +88,17 @@ export class CharacterTable {
             branch = next;
         }
         return branch;
+    }
+
+    /**
+     * All bytes that mean a text, with it.
+     * @param {Branch} branch
+     * @param {number[]} bytes before it
+     * @returns {Generator<{ bytes: number[], text: string }>}
+     */
+    * meanings(branch = this.root, bytes = []) {
+        if (branch.text !== '') yield { bytes, text: branch.text };
+        for (const [byte, next] of branch.next || []) yield* this.meanings(next, [...bytes, byte]);
     }
 
     /**

@@ -28,39 +28,30 @@ const AFTER = AROUND + LONGEST_CHARACTER;
 const READ_TOGETHER = 1 << 19;
 
 /**
- * User bytes from a place on: so many, or those up to the end of the image.
- * @param {DiscImage} image
+ * How many user bytes come before a place, in the order of files if the image has one.
+ * @param {Pick<DiscImage, 'base' | 'order'>} image
  * @param {Place} place
- * @param {number} size
  */
-async function userBytes({ reader, base, sectors }, { block, offset }, size) {
-    const first = block - base;
-    const count = Math.min(Math.ceil((offset + size) / USER_SIZE), sectors - first);
-    const bytes = await readBytes(reader, first * SECTOR_SIZE, count * SECTOR_SIZE);
-    return joinedUser(bytes).subarray(offset, offset + size);
+export function bytesBefore({ base, order }, { block, offset }) {
+    return (order ? order.indexOf(block) : block - base) * USER_SIZE + offset;
 }
 
 /**
- * How many user bytes come before a place.
- * @param {Pick<DiscImage, 'base'>} image
- * @param {Place} place
- */
-function bytesBefore({ base }, { block, offset }) {
-    return (block - base) * USER_SIZE + offset;
-}
-
-/**
- * User bytes around a place, as many before it and from it on, or as many as there are; and the place in them.
+ * User bytes around a place, as many before it and from it on, or as many as there are, in that order; and the place in them.
  * @param {DiscImage} image
  * @param {Place} place
  * @param {number} before
  * @param {number} after
  */
-export async function bytesAround(image, { block, offset }, before, after) {
-    const at = Math.min(before, bytesBefore(image, { block, offset }));
-    const from = block * USER_SIZE + offset - at;
-    const first = { block: Math.floor(from / USER_SIZE), offset: from % USER_SIZE };
-    return { at, bytes: await userBytes(image, first, at + after) };
+export async function bytesAround(image, place, before, after) {
+    const { reader, sectors, order } = image;
+    const end = bytesBefore(image, place);
+    const at = Math.min(before, end);
+    const first = Math.floor((end - at) / USER_SIZE);
+    const count = Math.min(Math.ceil((end + after) / USER_SIZE), sectors) - first;
+    const bytes = await readBytes(order ? order.reader : reader, first * SECTOR_SIZE, count * SECTOR_SIZE);
+    const from = end - at - first * USER_SIZE;
+    return { at, bytes: joinedUser(bytes).subarray(from, from + at + after) };
 }
 
 /**
@@ -181,5 +172,5 @@ export class FilesAlong {
  * @param {Place} place
  */
 export function filesWith(files, { block, offset }) {
-    return filesAt(files, block, offset).map(({ path, block: first }) => ({ path, at: (block - first) * USER_SIZE + offset }));
+    return filesAt(files, block, offset).map(it => ({ path: it.path, at: it.before + (block - it.block) * USER_SIZE + offset }));
 }
