@@ -61,7 +61,9 @@ def failures(judge, lines, only_first=False):
             if reasons:
                 wrong.append((line, reasons))
                 if only_first:
-                    break
+                    return count, wrong
+        pool.close()
+        pool.join()
     return count, wrong
 
 

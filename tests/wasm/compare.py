@@ -45,6 +45,8 @@ def main(path, count='300', seed='1'):
     judged = partial(differs, str(Path(path).resolve()), seed)
     with Pool() as pool:
         lost = [line for line in pool.imap(judged, range(int(count)), chunksize=5) if line]
+        pool.close()
+        pool.join()
     print(*lost[:20], f'{count} cases, {len(lost)} differences', sep='\n')
     return bool(lost)
 
