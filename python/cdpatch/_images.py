@@ -23,7 +23,7 @@ class Patched(NamedTuple):
 
 
 class _InMemory:
-    """An image in memory, and the new one if that is made."""
+    """An image in memory, and the new one if that is made: perhaps in the same place."""
 
     def __init__(self, image: Held, new: Optional[Held]) -> None:
         self.image = image
@@ -34,7 +34,7 @@ class _InMemory:
         return size
 
     def copy(self, at: int, size: int) -> int:
-        return self.write(at, size, self.image.place + at)
+        return size if self.new is self.image else self.write(at, size, self.image.place + at)
 
     def write(self, at: int, size: int, hand: int) -> int:
         if self.new is not None:
@@ -102,10 +102,11 @@ def apply(image: ReadableBuffer, script: ReadableBuffer, base: int = 0, carry: b
     2352000000; ValueError if the script changes meanwhile: `out` then begins with a prefix of the new image, perhaps an empty one.
     Raises ValueError, and writes nothing, if `out` is smaller than the image, or shares a byte with the image or the script; and if it
     is read-only what its type raises then, which is BufferError, or ValueError for an array of numpy."""
-    if out is None:
-        made = bytearray(memoryview(image).nbytes)
-        return Patched(made, *_applied(image, script, base, carry, made))
-    return _applied(image, script, base, carry, out)
+    if out is not None:
+        return _applied(image, script, base, carry, out)
+    made = bytearray(memoryview(image))
+    with Held(made, writable=True) as held:
+        return Patched(made, *run(_InMemory(held, held), held.size, script, base, carry))
 
 
 def _applied(image: ReadableBuffer, script: ReadableBuffer, base: int, carry: bool, out: WriteableBuffer) -> Report:
