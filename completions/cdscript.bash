@@ -8,11 +8,11 @@ _cdscript_options() {
         list | audit) echo '--track --base' ;;
         check | apply) echo '--track --base --carry --long' ;;
         files | rebuilds) echo '--track --base -o' ;;
-        find) echo '--encoding --table --limit --track --base -o' ;;
-        texts) echo '--encoding --in --min --csv --track --base -o' ;;
+        find) echo '--encoding --table --loose --limit --track --base -o' ;;
+        texts) echo '--encoding --table --in --min --csv --track --base -o' ;;
         show) echo '--encoding --table --track --base -o' ;;
         extract | user) echo '--track --base' ;;
-        replace) echo '--encoding --table --fill --all --inside --list --partial --track --base -o' ;;
+        replace) echo '--encoding --table --loose --fill --all --inside --list --partial --track --base -o' ;;
         replace-file) echo '--fill --track --base -o' ;;
         diff) echo '--skip-damaged --partial --fields --track --base -o' ;;
         undo) echo '--base --track --carry --long -o' ;;

@@ -16,7 +16,7 @@ function __cdscript_words
             printf '%s\n' $word
         else if test "x$word" = x--
             set is_closed yes
-        else if contains -- $word --base --track --limit --first --fill --encoding --table --dat --resume -o
+        else if contains -- $word --base --track --limit --first --fill --encoding --table --list --in --min --dat --resume -o
             set valued yes
         else if not string match -q -- '-?*' "$word"
             printf '%s\n' $word
@@ -54,7 +54,7 @@ complete -c cdscript -n __cdscript_begins -a check -d 'Report what a script\'s p
 complete -c cdscript -n __cdscript_begins -a apply -d 'Apply a script to an image, into a new file'
 complete -c cdscript -n __cdscript_begins -a files -d 'List the files of a disc'
 complete -c cdscript -n __cdscript_begins -a find -d 'Find a text in the user data of a disc'
-complete -c cdscript -n __cdscript_begins -a texts -d 'Print a table of all Japanese texts of a disc'
+complete -c cdscript -n __cdscript_begins -a texts -d 'Print a table of all texts of a disc'
 complete -c cdscript -n __cdscript_begins -a show -d 'Show the user data of a block, as digits and text'
 complete -c cdscript -n __cdscript_begins -a extract -d 'Write a file of a disc to a new file'
 complete -c cdscript -n __cdscript_begins -a replace -d 'Write the script that replaces a text'
@@ -71,10 +71,11 @@ complete -c cdscript -n __cdscript_begins -l notices -d 'Print the notices of wh
 complete -c cdscript -n 'not __cdscript_begins; and not __cdscript_is raw scan' -l base -x -d 'The block number of the first sector'
 complete -c cdscript -n 'not __cdscript_begins; and not __cdscript_is raw scan' -l track -x -d 'The data track of that number'
 complete -c cdscript -n '__cdscript_is find texts show replace' -l encoding -x -a 'hex CP932 EUC-JP UTF-8 UTF-16LE UTF-16BE Big5 GBK EUC-KR' -d 'How texts are written'
-complete -c cdscript -n '__cdscript_is find show replace' -l table -r -F -d 'A game\'s own table of characters'
+complete -c cdscript -n '__cdscript_is find texts show replace' -l table -r -F -d 'A game\'s own table of characters'
 complete -c cdscript -n '__cdscript_is texts' -l in -x -d 'Look only into this file or directory of the disc'
 complete -c cdscript -n '__cdscript_is texts' -l min -x -d 'Print texts of so many characters or more'
 complete -c cdscript -n '__cdscript_is texts' -l csv -d 'Print CSV and not TSV'
+complete -c cdscript -n '__cdscript_is find replace' -l loose -d 'Take half-width and full-width, and both cases, as one'
 complete -c cdscript -n '__cdscript_is find' -l limit -x -d 'Print the first hits'
 complete -c cdscript -n '__cdscript_is replace replace-file' -l fill -x -d 'Fill up with these bytes'
 complete -c cdscript -n '__cdscript_is replace' -l all -d 'Replace the text at all places'

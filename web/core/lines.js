@@ -4,7 +4,7 @@ import { ByteList, joinedBytes, sameBytes } from './bytes.js';
 import { Fault } from './faults.js';
 import { CONTENT, RECORD, RECORD_SIZE, RESULT, RUN_FLAG, SECTOR_KIND, STATUS, STEP, kindName } from './records.js';
 import { addToRuns, blocksText, runOf } from './runs.js';
-import { LAST_BASE, SECTOR_SIZE, addressIn, addressText, asWords, differingSectors, sectorOf, userOf } from './sector.js';
+import { LAST_BASE, SECTOR_SIZE, addressIn, addressText, asWords, differingSectors, hasZeroByte, sectorOf, userOf } from './sector.js';
 import { isDamaged } from './survey.js';
 
 /** @typedef {import('./codes.js').Calls} Calls */
@@ -148,19 +148,23 @@ export class LineList extends ByteList {
  * @param {Uint8Array} old
  * @param {Uint8Array} fresh
  */
-function* differingRuns(old, fresh) {
+function differingRuns(old, fresh) {
     const [before, after] = [asWords(old), asWords(fresh)];
+    const runs = [];
     let [from, end] = [0, 0];
     for (let word = 0; word < before.length; word++) {
-        if (before[word] === after[word]) continue;
-        for (let at = 4 * word; at < 4 * word + 4; at++) {
+        const other = before[word] ^ after[word];
+        if (other === 0) continue;
+        const isNear = end > 0 && 4 * word - end <= JOINED_BYTES;
+        for (let at = isNear && !hasZeroByte(other) ? 4 * word + 3 : 4 * word; at < 4 * word + 4; at++) {
             if (old[at] === fresh[at]) continue;
-            if (end > 0 && at - end > JOINED_BYTES) yield { from, end };
+            if (end > 0 && at - end > JOINED_BYTES) runs.push({ from, end });
             if (end === 0 || at - end > JOINED_BYTES) from = at;
             end = at + 1;
         }
     }
-    if (end > 0) yield { from, end };
+    if (end > 0) runs.push({ from, end });
+    return runs;
 }
 
 /**

@@ -12,7 +12,7 @@ import { CONTENT, MOST_PATCHES, MOST_SCRIPT_BYTES } from './records.js';
 
 /** So many bytes of a text are cut into lines at a time. */
 const TEXT_WINDOW = 1 << 20;
-const LINE_END = Uint8Array.of(0x0A);
+const END_OF_LINE = Uint8Array.of(0x0A);
 
 /**
  * The lines of a text: where each begins, in the text and in what of it is held, and its bytes without its end. One that ends where what is
@@ -70,7 +70,7 @@ export class Part {
     }
 
     text() {
-        return joinedBytes([this.head, ...this.patches.map(({ line }) => line)].flatMap(line => [line, LINE_END]));
+        return joinedBytes([this.head, ...this.patches.map(({ line }) => line)].flatMap(line => [line, END_OF_LINE]));
     }
 
     /**

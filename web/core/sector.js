@@ -71,6 +71,14 @@ export function asWords(bytes) {
 }
 
 /**
+ * Whether one of the four bytes of a word is 0.
+ * @param {number} word
+ */
+export function hasZeroByte(word) {
+    return ((word - 0x01010101) & ~word & 0x80808080) !== 0;
+}
+
+/**
  * Whether a sector's words are the same in two images, by four at a time.
  * @param {Int32Array} a
  * @param {Int32Array} b
