@@ -43,6 +43,7 @@ released() {
         "$(find unpacked -type f | wc -l)" = "$(($(find root -type f | wc -l) + 1))"
     packaged_for_debian
     packaged_for_pip
+    [ ! -e one/made/cdscript.js ] || packaged_for_npm
     make --no-print-directory -s -C one dist distdir=made PROGRAM="$PWD/nothing" 2> log
     judge 'nothing that was built, nothing packed' test $? != 0
     make --no-print-directory -s -C one dist distdir=made LIBRARY="$PWD/nothing" 2> log
@@ -87,6 +88,28 @@ packaged_for_pip() {
     judge 'the library in it is as it was' cmp -s "$library/libcdpatch.so.1" site/cdpatch/libcdpatch.so.1
     judge 'and a program in Python runs with it' test sectors_8_tail_0 = \
         "$(cd site && python3 -B -c 'import cdpatch; print(cdpatch.listing(open("../disc.bin", "rb").read()).split("\n")[-2].replace(" ", "_"))')"
+}
+
+# A program that uses the package as its README says, on the image of the tests and one that is damaged; and what it prints.
+packaged_for_npm() {
+    missing npm npm 'the package for npm' && return
+    missing tsc node-typescript 'the package for npm' && return
+    mkdir npm
+    cp disc.bin npm
+    sed -n '/^```js$/,/^```$/p' "$top/web/npm/README.md" | sed '1d;$d' > npm/readme.mjs
+    sed -n '/^```text$/,/^```$/p' "$top/web/npm/README.md" | sed '1d;$d' > npm/wanted
+    cp "$top/tests/outside/npm.mjs" "$top/tests/outside/npm.ts" npm
+    (cd npm && npm install --offline --no-audit --no-fund ../one/made/cdpatch-*.tgz > log 2>&1)
+    judge 'npm installs the package' test -f npm/node_modules/cdpatch/cdpatch.wasm
+    (cd npm && node readme.mjs > got 2>&1)
+    same "its README's example prints what it says" npm/wanted npm/got
+    judge 'and makes what the program makes' eval "printf 'cdpatch 1\nset 16 1395 48656C6C6F was 0000000000\n' > npm/script; \
+        cdpatch apply npm/disc.bin npm/script npm/wanted.bin > log; cmp -s npm/wanted.bin npm/new.bin"
+    judge 'all calls of the package agree with the program' eval '(cd npm && node npm.mjs "$(command -v cdpatch)")'
+    judge 'its types are those that a program in TypeScript sees' tsc --noEmit --strict --target es2022 --module es2022 \
+        --moduleResolution node --lib es2022,dom npm/npm.ts
+    judge 'it has the command' test "$(cd npm && npx --offline cdscript version)" = "$("$joined/cdscript" version)"
+    judge 'its module is the library'"'"'s' cmp -s "$library/cdpatch.wasm" npm/node_modules/cdpatch/cdpatch.wasm
 }
 
 # What two builds in different directories could differ in.

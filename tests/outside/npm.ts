@@ -1,0 +1,16 @@
+// What a program in TypeScript sees of the package for npm.
+
+import { Cdpatch, Patched, Sector, load, openFile, patchedStream } from 'cdpatch';
+
+export async function used(file: File): Promise<string> {
+    const cdpatch: Cdpatch = await load(await WebAssembly.compile(new Uint8Array(0)));
+    const sectors: Sector[] = await cdpatch.survey(file, { base: 150 });
+    const { status, text, outcomes }: Patched = await cdpatch.check(await openFile('disc.bin'), new Uint8Array(0), { carry: true });
+    const { stream }: { stream: ReadableStream<Uint8Array> } = patchedStream(cdpatch, file, file);
+    await cdpatch.apply(file, file, async bytes => { bytes.fill(0); });
+    // @ts-expect-error: an image is no name.
+    await cdpatch.list('disc.bin');
+    // @ts-expect-error: what is private stays so.
+    cdpatch.calls.version();
+    return `${text} ${status + outcomes[0].number + sectors[0].p} ${stream.locked}`;
+}
