@@ -108,3 +108,9 @@ test('records that go on and on end', async () => {
     assert.ok(files.length > 500);
     assert.deepStrictEqual(faults, ['/: from here on nothing is listed: its records are continued in more than 32768 places']);
 });
+
+test('a sector in which many records are continued is read once', async () => {
+    const reader = readerOf(rawOf(continuing(200)));
+    await filesOf(reader, 0);
+    assert.ok(reader.reads.length < 300, `${reader.reads.length} reads`);
+});
