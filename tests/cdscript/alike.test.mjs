@@ -61,9 +61,9 @@ test('with --loose half-width and full-width are one, and both cases', () => inD
 }));
 
 test('with --loose a table is read by its own characters, and digits by their value', () => inDirectory(async room => {
-    writeImage(room, [2, 100, '010203'], [2, 200, '040203'], [3, 0, 'ABCD'], [4, 7, '05']);
-    write(room, { 'game.tbl': '01=A\n02=b\n03=the\n04=a\n05=パ\n' });
-    assert.deepEqual((await found(room, 'ﾊﾟ', '--table', 'game.tbl', '--loose'))[1], ['4 7 1']);
+    writeImage(room, [2, 100, '010203'], [2, 200, '040203'], [3, 0, 'ABCD'], [4, 7, '05060708']);
+    write(room, { 'game.tbl': '01=A\n02=b\n03=the\n04=a\n05060708=パ\n' });
+    assert.deepEqual((await found(room, 'ﾊﾟ', '--table', 'game.tbl', '--loose'))[1], ['4 7 4']);
     assert.deepEqual((await found(room, 'Abthe', '--table', 'game.tbl', '--loose'))[1], ['2 100 3', '2 200 3']);
     assert.deepEqual((await found(room, 'ab cd', '--encoding', 'hex', '--loose'))[1], ['3 0 2']);
     assert.deepEqual((await found(room, 'ab\u3000cd', '--encoding', 'hex', '--loose'))[1], ['3 0 2']);
