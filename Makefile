@@ -1,5 +1,5 @@
 # What `make` can do: `make help` prints the targets, which are the lines with ## here. docs/INSTALL.md says what each needs.
-.PHONY: all help check quick test test-outside bench wasm web map contracts audit clean
+.PHONY: all help check quick test test-outside bench wasm web pages map contracts audit clean
 
 # Goals come one after the other, as they are given. Crates are proved side by side, at most as many as `make -j N` says.
 .NOTPARALLEL:
@@ -37,6 +37,7 @@ endif
 	cp crates/cdpatch/out/cdpatch cdpatch
 	bash tools/library.sh library
 	@$(if $(DOORS),bash tools/web.sh library .)
+	@python3 -B tools/options.py completions completions ./cdpatch $(if $(DOORS),./cdscript)
 	@bash tools/made.sh $(MODULES) $(DOORS)
 
 FORCE:
@@ -53,6 +54,7 @@ web: wasm                   ## make cdscript and cdpatch.html, and the modules i
 	@[ -n '$(DOORS)' ] || { echo "cdscript and cdpatch.html want esbuild (Debian's package esbuild)." >&2; exit 1; }
 	bash tools/notices.sh library/NOTICES
 	bash tools/web.sh library .
+	python3 -B tools/options.py completions completions ./cdscript
 
 check:                      ## test what was built and the pages; proves nothing, and skips what wants a missing command
 	@test -x '$(PROGRAM)' || { echo 'There is no $(PROGRAM) to test: run make first.' >&2; exit 1; }
@@ -69,6 +71,10 @@ test-outside:               ## test pages, completions and installing, and skip 
 # No part of the gate: see bench/README.md.
 bench:                      ## build what counts instructions
 	bash bench/build '$(CPU)'
+
+# What the man pages and the README repeat of help, made anew of what was built.
+pages:                      ## make anew what the man pages and the README repeat of help
+	@python3 -B tools/options.py pages ./cdpatch ./cdscript
 
 # What the sources say of themselves, as Markdown.
 map:                        ## print what each file has
@@ -101,6 +107,6 @@ fit:
 	@bash tools/fit.sh '$(PROGRAM)' '$(LIBRARY)' '$(JOINED)' '$(VERSION)'
 
 clean:                      ## remove what was made
-	rm -rf cdpatch cdscript cdpatch.html library bench/cd_bench crates/*/out
+	rm -rf cdpatch cdscript cdpatch.html library completions bench/cd_bench crates/*/out
 	rm -f cdpatch-*.tar.gz cdscript.js cdpatch-*.tar.gz.sha256 cdscript.js.sha256 cdpatch.html.sha256
 	rm -f cdpatch-*.tar.gz.sig cdscript.js.sig cdpatch.html.sig

@@ -164,7 +164,7 @@ test_refusals() {
 release_tree() {
     local name
     mkdir -p release/library/x86-64-v3 kit/rattle stubs
-    cp -r "$top"/{Makefile,install.mk,README.md,CHANGELOG.md,crates.txt,.gitignore,docs,man,completions,examples,include,python} release
+    cp -r "$top"/{Makefile,install.mk,README.md,CHANGELOG.md,crates.txt,.gitignore,docs,man,examples,include,python} release
     cp -r "$tree"/{tools,web} release
     while read -r name; do
         mkdir -p "kit/rattle/$name"
@@ -243,7 +243,7 @@ test_release() {
     rm stubs/esbuild
 }
 
-typed_tools() { mypy --strict --cache-dir=types "$tree"/tools/{frequencies,pack,pages,pairs}.py > log || { cat log; false; }; }
+typed_tools() { mypy --strict --cache-dir=types "$tree"/tools/{contracts,frequencies,options,pack,pages,pairs}.py > log || { cat log; false; }; }
 
 # lint DIRECTORY WORD..: runs eslint there. Debian's eslint finds its parts by NODE_PATH, if node is another than Debian's.
 lint() { (cd "$1" && NODE_PATH=/usr/share/nodejs eslint -f unix --rulesdir "$tree/tools/eslint" --rule 'import-cycle: error' "${@:2}"); }

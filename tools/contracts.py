@@ -62,7 +62,7 @@ def comment_above(lines: list[str], place: int, mark: str) -> str:
     begin = place
     while begin > 0 and re.match(mark, lines[begin - 1]):
         begin -= 1
-    return '\n'.join(re.sub(mark + ' ?', '', line) for line in lines[begin:place])
+    return '\n'.join(re.sub(mark + ' ?', '', line) for line in lines[begin:place]).strip()
 
 
 def definitions_of(crate: str) -> Iterator[Definition]:

@@ -31,12 +31,12 @@ cp include/cdpatch.h include/*.in "$scratch/$name/include"
 cp "$library"/libcdpatch.{a,so.1} "$library/NOTICES" "$scratch/$name/library"
 cp "$library/x86-64-v3/libcdpatch.so.1" "$scratch/$name/library/x86-64-v3"
 [ ! -f "$library/cdpatch.wasm" ] || cp "$library"/cdpatch{,-wasm64}.wasm "$scratch/$name/library"
-cp completions/_cdpatch completions/cdpatch.bash completions/cdpatch.fish "$scratch/$name/completions"
+python3 -B tools/options.py completions "$scratch/$name/completions" "$program"
 made=("$name.tar.gz")
 if [ -f "$joined/cdscript" ]; then
     cp "$joined/cdscript" "$joined/cdpatch.html" "$scratch/$name"
     cp man/cdscript.1 "$scratch/$name/man"
-    cp completions/_cdscript completions/cdscript.bash completions/cdscript.fish "$scratch/$name/completions"
+    python3 -B tools/options.py completions "$scratch/$name/completions" "$joined/cdscript"
     install -m 644 "$joined/cdscript" "$directory/cdscript.js"
     [ "$joined" = "$directory" ] || install -m 644 "$joined/cdpatch.html" "$directory"
     made+=(cdpatch.html cdscript.js)

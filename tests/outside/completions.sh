@@ -67,7 +67,7 @@ asked_at_each_position() {
 }
 
 shell=bash
-. "$top/completions/cdpatch.bash"
+. "$completions/cdpatch.bash"
 offered() {
     COMP_WORDS=(cdpatch "$@")
     COMP_CWORD=$#
@@ -98,7 +98,7 @@ rm ./-dash
 touch $'words\n--help'
 offers '' list wo
 offers "$everything" list ''
-. "$top/completions/cdscript.bash"
+. "$completions/cdscript.bash"
 for name in cdpatch cdscript; do
     COMP_WORDS=("$name" list wo) COMP_CWORD=2
     "_$name"
@@ -111,7 +111,7 @@ if ! missing fish fish 'the completion for fish'; then
     shell=fish
     offered() {
         fish --no-config -c 'source $argv[1]; complete -C (string join " " -- cdpatch (string escape -- $argv[2..-2]) $argv[-1])' \
-            "$top/completions/cdpatch.fish" "$@" | sed -e 's/\t.*//' -e 's/\/$//' -e 's/^-h$//' -e '/^$/d'
+            "$completions/cdpatch.fish" "$@" | sed -e 's/\t.*//' -e 's/\/$//' -e 's/^-h$//' -e '/^$/d'
     }
     asked_at_each_position
 fi

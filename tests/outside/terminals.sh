@@ -61,7 +61,7 @@ in_terminal() {
 }
 
 if ! missing python3 python3 'completions on a terminal'; then
-    in_terminal bash "$top/completions/cdpatch.bash"
-    missing zsh zsh 'the completion for zsh' || in_terminal zsh "$top/completions/_cdpatch"
-    missing fish fish 'the completion for fish on a terminal' || in_terminal fish "$top/completions/cdpatch.fish"
+    in_terminal bash "$completions/cdpatch.bash"
+    missing zsh zsh 'the completion for zsh' || in_terminal zsh "$completions/_cdpatch"
+    missing fish fish 'the completion for fish on a terminal' || in_terminal fish "$completions/cdpatch.fish"
 fi
