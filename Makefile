@@ -94,7 +94,7 @@ dist:                       ## make a tarball of what was built, which installs 
 	@test -f '$(LIBRARY)/libcdpatch.a' || { echo 'There is no $(LIBRARY) to pack: run make first.' >&2; exit 1; }
 	@bash tools/dist.sh '$(PROGRAM)' '$(LIBRARY)' '$(JOINED)' '$(distdir)'
 
-# The same, of what is fit to be released: a commit, of its version, made by the tools that docs/TRUST.md names, and with what only the
+# The same, of what is fit to be released: a commit, of its version, made by the tools that tools/versions.txt names, and with what only the
 # owner can fill in (tools/owner.txt). `make release SIGN=KEY` signs what it makes with a key of ssh.
 .PHONY: release fit
 SIGN =

@@ -194,7 +194,8 @@ def fish_option(program: Program, option: Option) -> str:
     elif option in program.own:
         condition = f' -n __{program.name}_begins'
     else:
-        used = '' if option.repeated else f'; and not __fish_contains_opt {"" if option.long else "-s "}{option.word.lstrip("-")}'
+        # While a value of its own is completed, an option stands there already.
+        used = '' if option.repeated or option.values or offered_value(option) else f'; and not __fish_contains_opt {"" if option.long else "-s "}{option.word.lstrip("-")}'
         condition = f" -n '__{program.name}_is {' '.join(takers)}{used}'"
     value = {'files': ' -r -F', 'directories': ' -r -F', '': ' -x'}[offered_value(option)] if option.value else ''
     words = f" -a {quoted(' '.join(option.values))}" if option.values else ''

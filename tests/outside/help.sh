@@ -60,7 +60,7 @@ fi
 # The man page explains each encoding that help of cdscript lists.
 if [ -e "$scratch/bin/cdscript" ]; then
     while read -r name; do
-        judge "the man page of cdscript explains $name" grep -qE "^\\.Cm $name( |\\$)" "$top/man/cdscript.1"
+        judge "the man page of cdscript explains $name" grep -qE "^\\.Cm $name( |\$)" "$top/man/cdscript.1"
     done < <(cdscript find --help | sed -n '/--encoding/,/--table/p' | paste -sd ' ' | sed 's/.*written: //; s/ *--table.*//' | tr -s ', ' '\n')
     for job in $(cdscript --help | sed -n '/^Jobs:/,/^$/s/^  \([a-z-]*\) .*/\1/p') help; do
         judge "help of cdscript $job is at most 80 columns wide" test -z "$(cdscript "$job" --help | awk 'length > 80')"
