@@ -110,7 +110,7 @@ def files_of_crate(crate: str) -> list[str]:
 
 def directories() -> Iterator[Path]:
     """The directories of the sources besides the crates, each with the files that say what they have."""
-    for folder in [TOP, *sorted(path for path in TOP.rglob('*') if path.is_dir())]:
+    for folder in sorted(path for path in TOP.rglob('*') if path.is_dir()):
         parts = folder.relative_to(TOP).parts
         if not NO_TABLE.intersection(parts) and not any(part.startswith('.') for part in parts):
             yield folder
@@ -123,7 +123,7 @@ def map_page() -> list[str]:
         lines += ['', f'## {crate}', '', about(head_of(crate)), *files_of_crate(crate)]
     for folder in directories():
         rows = [(f'`{file.name}`', about(file)) for file in sorted(folder.iterdir()) if has_comment(file)]
-        if rows and folder != TOP:
+        if rows:
             lines += ['', f'## {folder.relative_to(TOP)}', *table(('File', 'What it has'), rows)]
     return lines
 

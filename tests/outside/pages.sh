@@ -52,6 +52,23 @@ done
 judge 'docs/TRUST.md has the number of wrong definitions' grep -qF \
     "(\`tests/wrong_definitions\`) | $(find "$top/tests/wrong_definitions" -name '*.patch' | wc -l) |" "$top/docs/TRUST.md"
 
+# figure WHAT WANTED PATTERN: what docs/TRUST.md says, by the group of a pattern, is what the sources have.
+figure() {
+    local said
+    said=$(tr '\n' ' ' < "$top/docs/TRUST.md" | sed -nE "s/.*$3.*/\1/p" | tr -d ,)
+    judge "docs/TRUST.md: $1 are ${said:-not there}, and not $2" test "$said" = "$2"
+}
+figure 'random cases of each gate' "$(grep -oE "'--cases', type=int, default=[0-9]+" "$top/tests/model/compare.py" | grep -oE '[0-9]+$')" \
+    'in each gate; once by hand \| ([0-9]+);'
+seeds=$(sed -nE 's/.*tried "\$program" 1 ([0-9]+).*/\1/p' "$top/tests/random_faults.sh")
+judge "docs/TRUST.md: a thousand runs with random faults, and not $((2 * seeds))" test $((2 * seeds)) = 1000
+if [ -s audit ]; then
+    for number in 1 2; do
+        lines=$(sed -nE 's/^([0-9]+) lines in [0-9]+ files\.$/\1/p' audit | sed -n ${number}p)
+        figure 'lines to read, in hundreds,' $(((lines + 50) / 100))00 "$([ $number = 1 ] && echo '([0-9],[0-9]00) lines for' || echo ', ([0-9],[0-9]00) more for')"
+    done
+fi
+
 # The pages' links lead to files, and to headings that are there.
 heading() { tr '[:upper:]' '[:lower:]' <<< "$1" | sed -e 's/[^a-z0-9 -]//g' -e 's/ /-/g'; }
 while IFS=: read -r page link <&3; do
