@@ -92,7 +92,8 @@ audit:                      ## print what to read to know what is promised
 dist:                       ## make a tarball of what was built, which installs without a toolchain
 	@test -x '$(PROGRAM)' || { echo 'There is no $(PROGRAM) to pack: run make first.' >&2; exit 1; }
 	@test -f '$(LIBRARY)/libcdpatch.a' || { echo 'There is no $(LIBRARY) to pack: run make first.' >&2; exit 1; }
-	@bash tools/dist.sh '$(PROGRAM)' '$(LIBRARY)' '$(JOINED)' '$(distdir)'
+	@test -f '$(COMPLETIONS)/cdpatch.bash' || { echo 'There is no $(COMPLETIONS) to pack: run make first.' >&2; exit 1; }
+	@COMPLETIONS='$(COMPLETIONS)' bash tools/dist.sh '$(PROGRAM)' '$(LIBRARY)' '$(JOINED)' '$(distdir)'
 
 # The same, of what is fit to be released: a commit, of its version, made by the tools that tools/versions.txt names, and with what only the
 # owner can fill in (tools/owner.txt). `make release SIGN=KEY` signs what it makes with a key of ssh.

@@ -176,6 +176,8 @@ release_tree() {
     ssh-keygen -q -t ed25519 -N '' -f owner && ssh-keygen -q -t ed25519 -N '' -f another || return
     sed -i -e 's/^address:$/& a@localhost/' -e 's/^licence:$/& none/' -e "s|^key:\$|& $(cut -d ' ' -f 1,2 owner.pub)|" release/tools/owner.txt
     echo terms > release/LICENSE
+    mkdir release/completions
+    : | tee release/completions/{_cdpatch,cdpatch.bash,cdpatch.fish,_cdscript,cdscript.bash} > release/completions/cdscript.fish
     : | tee release/library/{libcdpatch.a,libcdpatch.so.1,x86-64-v3/libcdpatch.so.1} > release/library/libcdpatch.a
     printf '\0asm\1\0\0\0' > release/library/cdpatch-wasm64.wasm
     echo 'logic=proved functions=0' > release/library/cdpatch-wasm64.txt

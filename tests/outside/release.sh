@@ -5,6 +5,7 @@ pack() {
     mkdir -p "$1/made"
     (cd "$top" && cp -r --parents Makefile install.mk README.md CHANGELOG.md docs man examples include python tools "$OLDPWD/$1")
     cp -r "$library" "$1/library"
+    cp -r "$completions" "$1/completions"
     cp "$program" "$1/cdpatch"
     [ ! -e "$joined/cdscript" ] || cp "$joined/cdscript" "$joined/cdpatch.html" "$1"
     make --no-print-directory -s -C "$1" dist distdir=made > "$1/printed"
@@ -43,6 +44,8 @@ released() {
     judge 'nothing that was built, nothing packed' test $? != 0
     make --no-print-directory -s -C one dist distdir=made LIBRARY="$PWD/nothing" 2> log
     judge 'no library that was built, nothing packed' test $? != 0
+    make --no-print-directory -s -C one dist distdir=made COMPLETIONS="$PWD/nothing" 2> log
+    judge 'no completions that were made, nothing packed' test $? != 0
 }
 
 # What two builds in different directories could differ in.
