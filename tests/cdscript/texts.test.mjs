@@ -117,6 +117,17 @@ test('a table of texts with new ones is a script', t => inDirectory(async room =
     assert.ok(again.length > 40 && again.every(row => row[5].startsWith('/UTF8.BIN+') && row[4] === 'UTF-8' && [...row[6]].length >= 4));
 }));
 
+test('a short text in UTF-16 is believed at even places only', () => inDirectory(async room => {
+    for (const [odd, found] of [[0, ['セーブ', 'ポーション']], [1, ['ポーション']]]) {
+        const user = Buffer.alloc(2048 * 4);
+        ['セーブ', 'ポーション'].forEach((text, i) => Buffer.from(text, 'utf16le').copy(user, 2048 * (i + 1) + 100 + odd));
+        write(room, { [`${odd}.iso`]: user });
+        await run(['raw', `${odd}.iso`, `${odd}.bin`], { cwd: room });
+        const { out } = await run(['texts', `${odd}.bin`, '--encoding', 'utf-16le'], { cwd: room });
+        assert.deepEqual(rowsOf(out).map(row => row[6]), found);
+    }
+}));
+
 test('a text over a border of what is read at once is found once', () => inDirectory(async room => {
     const text = eachEncoded(['魔法使いは古い塔から帰ってきた'], 'CP932')[0];
     const user = Buffer.alloc(2048 * 4100);

@@ -73,7 +73,8 @@ EOF
         ln -sf "$PWD/victim" "root/usr/$made"
     done
     built install DESTDIR="$PWD/root" PREFIX=/usr
-    judge 'what a link there names is not written over' test "$(cat victim)" = kept -a -z "$(find root -type l ! -name libcdpatch.so ! -name 'cdpatch_*.3')"
+    judge 'what a link there names is not written over' test "$(cat victim)" = kept -a \
+        -z "$(find root -type l ! -lname 'libcdpatch.*')"
     mkdir root/usr/share/cdpatch/python/cdpatch/__pycache__
     touch root/usr/bin/another root/usr/share/cdpatch/python/cdpatch/__pycache__/_library.cpython-311.pyc
     judge 'make uninstall' built uninstall DESTDIR="$PWD/root" PREFIX=/usr

@@ -15,7 +15,7 @@ import { addressOf, auditLines, modeOneSectors } from './words.js';
 /** @typedef {import('./places.js').Place} Place */
 /** @typedef {'findings' | 'runs' | 'text'} FindingsTab */
 
-const MOST_FINDING_ROWS = 400;
+const MOST_ROWS = 400;
 const MOST_LINES = 3000;
 
 /** @type {Record<number, [string, string]>} the name of a kind, and its colour */
@@ -148,7 +148,7 @@ export class Findings {
     sectorRows(survey, { first, last, sectors }) {
         const lines = auditLines(this.app.calls, survey, first, last);
         const rows = [];
-        for (let i = 0; i < sectors.length && rows.length < MOST_FINDING_ROWS; i++) {
+        for (let i = 0; i < sectors.length && rows.length < MOST_ROWS; i++) {
             const from = sectors[i];
             const lost = survey.marks.marks[from] === MARK.LOST;
             while (lost && sectors[i + 1] === sectors[i] + 1 && survey.marks.marks[sectors[i + 1]] === MARK.LOST) i += 1;
@@ -161,7 +161,7 @@ export class Findings {
                 element('td'), element('td', { colspan: 2 }, words)));
         }
         const left = sectors.length - rows.length;
-        if (rows.length === MOST_FINDING_ROWS && left > 0) {
+        if (rows.length === MOST_ROWS && left > 0) {
             rows.push(element('tr', { class: 'sub' }, element('td', { colspan: 4 }, `and ${counted(left)} more: “As text” has all`)));
         }
         return rows;
@@ -171,7 +171,7 @@ export class Findings {
     drawRuns(runs) {
         const head = element('tr', {}, element('th', {}, term('block', 'Blocks')), element('th', { class: 'n' }, 'Sectors'),
             element('th', {}, 'Kind'), element('th', {}, 'Begins at'));
-        const rows = runs.slice(0, MOST_FINDING_ROWS).map(({ first, last, kind }) => element('tr', {},
+        const rows = runs.slice(0, MOST_ROWS).map(({ first, last, kind }) => element('tr', {},
             element('td', { class: 'num nowrap' }, element('button', { type: 'button', class: 'fold', 'data-block': first },
                 first === last ? String(first) : `${first}–${last}`)),
             element('td', { class: 'n', 'data-l': 'sectors' }, counted(last - first + 1)),

@@ -17,7 +17,7 @@ import { tableCard, tallyOf } from './tally.js';
 /** What was found: the first rows, how many sectors differ only in their codes, and whether the bytes after the last sector differ. */
 /** @typedef {{ rows: FieldRow[], onlyCodes: number, tail: boolean }} Rows */
 
-const MOST_DIFFERING_ROWS = 400;
+const MOST_ROWS = 400;
 
 export class SecondCompare {
     /**
@@ -127,6 +127,6 @@ function addRows(marks, found, answer) {
         const [sync, header, user, edc, zeros, parity] = answer.fields.subarray(i * FIELD_COUNT, (i + 1) * FIELD_COUNT);
         const fields = [sync + header, user, edc, zeros + parity];
         found.onlyCodes += Number(fields[0] + fields[1] === 0);
-        if (found.rows.length < MOST_DIFFERING_ROWS) found.rows.push({ block, fields, state: answer.states[i] });
+        if (found.rows.length < MOST_ROWS) found.rows.push({ block, fields, state: answer.states[i] });
     });
 }

@@ -27,7 +27,7 @@ import { tableCard, tallyOf } from './tally.js';
 /** @typedef {import('./second_marks.js').PairMarks} PairMarks */
 /** @typedef {{ block: number, here: string, there: string, file: string, same: boolean }} DamageRow */
 
-const MOST_DAMAGE_ROWS = 200;
+const MOST_ROWS = 200;
 const MOST_RUNS_NAMED = 8;
 
 export class SecondRepair {
@@ -173,7 +173,7 @@ export class SecondRepair {
     /** @param {Repair} repair */
     async drawTable({ damaged }) {
         const { second } = this.app;
-        const rows = await this.rows(blocksOf(damaged, MOST_DAMAGE_ROWS));
+        const rows = await this.rows(blocksOf(damaged, MOST_ROWS));
         if (this.app.second !== second) return;
         if (rows.length === 0) {
             fill(this.table);
