@@ -74,7 +74,8 @@ def printed(*words: str) -> str:
 
 def options_in(text: str) -> list[Option]:
     """The options of a help text; what an option does may go on in the next lines."""
-    rows = re.findall(r'(?m)^  (?:(-\w)(?:, )?|    )?(--[a-z-]+)? *(<?[A-Z]+>?)?(?: {2,}|$)(.*(?:\n {12,}\S.*)*)', text.partition('\nOptions:\n')[2])
+    row = r'(?m)^  (?:(-\w)(?:, )?|    )?(--[a-z-]+)? *(<?[A-Z]+>?)?(?: {2,}|$)(.*(?:\n {12,}\S.*)*)'
+    rows = re.findall(row, text.partition('\nOptions:\n')[2])
     return [Option(short, long, value.strip('<>'), re.sub(r' \[default: .*\]$', '', ' '.join(does.split())))
             for short, long, value, does in rows if short or long]
 
@@ -146,7 +147,8 @@ def bash(program: Program) -> dict[str, str]:
     kinds = {'files': '-f', 'directories': '-d'}
     rows = [f"        :0) printf '%s\\n' -W {quoted(' '.join(it.name for it in program.commands))} ;;"]
     rows += [f"        {' | '.join(names)}) echo {kinds[kind]} ;;" for kind, names in grouped(offers).items()]
-    rows += [f"        {option.word}) printf '%s\\n' -W {quoted(' '.join(option.values))} ;;" for option in program.all_options.values() if option.values]
+    rows += [f"        {option.word}) printf '%s\\n' -W {quoted(' '.join(option.values))} ;;"
+             for option in program.all_options.values() if option.values]
     return {'options': '\n'.join(f"        {' | '.join(names)}) echo {quoted(words)} ;;" for words, names in lists.items()),
             'offered': '\n'.join(rows), 'own': ' '.join(map(bash_option, program.own))}
 
@@ -195,7 +197,8 @@ def fish_option(program: Program, option: Option) -> str:
         condition = f' -n __{program.name}_begins'
     else:
         # While a value of its own is completed, an option stands there already.
-        used = '' if option.repeated or option.values or offered_value(option) else f'; and not __fish_contains_opt {"" if option.long else "-s "}{option.word.lstrip("-")}'
+        word = option.long[2:] or f'-s {option.short[1:]}'
+        used = '' if option.repeated or option.values or offered_value(option) else f'; and not __fish_contains_opt {word}'
         condition = f" -n '__{program.name}_is {' '.join(takers)}{used}'"
     value = {'files': ' -r -F', 'directories': ' -r -F', '': ' -x'}[offered_value(option)] if option.value else ''
     words = f" -a {quoted(' '.join(option.values))}" if option.values else ''
@@ -219,7 +222,8 @@ def fish(program: Program) -> dict[str, str]:
     return {'completes': '\n'.join(rows), 'valued': ' '.join(valued)}
 
 
-SHELLS: dict[str, tuple[str, Callable[[Program], dict[str, str]]]] = {'{}.bash': ('bash', bash), '_{}': ('zsh', zsh), '{}.fish': ('fish', fish)}
+SHELLS: dict[str, tuple[str, Callable[[Program], dict[str, str]]]] = {
+    '{}.bash': ('bash', bash), '_{}': ('zsh', zsh), '{}.fish': ('fish', fish)}
 
 
 def write_completions(directory: Path, programs: Sequence[Program]) -> None:

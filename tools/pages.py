@@ -136,7 +136,8 @@ def calls_table(crate: str) -> list[str]:
     for call in sources.calls_of(crate):
         if not call.clauses:
             continue
-        rows.append((f'`{call.name}`', sentence(said(f'{crate}: {call.name}', call.doc)), ', '.join(f'`{name}`' if name else 'the result' for name, _ in call.clauses)))
+        clauses = ', '.join(f'`{name}`' if name else 'the result' for name, _ in call.clauses)
+        rows.append((f'`{call.name}`', sentence(said(f'{crate}: {call.name}', call.doc)), clauses))
     return table(('Call', 'What it does', 'Clauses'), rows) if rows else []
 
 
@@ -172,7 +173,8 @@ def visit(path: Path, seen: set[Path], order: list[Path], types: set[str]) -> No
     if path in seen:
         return
     seen.add(path)
-    for crate, module in re.findall(r'(?m)^ *(?:ghost )?use Rattle\.(cd_[a-z_]+)\.specs\.([A-Za-z_.]+)\.\{', path.read_text(encoding='utf-8')):
+    uses = re.findall(r'(?m)^ *(?:ghost )?use Rattle\.(cd_[a-z_]+)\.specs\.([A-Za-z_.]+)\.\{', path.read_text(encoding='utf-8'))
+    for crate, module in uses:
         first, *rest = module.split('.')
         if first == 'declared':
             types.add(f'crates/{crate}/src/{rest[0]}.rt')
@@ -223,8 +225,8 @@ def audit_page() -> list[str]:
             '', '## For the headline of `apply`', '', f'Its contract stands in `{HEADLINE[0]}`.', *reading_table(headline),
             '', '## For the whole theorem', '', f'It is the contract of `run_on_files` in `{THEOREM[0]}`, and adds these.',
             *reading_table(rest),
-            '', '## Types and constants of the code that both name', '', *(f'- `{name}`' for name in types),
-            '', "They also use the terms of the toolchain's `std` for lists, bits, numbers and text, and those of its `clap` for the parser."]
+            '', '## Types and constants of the code that both name', '', *(f'- `{name}`' for name in types), '',
+            "They also use the terms of the toolchain's `std` for lists, bits, numbers and text, and those of its `clap` for the parser."]
 
 
 PAGES: dict[str, Callable[[], list[str]]] = {'map': map_page, 'contracts': contracts_page, 'audit': audit_page}
