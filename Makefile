@@ -44,7 +44,8 @@ FORCE:
 
 help:                       ## print this
 	@sed -nE 's/^([a-z-]+):[^#]*## /  make \1\t/p' $(firstword $(MAKEFILE_LIST)) | expand -t 22
-	@printf '%s\n' '' 'Beside a target: CPU=x86-64-v3 and SIMPLE=1 (make), WRONG_VERSIONS=1 and WHOLE=1 (make check), PREFIX=DIRECTORY (make install).'
+	@printf '%s\n' '' 'Beside a target: CPU=x86-64-v3 and SIMPLE=1 (make), WRONG_VERSIONS=1 and WHOLE=1 (make check),' \
+	    '  PREFIX=DIRECTORY (make install and make uninstall, which also are targets).'
 
 wasm:                       ## prove and make the WebAssembly modules
 	@[ -n '$(MODULES)' ] || { echo "library/cdpatch.wasm wants wasm-opt (Debian's package binaryen)." >&2; exit 1; }

@@ -4,7 +4,8 @@ enter contracts
 
 # The README names contracts for the library crates: calls and types of a crate's own. A row may have several crates.
 for crate in "${library_crates[@]}"; do
-    grep -E "^\| ([a-z_., ]*, )?$crate(, [a-z_., ]*)? \|" "$top/README.md" | cut -d '|' -f 3 | grep -oE '`[A-Za-z_]+`' | tr -d '`' > named_in_readme
+    grep -E "^\| ([a-z_., ]*, )?$crate(, [a-z_., ]*)? \|" "$top/README.md" | cut -d '|' -f 3 | grep -oE '`[A-Za-z_]+`' |
+        tr -d '`' > named_in_readme
     sources "$crate" | xargs sed -nE 's/^ *pub (fn|struct|trait) ([A-Za-z_]+).*/\2/p' | sort -u > there
     judge "the README names a contract of $crate" test -n "$(sort -u named_in_readme | comm -12 - there)"
 done

@@ -44,12 +44,14 @@ END
     judge 'pages of another program are refused' eval '! check check ./wider another > said'
     judge 'by name' cmp -s said <(printf '%s is not as tools/options.py makes it of cdpatch --help\n' man/cdpatch.1 README.md)
     judge 'and made' eval 'check pages ./wider another && check check ./wider another'
-    judge 'with the new option, and what help says of it' test "$(grep -A 1 '^\.It Fl Fl quiet$' another/man/cdpatch.1 | tail -n 1)" = 'Print nothing.'
+    judge 'with the new option, and what help says of it' \
+        test "$(grep -A 1 '^\.It Fl Fl quiet$' another/man/cdpatch.1 | tail -n 1)" = 'Print nothing.'
     judge 'in the synopsis of each command' test "$(grep -c '^\.Op Fl Fl quiet$' another/man/cdpatch.1)" = 5
     judge 'with the new command' grep -q '^| `cdpatch repair IMAGE SCRIPT OUT` | Repair an image |$' another/README.md
     judge 'and all prose as it was' test -z "$(diff "$top/man/cdpatch.1" another/man/cdpatch.1 | grep '^<')"
     if ! missing mandoc mandoc 'the form of a made man page'; then
-        judge 'mandoc has no word on it' test -z "$(mandoc -T lint another/man/cdpatch.1 2> /dev/null | grep -v 'STYLE: referenced manual not found')"
+        mandoc -T lint another/man/cdpatch.1 2> /dev/null | grep -v 'STYLE: referenced manual not found' > linted
+        judge 'mandoc has no word on it' test ! -s linted
     fi
     python3 -B "$top/tools/options.py" completions wide ./wider
     for name in cdpatch.bash _cdpatch cdpatch.fish; do
@@ -61,7 +63,8 @@ fi
 if [ -e "$scratch/bin/cdscript" ]; then
     while read -r name; do
         judge "the man page of cdscript explains $name" grep -qE "^\\.Cm $name( |\$)" "$top/man/cdscript.1"
-    done < <(cdscript find --help | sed -n '/--encoding/,/--table/p' | paste -sd ' ' | sed 's/.*written: //; s/ *--table.*//' | tr -s ', ' '\n')
+    done < <(cdscript find --help | sed -n '/--encoding/,/--table/p' | paste -sd ' ' | sed 's/.*written: //; s/ *--table.*//' |
+        tr -s ', ' '\n')
     for job in $(cdscript --help | sed -n '/^Jobs:/,/^$/s/^  \([a-z-]*\) .*/\1/p') help; do
         judge "help of cdscript $job is at most 80 columns wide" test -z "$(cdscript "$job" --help | awk 'length > 80')"
     done

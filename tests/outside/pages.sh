@@ -14,18 +14,19 @@ if ! missing python3 python3 'what the sources say of themselves'; then
     sed -n 's/^[a-z].* \(cdpatch_[a-z0-9_]*\)(.*/\1/p' "$top/include/cdpatch.h" | sort > wanted
     grep -oE '^\| `cdpatch_[a-z0-9_]*`' contracts | grep -oE 'cdpatch_[a-z0-9_]*' | sort > got
     same 'make contracts has each call of the header' wanted got
-    judge 'a definition stands there with who cites it' grep -qE '^\| `consistent` \| `Consistent` \| 2352 bytes of Mode 1 without a defect \|' contracts
+    judge 'a definition stands there with what it says' grep -qF '| `consistent` | `Consistent` | 2352 bytes of Mode 1 without a defect |' contracts
     judge 'and a call with its clauses' grep -qE '^\| `encode` \| .* \| `consistent`, `header`, `user`, `unique` \|$' contracts
     judge 'make map has a file with what it has' grep -qF '| `specs/Kind.antt` | The kind of a sector (ECMA-130, 14) |' map
     judge 'make audit has each file after those that it names' test "$(grep -n 'cd_sector/specs/Consistent.antt' audit | cut -d : -f 1)" -gt \
         "$(grep -n 'cd_sector/specs/Defect.antt' audit | cut -d : -f 1)"
     mkdir other
     (cd "$top" && find crates -name out -prune -o \( -name '*.rt' -o -name '*.antt' -o -name '*.edit' \) -print0 |
-        xargs -0 cp -r --parents -t "$OLDPWD/other" && cp -r --parents crates.txt tools web tests bench examples include python "$OLDPWD/other")
+        xargs -0 cp -r --parents -t "$OLDPWD/other" &&
+        cp -r --parents crates.txt tools web tests bench examples include python "$OLDPWD/other")
     sed -i '1s/kind/sort/' other/crates/cd_sector/specs/Kind.antt
     python3 -B other/tools/pages.py map > changed
     judge 'of another tree it prints another' cmp -s <(diff map changed | grep '^[<>]') \
-        <(printf '%s\n' '< | `specs/Kind.antt` | The kind of a sector (ECMA-130, 14) |' '> | `specs/Kind.antt` | The sort of a sector (ECMA-130, 14) |')
+        <(printf '%s | `specs/Kind.antt` | The %s of a sector (ECMA-130, 14) |\n' '<' kind '>' sort)
 
     # silent REASON PAGE EDIT: after an edit of the other tree a page is refused, with a reason.
     silent() {
@@ -37,7 +38,8 @@ if ! missing python3 python3 'what the sources say of themselves'; then
     }
     silent 'web.sh does not say what it is' map "sed -i '2,10d' tools/web.sh"
     silent 'specs/Kind.antt does not say what it is' map "sed -i '1d' crates/cd_sector/specs/Kind.antt"
-    silent 'Consistent.antt: header_of does not say what it is' contracts "sed -i '/^-- the header: minute/d' crates/cd_sector/specs/Consistent.antt"
+    silent 'Consistent.antt: header_of does not say what it is' contracts \
+        "sed -i '/^-- the header: minute/d' crates/cd_sector/specs/Consistent.antt"
     silent 'cd_sector: encode does not say what it is' contracts "sed -i '/^\/\/\/ /d' crates/cd_sector/src/encoding.rt"
     silent 'State.antt says what it is, and stands in UNSAID' map "sed -i '1i -- The state.' crates/cd_c_digest/specs/State.antt"
 fi
@@ -45,7 +47,8 @@ fi
 # The figures of the pages: how many wrong bodies there are, at least, and how many wrong definitions.
 edits=$(find "$top"/crates/*/must-fail -name '*.edit' | wc -l)
 for page in README.md docs/TRUST.md; do
-    wrong=$(tr '\n' ' ' < "$top/$page" | sed -nE 's/.*more than ([0-9]+) wrong function bodies.*/\1/p; s/.*must-fail`\) \| more than ([0-9]+) \|.*/\1/p')
+    wrong=$(tr '\n' ' ' < "$top/$page" | sed -nE -e 's/.*more than ([0-9]+) wrong function bodies.*/\1/p' \
+        -e 's/.*must-fail`\) \| more than ([0-9]+) \|.*/\1/p')
     judge "$page: more than ${wrong:-no} wrong bodies, which are $edits" \
         test "${wrong:-0}" -gt 0 -a "$edits" -gt "${wrong:-0}" -a "$edits" -lt $((${wrong:-0} + 100))
 done
@@ -65,7 +68,9 @@ judge "docs/TRUST.md: a thousand runs with random faults, and not $((2 * seeds))
 if [ -s audit ]; then
     for number in 1 2; do
         lines=$(sed -nE 's/^([0-9]+) lines in [0-9]+ files\.$/\1/p' audit | sed -n ${number}p)
-        figure 'lines to read, in hundreds,' $(((lines + 50) / 100))00 "$([ $number = 1 ] && echo '([0-9],[0-9]00) lines for' || echo ', ([0-9],[0-9]00) more for')"
+        said='([0-9],[0-9]00) lines for'
+        [ $number = 1 ] || said=', ([0-9],[0-9]00) more for'
+        figure 'lines to read, in hundreds,' $(((lines + 50) / 100))00 "$said"
     done
 fi
 
