@@ -1,6 +1,7 @@
 #!/usr/bin/env bash
 # cdscript, joined of web/core, web/command and library/cdpatch.wasm, in node: `bash tests/cdscript.sh [PROGRAM]`. The program has to
-# agree with it. The last line is 'N passed, M failed'.
+# agree with it, in so many random cases as RANDOM_CASES says, or 300, of which PROCESS_CASES, or 25, are processes. The last line is
+# 'N passed, M failed'.
 set -u
 . "$(dirname "$0")/helpers.sh"
 . "$tests/edits.sh"
@@ -30,7 +31,7 @@ messages_agree() {
         count=$((count + 1))
     done < <(node --input-type=module -e "import { MESSAGES } from '$top/web/command/messages.js';
         Object.entries(MESSAGES).forEach(([name, text]) => console.log(name + '=cdpatch: ' + text));")
-    [ "$count" = 9 ]
+    [ "$count" = 8 ]
 }
 
 test_all() {
@@ -44,7 +45,7 @@ test_all() {
     cp "$top/library/NOTICES" NOTICES 2> /dev/null || echo 'who made what' > NOTICES
     python3 -B "$top/tools/pack.py" command "$top/library/cdpatch.wasm" cdscript --notices NOTICES || return
     judge "the program's messages" messages_agree
-    judge 'the answers of worked and random cases' python3 -B "$tests/core/answers.py" "$ANSWERS" 300 command
+    judge 'the answers of worked and random cases' python3 -B "$tests/core/answers.py" "$ANSWERS" "$program" "${RANDOM_CASES:-300}" command
     test_by_name cdscript "$PWD/cdscript" --test "$tests"/cdscript/*.test.mjs
     refuse_edits command "$tests/cdscript/wrong" wrong_command
 }

@@ -1,6 +1,6 @@
 #!/usr/bin/env bash
-# The core of the page and of cdscript, web/core, in node over library/cdpatch.wasm: `bash tests/core.sh [PROGRAM]`. The last line is
-# 'N passed, M failed'.
+# The core of the page and of cdscript, web/core, in node over library/cdpatch.wasm: `bash tests/core.sh [PROGRAM]`. So many random cases
+# are tried as RANDOM_CASES says, or 300. The last line is 'N passed, M failed'.
 set -u
 . "$(dirname "$0")/helpers.sh"
 . "$tests/edits.sh"
@@ -27,7 +27,7 @@ test_all() {
     fi
     missing node nodejs 'the core over its module' && return
     missing python3 python3 'the core over its module' && return
-    judge 'the answers of worked and random cases' python3 -B "$tests/core/answers.py" "$ANSWERS"
+    judge 'the answers of worked and random cases' python3 -B "$tests/core/answers.py" "$ANSWERS" "$program" "${RANDOM_CASES:-300}"
     test_by_name core "$top/web/core" --test "$tests"/core/*.test.mjs
     refuse_edits core "$tests/core/wrong" wrong_core
 }

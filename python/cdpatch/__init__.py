@@ -11,9 +11,10 @@ that CDPATCH_LIBRARY names, or one in the directory of this package, or that of 
 package is installed below; one of these two that lacks a call is passed over."""
 
 from ._errors import Damaged, Failed, NotMode1, OutOfRange, Refused
-from ._images import LAST_BASE, Patched, Report, apply, audit, check, listing
+from ._images import Patched, apply, audit, check, listing
 from ._library import SECTOR_SIZE, USER_SIZE, Record, library
 from ._patching import Reader, Writer, patch
+from ._reports import LAST_BASE, Report
 from ._sectors import (KINDS, Broken, Defect, address, broken, defect, edc, encode, is_consistent, kind, rebuild, survey, with_address,
                        with_parity, with_user)
 

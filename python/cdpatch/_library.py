@@ -17,7 +17,6 @@ SECTOR_SIZE = 2352
 USER_SIZE = 2048
 ADDRESS_SIZE = 3
 LINE_SIZE = 96
-PATCH_SIZE = 4096
 
 
 class Defect(ctypes.Structure):
@@ -59,27 +58,10 @@ def records_of(data: bytes) -> ctypes.Array[Record]:
     return records_type(len(data) // ctypes.sizeof(Record)).from_buffer_copy(data)
 
 
-class Line(ctypes.Structure):
-    """`struct cdpatch_line`."""
-    _fields_ = [('size', ctypes.c_size_t), ('taken', ctypes.c_size_t)]
-
-
-class Patch(ctypes.Structure):
-    """`struct cdpatch_patch`."""
-    _fields_ = [('block', ctypes.c_uint32), ('offset', ctypes.c_uint16), ('count', ctypes.c_uint16), ('verb', ctypes.c_uint8),
-                ('has_old', ctypes.c_uint8), ('value', ctypes.c_uint8), ('address', ctypes.c_uint8 * ADDRESS_SIZE)]
-
-
-class Place(ctypes.Structure):
-    """`struct cdpatch_place`."""
-    _fields_ = [('block', ctypes.c_uint32), ('offset', ctypes.c_uint16)]
-
-
-_NUMBER, _SHORT, _SIZE, _FLAG, _POINTER = ctypes.c_uint32, ctypes.c_uint16, ctypes.c_size_t, ctypes.c_bool, ctypes.c_void_p
+_NUMBER, _LONG, _SIZE, _FLAG, _POINTER = ctypes.c_uint32, ctypes.c_uint64, ctypes.c_size_t, ctypes.c_bool, ctypes.c_void_p
 _TEXT_OF_IMAGE = (_POINTER, _SIZE, _NUMBER, _POINTER, _SIZE, _POINTER)
-_IMAGE_AND_SCRIPT = (_POINTER, _SIZE, _POINTER, _SIZE, _NUMBER, _FLAG)
 
-# Of each call what it returns, and what it takes.
+# Of each call of this package what it returns, and what it takes.
 CALLS = {
     'version': (_NUMBER,),
     'result_text': (_SIZE, _NUMBER, _POINTER),
@@ -97,16 +79,10 @@ CALLS = {
     'carry_user': (_NUMBER, _POINTER, _SIZE, _POINTER, _SIZE),
     'change_address': (_NUMBER, _POINTER, _POINTER),
     'carry_address': (_NUMBER, _POINTER, _POINTER),
-    'first_line': (_FLAG, _POINTER, _SIZE, _POINTER),
-    'read_line': (_NUMBER, _NUMBER, _NUMBER, _SIZE, _POINTER, _SIZE, _POINTER, _POINTER, _POINTER),
-    'apply_patch': (_NUMBER, _POINTER, _POINTER, _POINTER, _POINTER, _SIZE, _FLAG, _POINTER),
-    'outcome_line': (_SIZE, _NUMBER, _NUMBER, _NUMBER, _SHORT, _POINTER),
-    'last_line': (_SIZE, _NUMBER, _NUMBER, _POINTER),
-    'fault_line': (_SIZE, _NUMBER, _NUMBER, _POINTER),
+    'run_begin': (_SIZE, _POINTER, _POINTER, _SIZE, _NUMBER, _LONG, _NUMBER, _POINTER, _SIZE),
+    'run_next': (None,),  # Only values of ctypes, of C's types: to turn numbers into them would take longer than many a step.
     'list': (_NUMBER, *_TEXT_OF_IMAGE),
     'audit': (_NUMBER, *_TEXT_OF_IMAGE),
-    'check': (_NUMBER, *_IMAGE_AND_SCRIPT, _POINTER, _SIZE, _POINTER),
-    'apply': (_NUMBER, *_IMAGE_AND_SCRIPT, _POINTER, _SIZE, _POINTER, _SIZE, _POINTER),
 }
 
 

@@ -1,6 +1,7 @@
 """Judges each line of worked cases by the model, a program, a library and a module: `run PROGRAM [FILE..]`, `run model [FILE..]`."""
 
 import argparse
+import os
 import sys
 from functools import partial
 from multiprocessing import Pool
@@ -55,13 +56,15 @@ def judged(judge, line):
 def failures(judge, lines, only_first=False):
     """How many lines a judge was asked and can answer, and those that it answers wrong, with what is wrong."""
     count, wrong = 0, []
-    with Pool() as pool:
+    with Pool(len(os.sched_getaffinity(0))) as pool:
         for line, asked, reasons in pool.imap(partial(judged, judge), lines, chunksize=1):
             count += asked
             if reasons:
                 wrong.append((line, reasons))
                 if only_first:
-                    break
+                    return count, wrong
+        pool.close()
+        pool.join()
     return count, wrong
 
 

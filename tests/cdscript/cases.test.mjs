@@ -1,4 +1,4 @@
-// The worked cases and random ones of the model, as tests/core/answers.py has written them to the directory ANSWERS: all by `main` in
+// The worked cases and random ones, with the program's answers, as tests/core/answers.py has written them to the directory ANSWERS: all by `main` in
 // this process, and some as processes of their own.
 
 import assert from 'node:assert/strict';
@@ -66,12 +66,12 @@ test('the worked cases', { skip }, async () => {
     await allOf(worked);
 });
 
-test('random cases of the model', { skip }, async () => {
+test('random cases', { skip }, async () => {
     assert.ok(random.length >= 300, `only ${random.length} cases`);
     await allOf(random);
 });
 
-test('fifty cases as processes', { skip }, async () => {
+test('some cases as processes', { skip }, async () => {
     await asProcesses(worked, 25);
-    await asProcesses(random, 25);
+    await asProcesses(random, Number(process.env.PROCESS_CASES ?? 25));
 });

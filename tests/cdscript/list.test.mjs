@@ -1,8 +1,11 @@
 // Whole translations: `replace --list`.
 
 import assert from 'node:assert/strict';
+import { spawnSync } from 'node:child_process';
+import { truncateSync } from 'node:fs';
+import { join } from 'node:path';
 import { test } from 'node:test';
-import { imageOf, inDirectory, read, run, tool, write } from './common.mjs';
+import { command, imageOf, inDirectory, read, run, tool, write } from './common.mjs';
 
 const program = process.env.PROGRAM;
 
@@ -104,4 +107,23 @@ test('as many rows as a script has lines are replaced', () => inDirectory(async 
     assert.deepEqual([done.status, done.out.split('\n').length], [0, 65536]);
     write(room, { english: done.out });
     tool(program, ['apply', 'image', 'english', 'out'], { cwd: room });
+}));
+
+test('a list of 100 MB is read in bounded memory, and a longer one is refused by its size', () => inDirectory(room => {
+    writeImage(room, ...PLACES);
+    const head = 'block\toffset\ttext\tnew\n';
+    const lists = { rows: `${head}${'2\t100\t\t\n'.repeat(10000000)}2\t100\tアイ\tok\n`, row: `${head}2\t100\tアイ\t${'a'.repeat(50 << 20)}\n`,
+        cell: `${head}2\t100\t"${'""'.repeat(25 << 20)}"\tok\n`, nul: `${head}2\t100\t${'\0'.repeat(50 << 20)}\tok\n2\t100\tアイ\tok\n` };
+    const said = Object.entries(lists).map(([name, list]) => {
+        write(room, { [name]: list });
+        const words = ['--max-old-space-size=600', command, 'replace', 'image', '--list', name, '--partial', '--encoding', 'CP932'];
+        const { status, stdout, stderr } = spawnSync(process.execPath, words, { cwd: room, encoding: 'utf8', maxBuffer: 1 << 26 });
+        return [status, stdout, stderr.split('\n').slice(0, -1).map(line => line.replace('cdscript: ', '')).filter(line => !line.startsWith('no file'))];
+    });
+    const [ok, why] = ['cdpatch 1\nset 2 100 6F6B2020 was 83418343\n', 'row 2: a text has more than 65536 characters'];
+    const none = [why, 'no row fits, so no script is written'];
+    assert.deepEqual(said, [[0, ok, []], [2, '', none], [2, '', none], [1, ok, [why]]]);
+    truncateSync(join(room, 'rows'), 2 ** 28 + 1);
+    const { status, stderr } = spawnSync(process.execPath, [command, 'replace', 'image', '--list', 'rows'], { cwd: room, encoding: 'utf8' });
+    assert.deepEqual([status, stderr.split('\n').slice(-2)[0]], [2, 'cdscript: rows has 268435457 bytes, and a list at most 268435456']);
 }));

@@ -133,13 +133,13 @@ test('a text that stands at several places', { skip }, () => inDirectory(async r
 test('a file is replaced', { skip }, () => inDirectory(async room => {
     await makeDisc(room);
     const fresh = noise(299000, 9);
-    write(room, { fresh, longer: Buffer.alloc(300001) });
-    const { status, errors } = await run(['replace-file', 'disc.bin', '/BIG.BIN', 'fresh', '-o', 'script'], { cwd: room });
+    write(room, { fresh, longer: Buffer.alloc(301057) });
+    const { status, errors } = await run(['replace-file', 'disc.bin', '/BIG.BIN', 'fresh', '--fill', '00', '-o', 'script'], { cwd: room });
     assert.deepEqual([status, errors], [0, 'cdscript: bytes filled up with 00: 1000\n']);
     write(room, { 'new.bin': applied(room, 'disc.bin', 'script') });
     tool('sh', ['-c', `"${process.execPath}" "${process.env.COMMAND}" user new.bin new.iso`], { cwd: room });
     sameFile(tool('isoinfo', ['-R', '-x', '/BIG.BIN', '-i', 'new.iso'], { cwd: room }), Buffer.concat([fresh, Buffer.alloc(1000)]), 'the file');
-    await refuses(room, ['replace-file', 'disc.bin', '/BIG.BIN', 'longer'], '/BIG.BIN has 300000 bytes, the new file 300001');
+    await refuses(room, ['replace-file', 'disc.bin', '/BIG.BIN', 'longer'], '/BIG.BIN has 300000 bytes and room for 301056, the new file 301057');
     write(room, { 'hurt.bin': damaged(read(room, 'disc.bin'), 0, [read(room, 'disc.bin').length / 2352 - 170, 2100]) });
 }));
 

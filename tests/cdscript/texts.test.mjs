@@ -143,8 +143,86 @@ test('where no text is, none is found; and what cannot be searched is named', t 
     await run(['raw', 'noise.iso', 'image'], { cwd: room });
     const none = await run(['texts', 'image'], { cwd: room });
     assert.deepEqual([none.status, none.out, none.errors.split('\n').slice(-2)], [1, `${HEAD}\n`, ['cdscript: texts 0', '']]);
-    const other = await run(['texts', 'image', '--encoding', 'Big5'], { cwd: room });
-    assert.deepEqual([other.status, other.errors], [2, 'cdscript: texts are found in CP932, EUC-JP, UTF-16LE, UTF-16BE, UTF-8, and not in Big5\n']);
+    const other = await run(['texts', 'image', '--encoding', 'hex'], { cwd: room });
+    assert.deepEqual([other.status, other.errors], [2, 'cdscript: texts are told by their characters, and hex has none\n']);
+    write(room, { 'random.iso': noises()['RANDOM.BIN'] });
+    await run(['raw', 'random.iso', 'random'], { cwd: room });
+    for (const name of ['Big5', 'GBK', 'EUC-KR', 'CP932']) {
+        const { out } = await run(['texts', 'random', '--encoding', name], { cwd: room });
+        assert.ok(rowsOf(out).length < 3, out);
+    }
     const nowhere = await run(['texts', 'image', '--in', 'X'], { cwd: room });
     assert.deepEqual([nowhere.status, nowhere.errors.split('\n').slice(-2)[0]], [2, 'cdscript: there is no file X; cdscript files lists them']);
+}));
+
+/** A disc of one file for each of several bytes, by genisoimage; false if there is none. */
+async function makeFiles(room, files) {
+    for (const [path, bytes] of Object.entries(files)) {
+        mkdirSync(join(room, 'tree', path, '..'), { recursive: true });
+        writeFileSync(join(room, 'tree', path), bytes);
+    }
+    if (tool('genisoimage', ['-quiet', '-R', '-o', 'disc.iso', 'tree'], { cwd: room }) === null) return false;
+    assert.equal((await run(['raw', 'disc.iso', 'image'], { cwd: room })).status, 0);
+    return true;
+}
+
+const KANA = 'あいうえおかきくけこさしすせそたちつてとなにぬねのはひふへほまみむめもやゆよらりるれろわをんがぎぐげござじずぜぞだぢづでどばびぶべぼぱぴぷぺぽゃゅょっー、。！？';
+const KANA_TEXTS = ['はじめからやりますか？', 'つづきから', 'はい', 'いいえ', 'しろのちかにたからがあるらしい。', 'まほうつかいはふるいとうからかえってきた', 'ここはきたのもりです。'];
+const tableOf = (characters, first, end) => `${[...characters].map((it, i) => `${(first + i).toString(16)}=${it}\n`).join('')}/${end}=<end>\n`;
+const byTable = (texts, characters, first, end) =>
+    Buffer.from(texts.flatMap(text => [...[...text].map(it => first + [...characters].indexOf(it)), end]));
+
+test('the texts of a game with a table of its own are found, in UTF-8 and in UTF-16', t => inDirectory(async room => {
+    const dice = diceOf(3);
+    const random = Buffer.from(Uint8Array.from({ length: 1 << 18 }, () => dice(256)));
+    const latin = 'abcdefghijklmnopqrstuvwxyz ABCDEFGHIJKLMNOPQRSTUVWXYZ.,!?';
+    const english = ['the brave hero leaves the village', 'you found a small key', 'No', 'the door is locked, is it not?'];
+    const bytes = Buffer.concat([random, Buffer.of(0xFF), byTable(KANA_TEXTS, KANA, 0x20, 0xFF), random]);
+    const other = Buffer.concat([random, Buffer.of(0), byTable(english, latin, 0x80, 0), random]);
+    if (!await makeFiles(room, { 'KANA.BIN': bytes, 'LATIN.BIN': other })) return t.skip('no genisoimage');
+    const table = tableOf(KANA, 0x20, 'FF');
+    const wide = Buffer.from(`\uFEFF${table}`, 'utf16le');
+    write(room, { 'kana.tbl': table, 'wide.tbl': wide, 'swapped.tbl': Buffer.from(wide).swap16(), 'latin.tbl': tableOf(latin, 0x80, '00') });
+    const told = async (name, path) => {
+        const { out, errors } = await run(['texts', 'image', '--table', name, '--in', path], { cwd: room });
+        assert.match(errors, /texts \d+\n$/);
+        return rowsOf(out).map(row => [row[2], row[3], row[4], row[6]]);
+    };
+    const due = (texts, more) => texts.map((text, i) => [String(text.length), String(text.length + (more[i] || 0)), 'the table', text]);
+    for (const name of ['kana.tbl', 'wide.tbl', 'swapped.tbl']) assert.deepEqual(await told(name, 'KANA.BIN'), due(KANA_TEXTS, []));
+    assert.deepEqual(await told('latin.tbl', 'LATIN.BIN'), due(english, []));
+    assert.ok((await told('kana.tbl', 'LATIN.BIN')).length < 3);
+    const found = await run(['find', 'image', 'つづきから', '--table', 'wide.tbl'], { cwd: room });
+    assert.equal(found.out.split('\t')[2], '5');
+}));
+
+test('the texts of other languages are found by their encoding', t => inDirectory(async room => {
+    const texts = { 'BIG5': ['遊戲開始了，請選擇你的角色', '勇者打開了寶箱，找到一把鑰匙', '離開'], 'GBK': ['游戏开始了请选择你的角色', '勇者打开了宝箱', '离开'],
+        'EUC-KR': ['게임을 시작하시겠습니까', '용사는 문을 열었다', '예'] };
+    const dice = diceOf(8);
+    const random = Buffer.from(Uint8Array.from({ length: 1 << 18 }, () => dice(256)));
+    const files = Object.entries(texts).map(([name, own]) => {
+        const parts = eachEncoded(own, name === 'BIG5' ? 'CP950' : name === 'EUC-KR' ? 'CP949' : name).flatMap(bytes => [bytes, Buffer.alloc(1)]);
+        return [`${name}.BIN`, Buffer.concat([random, Buffer.alloc(2), ...parts, random])];
+    });
+    if (!await makeFiles(room, Object.fromEntries(files))) return t.skip('no genisoimage');
+    for (const [name, own] of Object.entries(texts)) {
+        const { out } = await run(['texts', 'image', '--encoding', name, '--in', `${name}.BIN`, '--min', '1'], { cwd: room });
+        assert.deepEqual(rowsOf(out).map(row => row[6]), own, name);
+    }
+}));
+
+test('several paths are looked into, each once, and one that is none is named', t => inDirectory(async room => {
+    const [text] = eachEncoded(['魔法使いは古い塔から帰ってきた'], 'CP932');
+    const files = Object.fromEntries(['A/ONE.BIN', 'A/TWO.BIN', 'B/ONE.BIN', 'AA.BIN'].map(path => [path, Buffer.concat([Buffer.alloc(9), text])]));
+    if (!await makeFiles(room, files)) return t.skip('no genisoimage');
+    const paths = async (...words) => {
+        const { status, out, errors } = await run(['texts', 'image', ...words.flatMap(word => ['--in', word])], { cwd: room });
+        return [status, rowsOf(out).map(row => row[5]).sort(), errors];
+    };
+    const all = ['/A/ONE.BIN+9', '/A/TWO.BIN+9', '/AA.BIN+9', '/B/ONE.BIN+9'];
+    assert.deepEqual(await paths(), [0, all, 'cdscript: texts 4\n']);
+    assert.deepEqual((await paths('A', '/B/'))[1], all.filter(path => path !== '/AA.BIN+9'));
+    assert.deepEqual((await paths('A', 'A/ONE.BIN', 'AA.BIN'))[1], all.slice(0, 3));
+    assert.deepEqual(await paths('A', 'C'), [2, [], 'cdscript: there is no file C; cdscript files lists them\n']);
 }));

@@ -1,16 +1,20 @@
-"""Questions to the core, and the answers: the worked cases of tests/cases, and random ones by the model of tests/model.
+"""Questions to the core, and the answers: the worked cases of tests/cases, and random ones of tests/model by the program.
 
-`answers.py DIRECTORY [COUNT [SEED]]` writes `answers.json`, a list in which bytes are places in `answers.bin`, each given by its first
-byte and its size.
+`answers.py DIRECTORY PROGRAM [COUNT [SEED]]` writes `answers.json`, a list in which bytes are places in `answers.bin`, each given by its
+first byte and its size.
 """
 
 import json
+import subprocess
 import sys
+import tempfile
+from functools import partial
+from multiprocessing import Pool
 from pathlib import Path
 
 TESTS = Path(__file__).resolve().parent.parent
 sys.path[:0] = [str(TESTS / 'cases'), str(TESTS / 'model')]
-from cases import some_case, wanted  # noqa: E402
+from cases import some_case  # noqa: E402
 from forms import COMMANDS, listed, worked_lines  # noqa: E402
 
 
@@ -47,15 +51,24 @@ def worked(line, question):
     return None
 
 
-def some(seed, number):
-    """A random case, and the model's answer."""
+def some(program, seed, number):
+    """A random case, and the program's answer."""
     case = some_case(seed, number)
-    return f'random {seed}/{number}', case.command, case.image, case.base, case.carry, case.script, *wanted(case)
+    with tempfile.TemporaryDirectory() as name:
+        files = Path(name)
+        (files / 'image').write_bytes(case.image)
+        (files / 'script').write_bytes(case.script)
+        given = case.image if case.piped else b''
+        ended = subprocess.run([program, *case.words], cwd=files, input=given, capture_output=True, timeout=60)
+        out = (files / 'out').read_bytes() if (files / 'out').exists() else None
+    return (f'random {seed}/{number}', case.command, case.image, case.base, case.carry, case.script, ended.returncode,
+            ended.stdout + ended.stderr, out)
 
 
-def main(directory, count='100', seed='core'):
+def main(directory, program, count='300', seed='core'):
     questions = [worked(line, question) for line in worked_lines() for question in line.questions]
-    questions += [some(seed, number) for number in range(int(count))]
+    with Pool() as pool:
+        questions += pool.map(partial(some, str(Path(program).resolve()), seed), range(int(count)), chunksize=20)
     made = Bytes()
     rows = []
     for place, call, image, base, carry, script, status, text, out in filter(None, questions):

@@ -45,4 +45,12 @@ export const withAllCalls = (Calls, sized) => class extends Calls {
     resultText(result) {
         return this.line('cdpatch_result_text', result);
     }
+
+    /** The patch of the line that was read last on held sectors, from a byte on; the result with its place. */
+    applyPatch(from, count, carry) {
+        const at = BigInt(this.arena + this.within(from + count * 2352) - count * 2352);
+        const { patch, fresh, old, answer } = this.places;
+        const result = this.exports.cdpatch_apply_patch(patch, fresh, old, at, BigInt(count), Number(carry), answer);
+        return { result, block: this.view.getUint32(this.answer, true), offset: this.view.getUint16(this.answer + 4, true) };
+    }
 };

@@ -8,7 +8,6 @@ import { calls, core, decoded, newCalls, sameBytes, top } from './common.mjs';
 
 const records = await core('records.js');
 const { MOST_SECTORS, SECTOR_SIZE, addressIn, addressText, blockAt, imageTooLong, sectorOf, userOf } = await core('sector.js');
-const { MOST_SCRIPT_BYTES } = await core('script.js');
 
 const header = readFileSync(join(top, 'include/cdpatch.h'), 'utf8');
 const vectors = new Uint8Array(readFileSync(join(top, 'crates/cd_vectors/data/cdrkit-8.bin')));
@@ -24,21 +23,24 @@ test('the numbers are those of cdpatch.h', () => {
     assert.deepEqual({ ...records.STATUS }, numbersOf('cdpatch_status'));
     assert.deepEqual({ ...records.SECTOR_KIND }, numbersOf('cdpatch_sector_kind'));
     assert.deepEqual({ ...records.VERB }, numbersOf('cdpatch_verb'));
+    assert.deepEqual({ ...records.STEP }, numbersOf('cdpatch_step_kind'));
+    const flags = Array.from(header.match(/enum (\{ CDPATCH_CARRY[^}]*\})/)[1].matchAll(/CDPATCH_(\w+) = (\d+)/g), it => [it[1], Number(it[2])]);
+    assert.deepEqual({ ...records.RUN_FLAG, SECTORS_IN_HAND: records.SECTORS_IN_HAND }, Object.fromEntries(flags));
     const contents = numbersOf('cdpatch_content');
     for (const [name, number] of Object.entries(records.CONTENT)) assert.equal(number, contents[name], name);
 });
 
 test('the limits are those of the man page', () => {
     const limit = name => Number(readFileSync(join(top, 'man/cdpatch.1'), 'utf8').match(new RegExp(`\\.It ${name}\n(\\d+)`))[1]);
-    assert.equal(MOST_SCRIPT_BYTES, limit('bytes of a script'));
+    assert.equal(records.MOST_SCRIPT_BYTES, limit('bytes of a script'));
+    assert.equal(records.MOST_PATCHES, limit('patches of a script'));
     assert.equal(MOST_SECTORS, limit('sectors of an image'));
     assert.ok(imageTooLong(MOST_SECTORS * SECTOR_SIZE + 1));
     assert.ok(!imageTooLong(MOST_SECTORS * SECTOR_SIZE));
 });
 
 test('each call of cdpatch.h that takes no memory has a method', () => {
-    // The page and cdscript make no runs by the calls for that; tests/wasm/run.mjs does.
-    const names = header.match(/\bcdpatch_\w+(?=\()/g).filter(name => !/^cdpatch_(check|apply|run_begin|run_next)$/.test(name));
+    const names = header.match(/\bcdpatch_\w+(?=\()/g).filter(name => !/^cdpatch_(check|apply)$/.test(name));
     const files = ['web/core/codes.js', 'web/page/sha1.js', 'web/page/crossings.js', 'tests/core/calls.mjs'];
     const code = files.map(file => readFileSync(join(top, file), 'utf8')).join('');
     for (const name of names) assert.match(code, new RegExp(`\\b${name}\\b`));
@@ -104,6 +106,30 @@ test('the arena grows, and is used again', () => {
     const grown = own.memory.length;
     assert.ok(grown > before && grown < before + sectors.length + 2 * 65536);
     for (let i = 0; i < 20; i++) own.survey(sectors, 0);
+    assert.equal(own.memory.length, grown);
+});
+
+test('what is lent stays as it is until it is given back, and is used again', () => {
+    const own = newCalls();
+    const [first, second] = [own.lend(100), own.lend(5)];
+    assert.ok(first % 16 === 0 && second >= first + 100);
+    own.memory.fill(1, first, first + 100).fill(2, second, second + 5);
+    own.hold(new Uint8Array(1e6).fill(9));
+    assert.ok(own.memory.subarray(first, first + 100).every(byte => byte === 1) && own.memory.subarray(second, second + 5).every(byte => byte === 2));
+    own.giveBack(first);
+    assert.throws(() => own.held(0, 1), RangeError);
+    own.hold(new Uint8Array(1e6).fill(9));
+    assert.ok(own.memory.subarray(second, second + 5).every(byte => byte === 2));
+    own.giveBack(second);
+    assert.equal(own.lend(1), first);
+    const script = new TextEncoder().encode(`cdpatch 1\n#${'x'.repeat(1e6)}\n`);
+    own.runEnd(own.runBegin(script, 0, 0, 0));
+    const grown = own.memory.length;
+    for (let i = 0; i < 20; i++) own.runEnd(own.runBegin(script, 0, 0, 0));
+    assert.equal(own.memory.length, grown);
+    for (const base of [449850, -1, 2 ** 32]) assert.throws(() => own.runBegin(script, base, 0, 0), RangeError);
+    assert.throws(() => own.runBegin(script, 0, 0, 8), RangeError);
+    own.runEnd(own.runBegin(script, 449849, 0, 7));
     assert.equal(own.memory.length, grown);
 });
 

@@ -8,6 +8,7 @@ import { CHANGES, RAW, blocksOf, changedImage, countOf, patchedBy, sectorAt, sou
 
 const { SECOND_STATE, compareImages, diffRange, differRange } = await core('compare.js');
 const { ScriptParts } = await core('output.js');
+const { RESULT, STATUS, STEP } = await core('records.js');
 const { blocksText } = await core('runs.js');
 
 const BASE = 33;
@@ -228,15 +229,31 @@ test('a script that would not fit in memory is refused', () => {
         { name: 'Fault', message: 'the script would have more than 1073741824 bytes: too much differs' });
 });
 
+test('lines of sectors that differ in every other byte are tried a few sectors at a time', () => {
+    const old = new Uint8Array(400 * RAW);
+    const fresh = new Uint8Array(400 * RAW);
+    const user = new Uint8Array(2048);
+    const other = user.map((_, i) => Number(i % 10 === 0));
+    for (let i = 0; i < 400; i++) {
+        old.set(sound(BASE + i, user), i * RAW);
+        fresh.set(sound(BASE + i, other), i * RAW);
+    }
+    const { patches, left } = diffRange(calls, old, fresh, BASE);
+    assert.ok(patches > 65535);
+    assert.deepEqual(left, []);
+});
+
 test('lines that the module does not take, or that give other sectors, are not given out', async () => {
     const dice = diceOf(13);
     const old = soundImage(dice, 6, BASE);
     const fresh = changedImage(dice, old, ['bytes'], 1);
+    const step = change => ({ runNext: (run, done) => change(calls.runNext(run, done)) });
     const wrongs = [
-        { applyPatch: () => ({ result: 0, block: 0, offset: 0 }) },
-        { applyPatch: () => ({ result: 5, block: 0, offset: 0 }) },
-        { readLine: () => 5 },
-        { blockRead: () => BASE + 6 },
+        step(it => ({ ...it, result: it.kind === STEP.LOG ? RESULT.DIFFERS : it.result, block: BASE + 9 })),
+        step(it => ({ ...it, status: STATUS.FAILED })),
+        step(it => ({ ...it, status: STATUS.FOUND })),
+        step(it => ({ ...it, at: it.kind === STEP.WRITE ? it.at + RAW : it.at })),
+        { runBytes: (run, it) => it.kind === STEP.WRITE ? new Uint8Array(RAW) : calls.runBytes(run, it) },
     ];
     for (const wrong of wrongs) {
         const broken = Object.assign(Object.create(calls), wrong);

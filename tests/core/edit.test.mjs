@@ -9,7 +9,7 @@ import { CHANGES, RAW, countOf, patchedBy, sectorAt, sound, soundImage, textOf }
 
 const { filledUp, replaceBytes } = await core('edit.js');
 const { replaceFile } = await core('replace_file.js');
-const { filesOf } = await core('iso.js');
+const { filesOf, wholeFile } = await core('iso.js');
 
 const BASE = 70;
 const imageOf = (bytes, base = BASE) => ({ name: 'image.bin', reader: readerOf(bytes), base, addressed: base, sectors: countOf(bytes), tail: bytes.length % RAW });
@@ -87,8 +87,9 @@ async function disc(t, path) {
     const iso = isoOf({ 'GAME.DAT': 'data '.repeat(3000), 'OTHER.TXT': 'x'.repeat(2048), 'EMPTY': '' }, [], []);
     if (!iso) return t.skip('no genisoimage');
     const bytes = calls.encodeBlocks(0, iso.bytes);
-    const { files } = await filesOf(readerOf(bytes), 0);
-    return { bytes, file: files.find(it => it.path === path), image: imageOf(bytes, 0) };
+    const { files, ...names } = await filesOf(readerOf(bytes), 0);
+    const extent = files.find(it => it.path === path);
+    return { bytes, file: { ...wholeFile([extent]), block: extent.block, names }, image: imageOf(bytes, 0) };
 }
 
 /** The script that replaces a file. */
@@ -122,16 +123,17 @@ test('a shorter file is filled up to the old length and not further', async t =>
     const { script: empty } = await replaced(it, new Uint8Array(0), { fill: 0 });
     user.fill(0, it.file.block * 2048, it.file.block * 2048 + 15000);
     sameBytes(await patchedBy(empty, it.bytes, 0), withUser(it.bytes, user), 'the image without the file\'s data');
-    const none = { ...it, file: { ...it.file, size: 0 } };
+    const none = { ...it, file: { ...it.file, size: 0, extents: [{ ...it.file.extents[0], size: 0 }] } };
     assert.equal(textOf((await replaced(none, new Uint8Array(0))).script), 'cdpatch 1\n');
 });
 
 test('a longer file, and one whose extent is not just its bytes', async t => {
     const it = await disc(t, '/GAME.DAT');
     if (!it) return;
-    await assert.rejects(replaced(it, new Uint8Array(15001)), { message: '/GAME.DAT has 15000 bytes, the new file 15001' });
-    const odd = { ...it, file: { ...it.file, fault: 'it is interleaved' } };
-    await assert.rejects(replaced(odd, new Uint8Array(15000)), { message: '/GAME.DAT: it is interleaved' });
+    await assert.rejects(replaced(it, new Uint8Array(15001), { fill: 0 }), { message: '/GAME.DAT has 15000 bytes, the new file 15001' });
+    await assert.rejects(replaced(it, new Uint8Array(16385)), { message: '/GAME.DAT has 15000 bytes and room for 16384, the new file 16385' });
+    const [extent] = it.file.extents;
+    assert.throws(() => wholeFile([{ ...extent, fault: 'it is interleaved' }]), { message: '/GAME.DAT: it is interleaved' });
 });
 
 test('sectors of a file that are not consistent are named, if they have to change', async t => {

@@ -127,6 +127,43 @@ test('spellings of several lengths: every one is found, with its size', () => {
     }
 });
 
+/** Spellings of 1 to 3 bytes, the longer ones before and after those with which they begin, but none twice. @param {number} count */
+function manySpellings(count) {
+    const dice = diceOf(17);
+    const spellings = new Map();
+    while (spellings.size < count) {
+        const bytes = Array.from({ length: 1 + dice(3) }, () => dice(7));
+        spellings.set(bytes.join(), bytes);
+    }
+    return [...spellings.values()];
+}
+
+test('of many spellings that stand at a place the first one of the part is found', () => {
+    const user = randomUser(21, 3);
+    for (const wanted of [[manySpellings(60)], [manySpellings(60), [[1]], [[2]]]]) {
+        const parts = wanted.map(part => part.map(bytes => Uint8Array.from(bytes)));
+        const due = naive(user, parts, 4);
+        assert.ok(new Set(due.map(({ size }) => size)).size === 3);
+        assert.deepStrictEqual(findOne(rawOf(user), 4, { wanted: parts, count: 3, limit: ALL }), { count: due.length, hits: due });
+    }
+});
+
+test('many spellings are looked up at a place, and not compared there one by one', () => {
+    let looks = 0;
+    const counting = { get: (bytes, name) => { looks += 1; return bytes[name]; } };
+    const others = [0xAAA, 0x555]; // what stands there
+    const numbers = Array.from({ length: 4096 }, (_, i) => i).filter(i => !others.includes(i));
+    const part = numbers.map(i => new Proxy(Array.from({ length: 12 }, (_, k) => i >> k & 1), counting));
+    const looksIn = (/** @type {number} */ sectors) => {
+        looks = 0;
+        const user = Uint8Array.from({ length: sectors * USER }, (_, i) => i % 2);
+        assert.strictEqual(findOne(rawOf(user), 0, { wanted: [part], count: sectors, limit: 1 }).count, 0);
+        return looks;
+    };
+    const more = looksIn(3) - looksIn(1);
+    assert.ok(more < 4 * USER, `${more} looks at spellings for ${2 * USER} places`);
+});
+
 test('several texts at once have the hits that each has by itself', () => {
     const raw = rawOf(randomUser(12, 5));
     const texts = ['0102', '00', '020200010201'].map(bytesOf);

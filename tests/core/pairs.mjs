@@ -3,7 +3,7 @@
 import assert from 'node:assert/strict';
 import { calls, core, joinedPieces, readerOf } from './common.mjs';
 
-const { Refusal, patchesOf } = await core('script.js');
+const { Refusal, readScript } = await core('script.js');
 const { applyPatches } = await core('patch.js');
 
 export const RAW = 2352;
@@ -66,9 +66,9 @@ export const textOf = script => Buffer.concat(script.pieces).toString('latin1');
 
 /** What becomes of an image by a script. No patch may be refused. */
 export async function patchedBy(script, image, base, carry = false) {
-    const patches = await patchesOf(calls, script.pieces ?? script, true);
-    assert.ok(!(patches instanceof Refusal), Buffer.from(patches.text ?? '').toString());
-    const made = await applyPatches(calls, readerOf(image), patches, base, carry);
+    const read = await readScript(calls, script.pieces ?? script, true);
+    assert.ok(!(read instanceof Refusal), Buffer.from(read.text ?? '').toString());
+    const made = await applyPatches(calls, readerOf(image), read, { base, carry });
     assert.equal(made.status, 0, Buffer.from(made.text).toString());
     return joinedPieces(image, made.pieces);
 }

@@ -2,9 +2,10 @@
 
 import assert from 'node:assert/strict';
 import { test } from 'node:test';
-import { calls, core, decoded, diceOf, encoded, joinedPieces, readerOf, sameBytes, someImage } from './common.mjs';
+import { calls, core, decoded, diceOf, encoded, joinedPieces, newCalls, readerOf, sameBytes, someImage } from './common.mjs';
 
-const { patchesOf } = await core('script.js');
+const { readScript } = await core('script.js');
+const { Part, readLines } = await core('long_script.js');
 const { applyPatches, passPatched } = await core('patch.js');
 const { bytesOfPieces } = await core('bytes.js');
 const { MOST_SECTORS } = await core('sector.js');
@@ -26,30 +27,33 @@ function someScript(dice, count, first, blocks) {
     return encoded(`cdpatch 2\n${lines.join('\n')}\n`);
 }
 
-/** The patches on the whole image in memory, one after the other. */
-function plainly(patches, whole, base, carry) {
+/** The patches on the whole image in memory, one after the other, by the calls that take a line. */
+async function plainly(script, whole, base, carry) {
+    const { patches } = readLines(calls, script);
     const out = whole.slice();
     const count = Math.floor(out.length / 2352);
-    const log = patches.map(patch => {
-        const first = patch.block - base;
+    const log = patches.map(({ number, block: begin, line }) => {
+        const first = begin - base;
         const there = first >= 0 && first < count ? Math.min(3, count - first) : 0;
+        calls.hold(line);
+        calls.readLine(2, number, 0, 0, line.length);
         calls.hold(out.subarray(first * 2352, there && (first + there) * 2352));
-        const { result, block, offset } = calls.applyPatch(patch.bytes, 0, there, carry);
+        const { result, block, offset } = calls.applyPatch(0, there, carry);
         if (there > 0) out.set(calls.held(0, there * 2352), first * 2352);
-        return decoded(calls.outcomeLine(patch.number, result, block, offset));
+        return decoded(calls.outcomeLine(number, result, block, offset));
     });
     const applied = log.filter(line => line.endsWith(': applied\n')).length;
     return { out, text: log.join('') + decoded(calls.lastLine(applied, log.length - applied)), status: Number(applied < log.length) };
 }
 
-async function agrees(script, whole, base, carry, most) {
-    const patches = await patchesOf(calls, [script]);
-    const due = plainly(patches, whole, base, carry);
-    const came = await applyPatches(calls, readerOf(whole, most), patches, base, carry);
+async function agrees(text, whole, base, carry, most) {
+    const script = await readScript(calls, [text]);
+    const due = await plainly(text, whole, base, carry);
+    const came = await applyPatches(calls, readerOf(whole, most), script, { base, carry });
     assert.equal(decoded(came.text), due.text);
     assert.equal(came.status, due.status);
     sameBytes(joinedPieces(whole, came.pieces), due.out, 'the image');
-    const checked = await passPatched(calls, readerOf(whole), patches, base, carry);
+    const checked = await passPatched(calls, readerOf(whole), script, { base, carry });
     assert.deepEqual([decoded(checked.text), checked.status, checked.outcomes], [due.text, due.status, came.outcomes]);
     return came;
 }
@@ -77,26 +81,88 @@ test('each patch finds what the one before it left', async () => {
 });
 
 test('the tail and the image around the patches are slices', async () => {
-    const patches = await patchesOf(calls, [encoded(`cdpatch 1\nrebuild ${BASE + 3}\nrebuild ${BASE + 4}\nrebuild ${BASE + 2000}\n`)]);
+    const script = await readScript(calls, [encoded(`cdpatch 1\nrebuild ${BASE + 3}\nrebuild ${BASE + 4}\nrebuild ${BASE + 2000}\n`)]);
     const whole = image.slice();
     for (const i of [3, 4, 2000]) whole.set(calls.encode(calls.address(1), new Uint8Array(2048)), i * 2352);
     const reader = readerOf(whole);
-    const { pieces } = await applyPatches(calls, reader, patches, BASE, false);
+    const { pieces } = await applyPatches(calls, reader, script, { base: BASE });
     assert.deepEqual(pieces.map(piece => piece.bytes?.length ?? [piece.from, piece.to]),
         [[0, 3 * 2352], 2 * 2352, [5 * 2352, 2000 * 2352], 2352, [2001 * 2352, whole.length]]);
-    assert.deepEqual(reader.reads, [{ at: 3 * 2352, length: 4 * 2352 }, { at: 2000 * 2352, length: 3 * 2352 }]);
+    assert.deepEqual(reader.reads.map(({ at }) => at), [3 * 2352, 2000 * 2352]);
     sameBytes(joinedPieces(whole, pieces), whole, 'the image');
 });
 
 test('sectors are passed on as soon as no later patch meets them', async () => {
-    const patches = await patchesOf(calls, [encoded(`cdpatch 1\n${Array.from({ length: 2600 }, (_, i) => `fill ${BASE + i} 0 1 07\n`).join('')}`)]);
+    const script = await readScript(calls, [encoded(`cdpatch 1\n${Array.from({ length: 2600 }, (_, i) => `fill ${BASE + i} 0 1 07\n`).join('')}`)]);
     const reader = readerOf(image);
     let most = 0;
-    await passPatched(calls, reader, patches, BASE, true, piece => {
+    await passPatched(calls, reader, script, { base: BASE, carry: true }, piece => {
         const { at, length } = reader.reads[reader.reads.length - 1];
         if (piece.bytes) most = Math.max(most, (at + length - piece.at) / 2352);
     });
     assert.ok(most > 0 && most <= 2100, `${most} sectors behind`);
+});
+
+test('patches near one another are read together, and no more where they are far apart', async () => {
+    const size = 300 * 1024 * 2352;
+    const asked = async places => {
+        const reads = [];
+        const reader = { size, read: async (at, length) => { reads.push({ at, length }); return new Uint8Array(length); } };
+        const script = await readScript(calls, [encoded(`cdpatch 1\n${places.map(place => `fill ${place} 0 1 07\n`).join('')}`)]);
+        assert.equal((await passPatched(calls, reader, script, { base: 0 })).outcomes.length, places.length);
+        assert.ok(reads.every(({ length }) => length <= 1 << 22));
+        return { reads: reads.length, bytes: reads.reduce((sum, { length }) => sum + length, 0) };
+    };
+    const dense = await asked(Array.from({ length: 20000 }, (_, i) => i));
+    assert.ok(dense.reads < 30 && dense.bytes < 20000 * 2352 + 5e6, JSON.stringify(dense));
+    const scattered = await asked(Array.from({ length: 20000 }, (_, i) => 14 * i + (i * 7) % 13));
+    assert.ok(scattered.reads < 220, JSON.stringify(scattered));
+    const apart = await asked(Array.from({ length: 150 }, (_, i) => 2000 * i + 500));
+    assert.ok(apart.reads === 150 && apart.bytes < 150 * 70000, JSON.stringify(apart));
+});
+
+test('old bytes are not compared if that is asked for', async () => {
+    const good = calls.encode(calls.address(0), new Uint8Array(2048));
+    const script = await readScript(calls, [encoded('cdpatch 1\nset 0 0 41 was 99\nset 0 5 42 was 00\n')]);
+    const results = async how => (await passPatched(calls, readerOf(good), script, { base: 0, ...how })).outcomes.map(it => it.result);
+    assert.deepEqual([await results({}), await results({ withoutOld: true })], [[5, 0], [0, 0]]);
+});
+
+/** Patches in parts of some sizes, each of which has a run of its own. */
+function partsOf({ head, patches }, sizes) {
+    const parts = [];
+    for (let from = 0; from < patches.length; from += parts[parts.length - 1].patches.length) {
+        parts.push(new Part(head, patches.slice(from, from + sizes[parts.length % sizes.length])));
+    }
+    return { parts, bases: [] };
+}
+
+test('a long script in parts, cut anywhere, makes what it makes as a whole', async () => {
+    for (let seed = 0; seed < 40; seed++) {
+        const dice = diceOf(600 + seed);
+        const whole = someImage(dice, 12, BASE, dice(2) * 99);
+        const text = someScript(dice, 30, BASE - 2, 16);
+        const lines = readLines(calls, text);
+        for (const carry of [false, true]) {
+            const due = await plainly(text, whole, BASE, carry);
+            for (const sizes of [[1], [2], [7], [1, 5, 2], [29], [99]]) {
+                const came = await applyPatches(calls, readerOf(whole, 5000), partsOf(lines, sizes), { base: BASE, carry });
+                assert.equal(decoded(came.text), due.text);
+                assert.equal(came.status, due.status);
+                sameBytes(joinedPieces(whole, came.pieces), due.out, `seed ${seed}, parts of ${sizes}`);
+            }
+        }
+    }
+});
+
+test('a long script on an image that is too long ends as one that is not long', async () => {
+    const text = encoded('cdpatch 1\nrebuild 1\nrebuild 5\nrebuild 1000000\n');
+    const tooLong = { size: MOST_SECTORS * 2352 + 1, read: async (at, length) => new Uint8Array(length) };
+    const due = 'line 2: refused: block 1 is not mode 1\nline 3: refused: block 5 is not mode 1\ncdpatch: the image has more than 1000000 sectors\n';
+    for (const long of [false, true]) {
+        const { status, text: log } = await passPatched(calls, tooLong, await readScript(calls, [text], long), { base: 0 });
+        assert.deepEqual([status, decoded(log)], [2, due]);
+    }
 });
 
 test('short reads of a door', async () => {
@@ -104,52 +170,53 @@ test('short reads of a door', async () => {
 });
 
 test('a read that fails, at any place, reaches the caller', async () => {
-    const patches = await patchesOf(calls, [someScript(diceOf(12), 60, BASE, 2600)]);
-    const due = plainly(patches, image, BASE, true);
-    const { reads } = await (async () => { const it = readerOf(image); await applyPatches(calls, it, patches, BASE, true); return it; })();
+    const text = someScript(diceOf(12), 60, BASE, 2600);
+    const script = await readScript(calls, [text]);
+    const due = await plainly(text, image, BASE, true);
+    const { reads } = await (async () => { const it = readerOf(image, 300000); await applyPatches(calls, it, script, { base: BASE, carry: true }); return it; })();
     assert.ok(reads.length > 10);
     for (let fault = 0; fault < reads.length; fault++) {
-        const reader = readerOf(image);
+        const reader = readerOf(image, 300000);
         const { read } = reader;
         const failing = { size: reader.size, read: async (at, length) => {
             if (reader.reads.length === fault) throw new Error(`no read ${fault}`);
             return read(at, length);
         } };
         const taken = [];
-        await assert.rejects(passPatched(calls, failing, patches, BASE, true, piece => { taken.push(piece); }), { message: `no read ${fault}` });
+        await assert.rejects(passPatched(calls, failing, script, { base: BASE, carry: true }, piece => { taken.push(piece); }), { message: `no read ${fault}` });
         const begun = joinedPieces(image, taken);
         sameBytes(begun, due.out.subarray(0, begun.length), 'what was passed on before');
-        await assert.rejects(applyPatches(calls, { ...failing, read: () => Promise.reject(new Error('none')) }, patches, BASE, true), /none/);
+        await assert.rejects(applyPatches(calls, { ...failing, read: () => Promise.reject(new Error('none')) }, script, { base: BASE, carry: true }), /none/);
     }
 });
 
 test('an image that shrinks is no shorter image', async () => {
-    const patches = await patchesOf(calls, [encoded(`cdpatch 1\nfill ${BASE + 2400} 0 1 07\n`)]);
+    const script = await readScript(calls, [encoded(`cdpatch 1\nfill ${BASE + 2400} 0 1 07\n`)]);
     const shrunk = { ...readerOf(image.subarray(0, 2400 * 2352 + 100)), size: image.length };
     const ended = { name: 'ImageEnded', message: `the image ends at byte ${2400 * 2352 + 100}` };
-    await assert.rejects(applyPatches(calls, shrunk, patches, BASE, true), ended);
-    await assert.rejects(passPatched(calls, shrunk, patches, BASE, true), ended);
+    await assert.rejects(applyPatches(calls, shrunk, script, { base: BASE, carry: true }), ended);
+    await assert.rejects(passPatched(calls, shrunk, script, { base: BASE, carry: true }), ended);
     await assert.rejects(async () => { for await (const bytes of bytesOfPieces(shrunk, [{ from: 0, to: image.length }])) assert.ok(bytes); }, ended);
 });
 
 test('a piece that cannot be written reaches the caller', async () => {
-    const patches = await patchesOf(calls, [someScript(diceOf(13), 5, BASE, 2600)]);
+    const script = await readScript(calls, [someScript(diceOf(13), 5, BASE, 2600)]);
     for (let fault = 0; fault < 3; fault++) {
         let left = fault;
         const take = async () => { if (left-- === 0) throw new Error('disk full'); };
-        await assert.rejects(passPatched(calls, readerOf(image), patches, BASE, true, take), /disk full/);
+        await assert.rejects(passPatched(calls, readerOf(image), script, { base: BASE, carry: true }, take), /disk full/);
     }
 });
 
 test('an image of as many sectors as the program takes, and a script without patches', async () => {
     const reader = readerOf(image);
-    assert.equal((await passPatched(calls, { ...reader, size: MOST_SECTORS * 2352 }, [], 0, false)).status, 0);
+    assert.equal((await passPatched(calls, { ...reader, size: MOST_SECTORS * 2352 }, await readScript(calls, [encoded('cdpatch 1\n')]), { base: 0 })).status, 0);
     assert.equal(reader.reads.length, 0);
 });
 
 test('the bytes of pieces', async () => {
-    const patches = await patchesOf(calls, [someScript(diceOf(14), 30, BASE, 2600)]);
-    const { pieces } = await applyPatches(calls, readerOf(image), patches, BASE, true);
+    const script = await readScript(calls, [someScript(diceOf(14), 30, BASE, 2600)]);
+    const { pieces } = await applyPatches(calls, readerOf(image), script, { base: BASE, carry: true });
     const parts = [];
     for await (const bytes of bytesOfPieces(readerOf(image, 1e6), pieces)) parts.push(bytes);
     sameBytes(Buffer.concat(parts), joinedPieces(image, pieces), 'the image');
@@ -157,9 +224,21 @@ test('the bytes of pieces', async () => {
 });
 
 test('several patchings at the same time by the same calls', async () => {
-    const scripts = await Promise.all([20, 21, 22].map(seed => patchesOf(calls, [someScript(diceOf(seed), 300, BASE, 2600)])));
-    const due = scripts.map(patches => plainly(patches, image, BASE, true));
-    const came = await Promise.all(scripts.map(patches => applyPatches(calls, readerOf(image), patches, BASE, true)));
+    const texts = [20, 21, 22].map(seed => someScript(diceOf(seed), 300, BASE, 2600));
+    const scripts = await Promise.all(texts.map(text => readScript(calls, [text])));
+    const due = await Promise.all(texts.map(text => plainly(text, image, BASE, true)));
+    const own = newCalls();
+    const came = await Promise.all(scripts.map(async script => {
+        const pieces = [];
+        const { text } = await passPatched(own, readerOf(image), script, { base: BASE, carry: true }, async piece => {
+            if (pieces.length % 20 === 0) own.exports.memory.grow(1); // then it is another buffer
+            own.reserve(0);
+            own.hold(new Uint8Array(5000).fill(99));
+            await null;
+            pieces.push(piece);
+        });
+        return { text, pieces };
+    }));
     came.forEach(({ text, pieces }, i) => {
         assert.equal(decoded(text), due[i].text);
         sameBytes(joinedPieces(image, pieces), due[i].out, 'the image');

@@ -4,8 +4,9 @@ import assert from 'node:assert/strict';
 import { test } from 'node:test';
 import { calls, core, cutAt, cutBy, decoded, encoded, newCalls } from './common.mjs';
 
-const { MOST_SCRIPT_BYTES, Refusal, patchesOf } = await core('script.js');
-const { VERB, patchFields } = await core('records.js');
+const { Refusal, readScript } = await core('script.js');
+const { readLines, scriptParts } = await core('long_script.js');
+const { MOST_PATCHES, MOST_SCRIPT_BYTES, VERB } = await core('records.js');
 
 const SCRIPTS = [
     'cdpatch 2\r\n# a note\n\n \tset 7 0 4142 was 6162\r\nfill 3 9 12 00\nrebuild 7\n\r\naddress 3 00:02:05\nset 7 1 43',
@@ -22,39 +23,47 @@ async function* given(pieces) {
     yield* pieces;
 }
 
-/** What a script is, as plain values. */
-async function read(pieces, long) {
-    const made = await patchesOf(calls, pieces, long);
-    return made instanceof Refusal ? { reason: made.reason, text: decoded(made.text) } : made;
+/** What a script is, as plain values, and as it is for a long one. */
+async function read(pieces, long = false) {
+    const made = await readScript(calls, pieces, long);
+    if (made instanceof Refusal) return { refused: decoded(made.text), tooLong: made.tooLong };
+    return long ? { bases: made.bases, patches: made.parts.flatMap(part => part.patches) } : made;
 }
 
 test('a script cut at each byte is the same script', async () => {
-    for (const script of SCRIPTS.map(encoded)) {
-        const whole = await read([script]);
-        for (let at = 0; at <= script.length; at++) assert.deepEqual(await read(cutAt(script, at)), whole, `cut at ${at}`);
-        for (const size of [1, 2, 3, 7]) assert.deepEqual(await read(given(cutBy(script, size))), whole, `pieces of ${size}`);
+    for (const script of SCRIPTS.map(encoded)) for (const long of [false, true]) {
+        const whole = await read([script], long);
+        for (let at = 0; at <= script.length; at++) assert.deepEqual(await read(cutAt(script, at), long), whole, `cut at ${at}`);
+        for (const size of [1, 2, 3, 7]) assert.deepEqual(await read(given(cutBy(script, size)), long), whole, `pieces of ${size}`);
     }
 });
 
-test('a script is the same if what is cut at a time ends at any byte of it', async () => {
+test('a long script is the same if what is cut at a time ends at any byte of it', async () => {
     for (const script of [SCRIPTS[0], SCRIPTS[3], SCRIPTS[6]].map(encoded)) {
-        const due = await read([encoded('#\n'), script]);
+        const due = await read([encoded('#\n'), script], true);
         for (let at = 0; at <= script.length; at++) {
             const before = encoded(`#${'x'.repeat((1 << 20) - at - 2)}\n`);
-            assert.deepEqual(await read([Buffer.concat([before, script])]), due, `at ${at}`);
+            assert.deepEqual(await read([Buffer.concat([before, script])], true), due, `at ${at}`);
         }
     }
 });
 
-test('lines end in LF or CR LF', async () => {
-    const plain = await read([encoded('cdpatch 1\n\nrebuild 1\nset 0 0 41\n')]);
-    assert.equal(plain.length, 2);
-    for (const script of ['cdpatch 1\r\n\r\nrebuild 1\r\nset 0 0 41\r\n', 'cdpatch 1\r\n\nrebuild 1\r\nset 0 0 41']) {
-        assert.deepEqual(await read([encoded(script)]), plain);
+test('a script is refused by the same line whether it may be long or not', async () => {
+    for (const script of [...SCRIPTS, ...SCRIPTS.map(it => `${it}\nset 1`), 'cdpatch 1', 'cdpatch 3\n', 'rebuild 1\ncdpatch 1\n']) {
+        const [due, came] = [await read([encoded(script)]), await read([encoded(script)], true)];
+        assert.equal(came.refused, due.refused, script);
     }
-    assert.equal((await read([encoded('cdpatch 1\nset 0 0 41\r')])).reason, 'fault');
-    assert.deepEqual(await read([encoded(SCRIPTS[6])]), { reason: 'fault', text: 'script line 2: bad hex\n' });
-    assert.deepEqual(await read([encoded(SCRIPTS[4])]), { reason: 'fault', text: 'script line 3: no cdpatch 1 line\n' });
+    assert.deepEqual(await read([encoded(SCRIPTS[6])]), { refused: 'script line 2: bad hex\n', tooLong: false });
+    assert.deepEqual(await read([encoded(SCRIPTS[4])]), { refused: 'script line 3: no cdpatch 1 line\n', tooLong: false });
+});
+
+test('lines of a long script end in LF or CR LF', async () => {
+    const plain = await read([encoded('cdpatch 1\n\nrebuild 1\nset 0 0 41\n')], true);
+    assert.equal(plain.patches.length, 2);
+    for (const script of ['cdpatch 1\r\n\r\nrebuild 1\r\nset 0 0 41\r\n', 'cdpatch 1\r\n\nrebuild 1\r\nset 0 0 41']) {
+        assert.deepEqual(await read([encoded(script)], true), plain);
+    }
+    assert.equal((await read([encoded('cdpatch 1\nset 0 0 41\r')], true)).refused, 'script line 2: bad hex\n');
 });
 
 test('a later version of the language is no fault', async () => {
@@ -64,14 +73,20 @@ test('a later version of the language is no fault', async () => {
         const head = decoded(later.held(from, from + size)) === 'cdpatch 3';
         return version === 0 && head ? 256 : readLine(version === 256 ? 2 : version, number, earlier, from, size);
     };
-    const patches = await patchesOf(later, [encoded('cdpatch 3\naddress 3 00:02:05\n')]);
-    assert.deepEqual(patches, await patchesOf(calls, [encoded('cdpatch 2\naddress 3 00:02:05\n')]));
+    const lines = readLines(later, encoded('cdpatch 3\naddress 3 00:02:05\n'));
+    assert.deepEqual(lines.patches, readLines(calls, encoded('cdpatch 2\naddress 3 00:02:05\n')).patches);
+    assert.equal(decoded(scriptParts(lines)[0].text()), 'cdpatch 3\naddress 3 00:02:05\n');
 });
 
 test('what a patch says', async () => {
-    const patches = await patchesOf(calls, [encoded(SCRIPTS[0])]);
-    assert.deepEqual(patches.map(patch => [patch.number, patch.block]), [[5, 3], [8, 3], [4, 7], [6, 7], [9, 7]]);
-    const [fill, address, set, rebuild, plain] = patches.map(patch => patchFields(patch.bytes));
+    const { patches } = await read([encoded(SCRIPTS[0])], true);
+    assert.deepEqual(patches.map(({ number, block, old }) => [number, block, old]),
+        [[5, 3, null], [8, 3, null], [4, 7, 2], [6, 7, null], [9, 7, null]]);
+    const [fill, address, set, rebuild, plain] = patches.map(({ line }) => {
+        calls.hold(line);
+        calls.readLine(2, 1, 0, 0, line.length);
+        return calls.patchRead();
+    });
     assert.deepEqual([fill.verb, fill.offset, fill.count, fill.value, fill.fresh.length, fill.old], [VERB.FILL, 9, 12, 0, 0, null]);
     assert.deepEqual([address.verb, ...address.address], [VERB.ADDRESS, 0, 2, 5]);
     assert.deepEqual([set.verb, decoded(set.fresh), decoded(set.old)], [VERB.SET, 'AB', 'ab']);
@@ -79,9 +94,9 @@ test('what a patch says', async () => {
     assert.deepEqual([plain.offset, decoded(plain.fresh), plain.old], [1, 'C', null]);
 });
 
-test('patches of equal blocks stay in the order of their lines', async () => {
+test('patches of equal blocks of a long script stay in the order of their lines', async () => {
     const blocks = Array.from({ length: 3000 }, (_, i) => (i * 7) % 5);
-    const patches = await patchesOf(calls, [encoded(`cdpatch 1\n${blocks.map(block => `rebuild ${block}\n`).join('')}`)]);
+    const { patches } = await read([encoded(`cdpatch 1\n${blocks.map(block => `rebuild ${block}\n`).join('')}`)], true);
     assert.equal(patches.length, 3000);
     for (let i = 1; i < patches.length; i++) {
         const [a, b] = [patches[i - 1], patches[i]];
@@ -92,16 +107,42 @@ test('patches of equal blocks stay in the order of their lines', async () => {
 test('lines longer than what is cut at a time', async () => {
     const long = `#${'x'.repeat(3e6)}`;
     const script = encoded(`cdpatch 1\n${long}\nrebuild 4\n${long}\r\nrebuild 3\n${long}`);
-    const whole = await read([script]);
-    assert.deepEqual(whole.map(patch => patch.number), [5, 3]);
-    for (const size of [999, 65537, 1 << 20, (1 << 20) + 1]) assert.deepEqual(await read(cutBy(script, size)), whole);
+    const whole = await read([script], true);
+    assert.deepEqual(whole.patches.map(patch => patch.number), [5, 3]);
+    for (const size of [999, 65537, 1 << 20, (1 << 20) + 1]) assert.deepEqual(await read(cutBy(script, size), true), whole);
 });
 
 test('no more patches than the program takes, but for a long script', async () => {
     const script = encoded(`cdpatch 1\n${'rebuild 9\n'.repeat(65536)}`);
-    assert.equal((await read([script.subarray(0, script.length - 10)])).length, 65535);
-    assert.deepEqual(await read([script]), { reason: 'fault', text: 'script line 65537: more than 65535 patches\n' });
-    assert.equal((await read([script], true)).length, 65536);
+    assert.equal((await read([script.subarray(0, script.length - 10)])).refused, undefined);
+    assert.deepEqual(await read([script]), { refused: 'script line 65537: more than 65535 patches\n', tooLong: false });
+    assert.equal((await read([script], true)).patches.length, 65536);
+});
+
+test('a long script is cut into parts that a run takes', async () => {
+    const line = size => ({ number: 1, block: 0, old: null, line: new Uint8Array(size) });
+    const sizes = patches => scriptParts({ head: encoded('cdpatch 1'), patches }).map(part => part.patches.length);
+    assert.deepEqual(sizes([]), [0]);
+    assert.deepEqual(sizes(Array.from({ length: 2 * MOST_PATCHES + 1 }, () => line(1))), [MOST_PATCHES, MOST_PATCHES, 1]);
+    const third = MOST_SCRIPT_BYTES / 4 - 1;
+    assert.deepEqual(sizes([line(third), line(third), line(third), line(third)]), [3, 1]);
+    assert.deepEqual(sizes([line(third), line(third), line(third), line(third - 10)]), [4]);
+});
+
+test('the bases that comments say are those that stand there, with their lines', async () => {
+    const said = async (script, long) => (await read([encoded(`cdpatch 1\n${script}`)], long)).bases;
+    const rows = [
+        ['# base 150\n', [{ line: 2, base: 150 }]],
+        ['\r\n# base 7\r\n#\n# base 0\n# base 1', [{ line: 3, base: 7 }, { line: 5, base: 0 }, { line: 6, base: 1 }]],
+        ['# base 7 \t \n# base 1234567\n# base x\n #base 1\n # base 1\n#base 1\n## base 1\n# base 9 # base 1\n', [{ line: 2, base: 7 }]],
+        [`# base 5${' '.repeat(13)}\n# base 6${' '.repeat(14)}\n# base 7${' '.repeat(12)}\r\n# base 8${' '.repeat(14)}`, [{ line: 2, base: 5 }, { line: 4, base: 7 }]],
+        ['# base 3\r', [{ line: 2, base: 3 }]],
+        ['# base 3\u00E9\n', []],
+    ];
+    for (const [script, due] of rows) {
+        for (const long of [false, true]) assert.deepEqual(await said(script, long), due, script);
+    }
+    assert.deepEqual((await read([encoded('# base 4\ncdpatch 1\n')])).bases, [{ line: 1, base: 4 }]);
 });
 
 /** A script of so many bytes, and whether all of its pieces were asked for. */
@@ -119,12 +160,13 @@ function scriptOf(size, first) {
 
 test('no more bytes than the program takes, but for a long script', async () => {
     const right = 'cdpatch 1\nrebuild 4\n';
-    assert.equal((await read(scriptOf(MOST_SCRIPT_BYTES, `${right}#`).pieces)).length, 1);
+    const tooLong = { refused: 'cdpatch: the script is longer than 67108864 bytes\n', tooLong: true };
+    assert.equal((await read(scriptOf(MOST_SCRIPT_BYTES, `${right}#`).pieces)).refused, undefined);
     const { asked, pieces } = scriptOf(2 * MOST_SCRIPT_BYTES, right);
-    assert.deepEqual(await read(pieces), { reason: 'too-long', text: '' });
+    assert.deepEqual(await read(pieces), tooLong);
     assert.ok(!asked.all, 'a script that is too long is not read to its end');
-    assert.deepEqual((await read(scriptOf(MOST_SCRIPT_BYTES + 1, 'faulty\n').pieces)).reason, 'too-long');
-    assert.equal((await read(scriptOf(MOST_SCRIPT_BYTES + 1, `${right}#`).pieces, true)).length, 1);
+    assert.deepEqual(await read(scriptOf(MOST_SCRIPT_BYTES + 1, 'faulty\n').pieces), tooLong);
+    assert.equal((await read(scriptOf(MOST_SCRIPT_BYTES + 1, `${right}#`).pieces, true)).patches.length, 1);
 });
 
 test('a piece that cannot be read is no end of the script', async () => {
@@ -134,6 +176,6 @@ test('a piece that cannot be read is no end of the script', async () => {
             yield encoded('rebuild 5\n');
             throw new Error('no more of it');
         }
-        await assert.rejects(patchesOf(calls, pieces()), /no more of it/);
+        for (const long of [false, true]) await assert.rejects(readScript(calls, pieces(), long), /no more of it/);
     }
 });

@@ -46,7 +46,7 @@ for (const [what, { table, text, fault: due = '' }] of Object.entries(TABLES)) {
     test(`a table takes no longer: ${what}`, async () => {
         const { answer, fault, seconds } = await timed(() => {
             const own = tableOf(table);
-            own.lengthAt(new Uint8Array(USER), 0);
+            own.characterAt(new Uint8Array(USER), 0);
             return findIn(rawOf(new Uint8Array(64 * USER)), 0, { texts: [own.units(text)], count: 64, limit: 5 })[0].count;
         });
         assert.ok(seconds < 4, `${seconds} s`);
@@ -58,7 +58,7 @@ const USER = 2048;
 
 test('a harmless volume is listed', async () => {
     const { files, faults } = await listed(harmlessVolume(30));
-    assert.deepStrictEqual([files, faults], [[{ path: '/FILE', block: 20, size: 5000, fault: '' }], []]);
+    assert.deepStrictEqual([files, faults], [[{ path: '/FILE', block: 20, size: 5000, fault: '', before: 0, record: { block: 18, offset: 34 } }], []]);
 });
 
 test('a sector belongs to one directory only', async () => {

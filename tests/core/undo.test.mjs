@@ -8,7 +8,7 @@ import { RAW, blocksOf, changedImage, countOf, patchedBy, sectorAt, sound, sound
 
 const { undoScript } = await core('undo.js');
 const { compareImages } = await core('compare.js');
-const { Refusal, patchesOf } = await core('script.js');
+const { Refusal, readScript } = await core('script.js');
 const { applyPatches } = await core('patch.js');
 
 const BASE = 60;
@@ -16,8 +16,7 @@ const undone = (image, script, how = {}) => undoScript(calls, readerOf(image), A
 
 /** The image after a script, with what was refused. */
 async function after(image, script, carry) {
-    const patches = await patchesOf(calls, [encoded(script)]);
-    const made = await applyPatches(calls, readerOf(image), patches, BASE, carry);
+    const made = await applyPatches(calls, readerOf(image), await readScript(calls, [encoded(script)]), { base: BASE, carry });
     return { image: joinedPieces(image, made.pieces), text: decoded(made.text) };
 }
 

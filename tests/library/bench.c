@@ -101,6 +101,47 @@ static void sha1_begin(uint8_t n) { hashed.count = n; cdpatch_sha1_begin(&hashed
 static void sha1_2352(uint8_t n) { sector[20] = n; cdpatch_sha1_add(&hashed, sector, sizeof sector); }
 static void sha1_end(uint8_t n) { hashed.count = n; cdpatch_sha1_end(&hashed, text); }
 
+/* A run of that script up to each of its steps: a copy, a sector that is read, the line of the patch, the sector that is written, another copy,
+ * the last line, and the end. */
+enum { STEPS = 7 };
+static struct cdpatch_run run, states[STEPS];
+static size_t moved[STEPS + 1];
+static struct cdpatch_step step;
+static struct cdpatch_rooms rooms;
+static struct cdpatch_entry entries[SECTORS];
+static uint8_t hand[CDPATCH_SECTORS_IN_HAND * CDPATCH_SECTOR_SIZE];
+static const uint8_t many[] = "cdpatch 1\nset 7 5 41\nset 6 5 41\nset 1 5 41\nset 9 5 41\nset 7 6 41\nset 0 5 41\nset 3 5 41\nset 5 5 41\nset 2 5 41\n"
+                              "set 4 5 41\nset 8 5 41\nset 5 6 41\nset 6 6 41\nset 1 6 41\nset 0 6 41\nset 2 6 41\n";
+
+static void next_step(size_t i) {
+    cdpatch_run_next(&run, moved[i], script, sizeof script - 1, entries, SECTORS, hand, CDPATCH_SECTORS_IN_HAND, &rooms, &step);
+}
+static void begin_run(const uint8_t *text, size_t size, uint8_t n) {
+    cdpatch_run_begin(&run, text, size, 0, sizeof image, n % 2, entries, SECTORS);
+}
+static void walk_to_each_step(void) {
+    begin_run(script, sizeof script - 1, 0);
+    for (size_t i = 0; i < STEPS; i++) {
+        states[i] = run;
+        next_step(i);
+        moved[i + 1] = step.size;
+        if (step.kind == CDPATCH_READ)
+            memcpy(hand, image + step.at, step.size);
+    }
+}
+static void step_again(size_t i) {
+    run = states[i];
+    next_step(i);
+}
+static void run_begin_1(uint8_t n) { begin_run(script, sizeof script - 1, n); }
+static void run_begin_16(uint8_t n) { begin_run(many, sizeof many - 1, n); }
+static void run_copy(uint8_t n) { text[0] = n; step_again(0); }
+static void run_read(uint8_t n) { text[0] = n; step_again(1); }
+static void run_log(uint8_t n) { text[0] = n; step_again(2); }
+static void run_write(uint8_t n) { text[0] = n; step_again(3); }
+static void run_last_line(uint8_t n) { text[0] = n; step_again(5); }
+static void run_end(uint8_t n) { text[0] = n; step_again(6); }
+
 /* Of each row its name, its rounds, and the call that they make. */
 static const struct row { const char *name; void (*round)(uint8_t n); const char *call; } rows[] = {
     {"version", version, "version"}, {"result_text", result_text, "result_text"}, {"edc", edc, "edc"}, {"kind", kind, "kind"},
@@ -118,7 +159,9 @@ static const struct row { const char *name; void (*round)(uint8_t n); const char
     {"patch_set_1_carried", patch_set_1_carried, "apply_patch"}, {"patch_set_2043", patch_set_2043, "apply_patch"},
     {"patch_set_4096", patch_set_4096, "apply_patch"}, {"patch_rebuild", patch_rebuild, "apply_patch"},
     {"patch_address", patch_address, "apply_patch"}, {"outcome_line", outcome_line, "outcome_line"}, {"last_line", last_line, "last_line"},
-    {"fault_line", fault_line, "fault_line"}, {"sha1_begin", sha1_begin, "sha1_begin"}, {"sha1_2352", sha1_2352, "sha1_add"},
+    {"run_begin_1", run_begin_1, "run_begin"}, {"run_begin_16", run_begin_16, "run_begin"}, {"run_copy", run_copy, "run_next"},
+    {"run_read", run_read, "run_next"}, {"run_log", run_log, "run_next"}, {"run_write", run_write, "run_next"},
+    {"run_last_line", run_last_line, "run_next"}, {"run_end", run_end, "run_next"}, {"fault_line", fault_line, "fault_line"}, {"sha1_begin", sha1_begin, "sha1_begin"}, {"sha1_2352", sha1_2352, "sha1_add"},
     {"sha1_end", sha1_end, "sha1_end"}, {"list_16", list_16, "list"}, {"audit_16", audit_16, "audit"}, {"check_16", check_16, "check"},
     {"check_all_verbs", check_all_verbs, "check"}, {"apply_16", apply_16, "apply"}, {"apply_all_verbs", apply_all_verbs, "apply"},
 };
@@ -165,6 +208,7 @@ int main(int count, char **arguments) {
     memset(spaces, ' ', sizeof spaces - 1);
     memcpy(longest, "set 0 5 ", 8);
     cdpatch_sha1_begin(&hashed);
+    walk_to_each_step();
     if (count == 2)
         print_stacks();
     for (size_t i = 0; i < ROWS && count != 2; i++) {

@@ -82,6 +82,9 @@ log_of_a_long_image() {
     cmp -s log wanted && [ "$written" = $(($2 * 2352)) ] && [ "$status" = 2 ]
 }
 
+# pipes_a_directory: of which no byte can be read, though it can be opened.
+pipes_a_directory() { ./patch_pipe script < .; }
+
 log_of_a_long_script() {
     local status=0
     truncate -s 67108865 too_long
@@ -111,24 +114,20 @@ test_pipe_example() {
     judge 'it holds no image' pipes_in_memory 2000
     judge 'it fails on a full standard output' ends_with 2 pipes_to_full
     judge 'it fails without a script' ends_with 2 ./patch_pipe nothing
+    judge 'it fails on a directory' ends_with 2 pipes_a_directory
     printf '%s\n' 'cdpatch 1' 'set 999998 0 41' 'set 999999 0 41' 'set 999999 2047 4141' 'set 1000000 0 41' 'set 0 0 41' > late
     judge 'of an image that is too long it prints the patches before the end, and the error' log_of_a_long_image late 999999
     judge 'and so without a patch near the end' log_of_a_long_image none 1000000
     judge 'it refuses a script that is too long' log_of_a_long_script
-    if ! missing objcopy binutils 'a later library'; then
-        later_library
-        gcc -std=c99 -O2 "${strict[@]}" "$top/examples/patch_pipe.c" later.a -o later_pipe 2> errors
-        judge 'it takes a later version of the language' takes_a_later_version ./later_pipe
-        missing python3 python3 'a later library from Python' ||
-            judge 'so does a client by lines in Python' takes_a_later_version_by_lines
-    fi
     if wrong_versions 'wrong examples'; then
-        judge 'one is refused that forgets the patches before the end' wrong_example patch_pipe.c \
-            's/    hand->too_long = \(.*\);/    if (\1) fail("the image has more than 1000000 sectors");/' patch_pipe log_of_a_long_image late \
-            999999
-        judge 'one is refused that decides a patch after the end' wrong_example patch_pipe.c '/^    refuse_a_long_image(hand, /d' \
-            patch_pipe log_of_a_long_image late 999999
-        judge 'one is refused that takes a later version for an error' wrong_later_pipe
+        judge 'one is refused that takes a failed read for the end' wrong_example patch_pipe.c \
+            's/ && !ferror(file)//;s/!feof(stdin)/!feof(stdin) \&\& !ferror(stdin)/' patch_pipe ends_with 2 pipes_a_directory
+        judge 'one is refused that passes on one piece' wrong_example patch_pipe.c 's/while (moved < size/if (moved < size/' patch_pipe \
+            pipes_in_memory 2000
+        judge 'one is refused that holds a whole script of its own size' wrong_example patch_pipe.c 's/PIECE = 65536/PIECE = 16777216/' patch_pipe \
+            pipes_in_memory 2000
+        judge 'one is refused that cuts a script short' wrong_example patch_pipe.c 's/!feof(file) && //;s/<= MOST_SCRIPT_BYTES/< PIECE/' \
+            patch_pipe log_of_a_long_script
     fi
     missing valgrind valgrind 'patch_pipe.c under valgrind' || judge 'valgrind has no complaint about it' eval \
         'valgrind -q --leak-check=full --error-exitcode=9 --log-file=complaints ./patch_pipe script < long > out 2> log; test $? = 1'
@@ -143,21 +142,108 @@ later_library() {
     gcc -shared -Wl,--whole-archive later.a -Wl,--no-whole-archive -o later.so 2> errors
 }
 
-takes_a_later_version() {
+# names_a_later_line PROGRAM: whether patch_map.c, as this program of the later library, reads on after `cdpatch 3`.
+names_a_later_line() {
     printf 'cdpatch 3\naddress 0 12:34:56\n' > later
-    "$1" later < "$vectors" 2> log > out && printf 'line 2: applied\napplied 1 refused 0\n' | cmp -s log -
+    ends_with 2 "$1" later damaged && grep -qx 'patch_map: line 2 of the script names no old bytes' errors
 }
 
-# The same by the calls of the shared library.
+# A client of the later library by lines, in Python.
 takes_a_later_version_by_lines() {
+    printf 'cdpatch 3\naddress 0 12:34:56\n' > later
     PYTHONPATH=$tests/library python3 -B -c 'import sys; from by_lines import run; image = open(sys.argv[1], "rb").read()
 status, log, out = run("./later.so", "apply", image, 0, False, b"cdpatch 3\naddress 0 12:34:56\n")
 sys.exit((status, log, out[12:15]) != (0, b"line 2: applied\napplied 1 refused 0\n", b"\x12\x34\x56"))' "$vectors"
 }
 
-wrong_later_pipe() {
-    sed 's/ && content <= CDPATCH_NO_VERSION//' "$top/examples/patch_pipe.c" > wrong_example.c
-    gcc -std=c99 -O2 -I "$top/include" wrong_example.c later.a -o later_pipe 2> errors && ! takes_a_later_version ./later_pipe
+wrong_later_map() {
+    sed 's/ && content <= CDPATCH_NO_VERSION//' "$top/examples/patch_map.c" > wrong_example.c
+    ! cmp -s "$top/examples/patch_map.c" wrong_example.c &&
+        gcc -std=c99 -O2 -I "$top/include" wrong_example.c later.a -o later_map 2> errors && ! names_a_later_line ./later_map
+}
+
+# maps_as_program STATUS IMAGE WORD..: whether patch_map.c has this status, makes of a copy of the image what `cdpatch apply` does, or
+# leaves it as it is if that status is not 0, and prints its log.
+maps_as_program() {
+    local wanted=$1 image=$2 status=0
+    shift 2
+    cp "$image" mapped
+    chmod u+w mapped
+    rm -f wanted.out
+    "$program" apply "$image" "${*: -1}" wanted.out > wanted || cp "$image" wanted.out
+    ./patch_map "$@" mapped > log 2> errors || status=$?
+    [ "$status" = "$wanted" ] && cmp -s mapped wanted.out && cmp -s log wanted
+}
+
+# keeps_the_file WORD..: whether patch_map.c ends with 2, prints no log, and leaves a file as it is.
+keeps_the_file() {
+    cp long mapped
+    ends_with 2 ./patch_map "$@" && cmp -s long mapped && [ ! -s log ]
+}
+
+# log_of_a_long_map SCRIPT: whether patch_map.c prints what the program does of a blank image that is too long, and writes nothing.
+log_of_a_long_map() {
+    truncate -s 2352000001 too_long
+    "$program" check too_long "$1" > wanted
+    ends_with 2 ./patch_map --without-old "$1" too_long && cmp -s log wanted && [ "$(stat -c %b too_long)" = 0 ]
+}
+
+maps_to_full() { ./patch_map with_old mapped > /dev/full; }
+
+test_map_example() {
+    gcc -std=c99 -O2 "${strict[@]}" "$top/examples/patch_map.c" library/libcdpatch.a -o patch_map 2> errors
+    printf 'cdpatch 1\nset 6 2047 4142 was F668\nset 2 0 41 was FE\nset 2 0 42 was 41' > with_old
+    printf 'cdpatch 1\nset 2 0 41 was FE\nset 5 0 42 was 77\n' > differing
+    printf 'cdpatch 2\nset 2 0 41 was FE\nfill 5 0 9 42\nrebuild 4\n' > filling
+    printf 'cdpatch 1\nset 2 0 41 was FE\nset 1 0 41 was EB\n' > on_damage
+    dd if=/dev/zero bs=2352 count=1 status=none | cat "$vectors" - only_tail > blank_end
+    judge 'examples/patch_map.c patches a file in place' maps_as_program 0 "$vectors" with_old
+    judge 'it leaves a tail as it is' maps_as_program 0 blank_end with_old
+    judge 'it leaves all as it is if a patch is refused' maps_as_program 1 "$vectors" differing
+    judge 'and if a sector is damaged' maps_as_program 1 damaged on_damage
+    judge 'it refuses a line that names no old bytes' keeps_the_file filling mapped
+    judge 'which it says' grep -qx 'patch_map: line 3 of the script names no old bytes' errors
+    judge 'if told it takes such a line' maps_as_program 0 "$vectors" --without-old filling
+    judge 'it prints the error of a script' maps_as_program 2 long invalid
+    judge 'and that of one without a head line' maps_as_program 2 long headless
+    judge 'it takes an empty image' maps_as_program 1 empty with_old
+    judge 'and a script without a patch' maps_as_program 0 empty none
+    judge 'it fails without a script' keeps_the_file nothing mapped
+    judge 'it fails on a pipe' keeps_the_file <(cat with_old) mapped
+    judge 'it fails on other arguments' keeps_the_file --carry with_old mapped
+    judge 'it fails without an image' ends_with 2 ./patch_map with_old nothing
+    judge 'it fails on a full standard output' ends_with 2 maps_to_full
+    judge 'and writes nothing then' cmp -s long mapped
+    judge 'of an image that is too long it prints the patches before the end, and the error' log_of_a_long_map late
+    missing valgrind valgrind 'patch_map.c under valgrind' || judge 'valgrind has no complaint about it' eval \
+        'cp "$vectors" mapped; valgrind -q --error-exitcode=9 --log-file=complaints ./patch_map with_old mapped > log; test $? = 0'
+    test_later_library
+    test_wrong_map
+}
+
+test_later_library() {
+    missing objcopy binutils 'a later library' && return
+    later_library
+    gcc -std=c99 -O2 "${strict[@]}" "$top/examples/patch_map.c" later.a -o later_map 2> errors
+    judge 'it reads a later version of the language' names_a_later_line ./later_map
+    missing python3 python3 'a later library from Python' ||
+        judge 'so does a client by lines in Python' takes_a_later_version_by_lines
+    wrong_versions 'wrong examples' && judge 'one is refused that takes a later version for an error' wrong_later_map
+}
+
+test_wrong_map() {
+    wrong_versions 'wrong examples' || return
+    judge 'one is refused that writes before all is decided' wrong_example patch_map.c 's/CDPATCH_WRITE && writes/CDPATCH_WRITE/' patch_map \
+        maps_as_program 1 "$vectors" differing
+    judge 'one is refused that writes the patches that are not refused' wrong_example patch_map.c '/^    if (status != CDPATCH_DONE)/,+1d' \
+        patch_map maps_as_program 1 "$vectors" differing
+    judge 'one is refused that needs no old bytes' wrong_example patch_map.c 's/ && !patch.has_old//;s/== CDPATCH_PATCH)/== 99)/' patch_map \
+        keeps_the_file filling mapped
+    judge 'one is refused that writes nothing' wrong_example patch_map.c 's/run(script, image, true)/0/' patch_map \
+        maps_as_program 0 "$vectors" with_old
+    judge 'one is refused that takes a pipe for an empty file' wrong_example patch_map.c 's/ || !S_ISREG(about.st_mode)//' patch_map \
+        keeps_the_file <(cat with_old) mapped
+    judge 'one is refused whose log is lost' wrong_example patch_map.c '/^    if (fflush/,+1d' patch_map ends_with 2 maps_to_full
 }
 
 test_examples() {
@@ -167,5 +253,6 @@ test_examples() {
     if compiler gcc 'gcc and libc6-dev'; then
         test_audit_example
         test_pipe_example
+        test_map_example
     fi
 }

@@ -1,58 +1,10 @@
 // Makes the calls that random_calls.c has recorded again by a module: `replay.mjs MODULE < RECORDS`. Prints the first that differ, and how
 // many of each call were made; those that the module has not are passed over.
 
-import { readSync } from 'node:fs';
 import { Calls, Room, Size } from '../wasm/calls.mjs';
+import { Input } from '../wasm/input.mjs';
 
-const CHUNK = 1 << 20;
 const SHOWN = 10;
-
-/** The bytes of the standard input, in their order. */
-class Input {
-    constructor() {
-        this.bytes = new Uint8Array(0);
-        this.at = 0;
-    }
-
-    /** @param {number} size how many bytes are wanted; fewer are left at the end */
-    fill(size) {
-        const parts = [this.bytes.subarray(this.at)];
-        let have = parts[0].length;
-        while (have < size) {
-            const chunk = new Uint8Array(CHUNK);
-            const got = readSync(0, chunk, 0, CHUNK, null);
-            if (got === 0) break;
-            parts.push(chunk.subarray(0, got));
-            have += got;
-        }
-        this.bytes = Buffer.concat(parts);
-        this.at = 0;
-    }
-
-    ended() {
-        if (this.at === this.bytes.length) this.fill(1);
-        return this.bytes.length === 0;
-    }
-
-    /** @param {number} size */
-    take(size) {
-        if (this.bytes.length - this.at < size) this.fill(size);
-        if (this.bytes.length < size) throw new Error('a record is cut off');
-        this.at += size;
-        return this.bytes.subarray(this.at - size, this.at);
-    }
-
-    /** @param {number} size of a number, 1, 4 or 8 bytes */
-    number(size) {
-        return this.take(size).reduceRight((sum, byte) => sum * 256n + BigInt(byte), 0n);
-    }
-
-    name() {
-        let letters = '';
-        for (let code = this.take(1)[0]; code !== 0; code = this.take(1)[0]) letters += String.fromCharCode(code);
-        return letters;
-    }
-}
 
 /** @typedef {{ given: Uint8Array | Room | Size | number, after?: Uint8Array }} Argument */
 
@@ -84,7 +36,7 @@ const input = new Input();
 const made = new Map();
 let [number, differ] = [0, 0];
 for (; !input.ended(); number++) {
-    const name = input.name();
+    const name = input.text(0);
     const taken = Array.from({ length: input.take(1)[0] }, () => argument(input));
     const wanted = input.number(8);
     if (calls.exports[`cdpatch_${name}`] === undefined) continue;

@@ -1,5 +1,5 @@
 /* What the two calls of a run do with any bytes: `run_inputs COUNT [SEED]`. Each byte of a state changed in turn, entries in any order
- * and with any bytes, hands of 0 to 3 sectors, sizes, a script that changes between the calls, any `done`, and eight threads. A run
+ * and with any bytes, hands of 0 to 3 sectors, any sizes, a script that changes between the calls, any `done`, and eight threads. A run
  * ends, with a status of at most 2, and nothing is written outside what was lent: memory ends where no byte may be written. */
 #include "runs.h"
 #include <pthread.h>
@@ -41,12 +41,8 @@ static size_t some_done(uint64_t *dice, size_t size) {
 static bool ends(uint64_t *dice, const struct some_case *it, size_t sectors, bool honest, bool changing) {
     size_t done = 0, room = below(dice, 4) ? SMALL_ROOM : below(dice, SMALL_ROOM + 1);
     for (int steps = 0; steps < MOST_STEPS; steps++) {
-        uint8_t kept = 0;
-        size_t at = it->script_size ? below(dice, (uint32_t)it->script_size) : 0;
-        if (changing && it->script_size && below(dice, 3) == 0) {
-            kept = it->script[at];
-            it->script[at] = (uint8_t)roll(dice);
-        }
+        if (changing && below(dice, 3) == 0)
+            it->script[below(dice, (uint32_t)it->script_size)] = (uint8_t)roll(dice);
         memset(lent.step, 0xA5, sizeof *lent.step);
         cdpatch_run_next(lent.run, done, it->script, it->script_size, lent.entries + (SMALL_ROOM - room), room, lent.hand, sectors,
                          lent.rooms, lent.step);
@@ -64,7 +60,6 @@ static bool ends(uint64_t *dice, const struct some_case *it, size_t sectors, boo
             done = some_done(dice, done);
         else if ((lent.step->kind == CDPATCH_COPY || lent.step->kind == CDPATCH_READ) && lent.step->at + done > it->size)
             done = lent.step->at < it->size ? it->size - lent.step->at : 0;
-        (void)kept;
     }
     return false;
 }
@@ -124,6 +119,19 @@ static void test_hands(const struct some_case *it, uint64_t *dice, unsigned numb
     judge(ends(dice, it, 3, true, true), "a script that changes", number);
 }
 
+/* The sizes of the image and of the script are any. */
+static void test_sizes(const struct some_case *it, uint64_t *dice, unsigned number) {
+    uint64_t sizes[] = {0, 1, it->size + 1, it->size / 2, 2352000000, 2352000001, CDPATCH_UNKNOWN_SIZE, roll(dice)};
+    struct some_case shorter = *it;
+    for (size_t i = 0; i < sizeof sizes / sizeof *sizes; i++) {
+        cdpatch_run_begin(lent.run, it->script, it->script_size, it->base, sizes[i], it->carry, lent.entries, SMALL_ROOM);
+        judge(ends(dice, it, 3, true, false), "another size of the image", number);
+    }
+    begin(it);
+    shorter.script_size = below(dice, (uint32_t)it->script_size);
+    judge(ends(dice, &shorter, 3, true, false), "a script that becomes shorter", number);
+}
+
 static void test_refusals(const struct some_case *it, unsigned number) {
     size_t count = cdpatch_run_begin(lent.run, it->script, it->script_size, 449850, it->size, 0, lent.entries, SMALL_ROOM);
     judge(count == CDPATCH_REFUSED, "a base above 449849", number);
@@ -138,7 +146,7 @@ static void *thread(void *given) {
     uint64_t dice = 7 + *(const unsigned *)given, sum = 0;
     for (unsigned number = 0; number < 60; number++) {
         struct some_case it = case_of(dice, number);
-        struct memory *memory = memory_of(&it, NULL, SMALL_ROOM);
+        struct memory *memory = memory_of(&it, SMALL_ROOM);
         struct made made = {.out = more(NULL, it.size + 1), .log = more(NULL, it.log_room)};
         size_t done = 0, last = 0;
         cdpatch_run_begin(&memory->run, it.script, it.script_size, it.base, it.size, it.carry, memory->entries, SMALL_ROOM);
@@ -183,6 +191,7 @@ int main(int count, char **arguments) {
         uint64_t dice = seed + number;
         test_states(&it, &dice, number);
         test_entries(&it, &dice, number);
+        test_sizes(&it, &dice, number);
         test_hands(&it, &dice, number);
         test_refusals(&it, number);
         free_case(&it);

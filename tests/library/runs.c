@@ -19,12 +19,12 @@ static uint8_t *lent_hand(size_t sectors) {
     return hands[sectors];
 }
 
-/* What a client sees of its image, and what it has made. */
-static struct made run_case(const struct some_case *it, enum client client, const struct cdpatch_entry *lent, size_t room) {
+/* What a client sees of its image, and what it has made; with more flags of a run. */
+static struct made run_case(const struct some_case *it, enum client client, uint32_t more_flags, size_t room) {
     struct made made = {.out = more(NULL, it->size + 1), .log = more(NULL, it->log_room), .status = 99};
-    struct memory *memory = memory_of(it, lent, room);
+    struct memory *memory = memory_of(it, room);
     uint64_t size = client == KNOWN || client == KNOWN_SECTORS ? it->size : CDPATCH_UNKNOWN_SIZE;
-    uint32_t flags = it->carry * CDPATCH_CARRY + (client == PIPE_SECTORS || client == KNOWN_SECTORS) * CDPATCH_NO_COPY;
+    uint32_t flags = it->carry * CDPATCH_CARRY + (client == PIPE_SECTORS || client == KNOWN_SECTORS) * CDPATCH_NO_COPY + more_flags;
     size_t done = 0, last = SIZE_MAX;
     free(memory->hand);
     memory->hand = lent_hand(it->sectors_in_hand);
@@ -68,17 +68,29 @@ static void free_made(struct made *made) {
 
 static void test_case(struct some_case *it, unsigned number) {
     for (int client = PIPE; client <= KNOWN_SECTORS; client++) {
-        struct made made = run_case(it, (enum client)client, NULL, it->room);
+        struct made made = run_case(it, (enum client)client, 0, it->room);
         judge(same_as_applied(it, &made), made.wrong ? made.wrong : "a run is not what cdpatch_apply does", number * 4 + (unsigned)client);
+        free_made(&made);
+    }
+}
+
+/* Without old bytes a script does what it would without naming them. */
+static void test_without_old(struct some_case *it, unsigned number) {
+    struct some_case due = *it;
+    due.script = it->without_old;
+    due.script_size = it->without_old_size;
+    for (int client = PIPE; client <= KNOWN_SECTORS; client++) {
+        struct made made = run_case(it, (enum client)client, CDPATCH_WITHOUT_OLD, it->room);
+        judge(same_as_applied(&due, &made), made.wrong ? made.wrong : "a run compares old bytes", number * 4 + (unsigned)client);
         free_made(&made);
     }
 }
 
 /* Room for fewer entries than there are patches: nothing is begun, and END comes with 2. */
 static void test_room(struct some_case *it, unsigned number) {
-    struct made made = run_case(it, PIPE, NULL, it->room);
+    struct made made = run_case(it, PIPE, 0, it->room);
     for (size_t room = 0; room < made.count && room < 3; room++) {
-        struct made few = run_case(it, PIPE, NULL, room);
+        struct made few = run_case(it, PIPE, 0, room);
         judge(few.count == made.count && few.steps == 0, "a run without room", number);
         free_made(&few);
     }
@@ -133,6 +145,7 @@ int main(int count, char **arguments) {
     for (unsigned number = 0; number < cases; number++) {
         struct some_case it = case_of(seed, number);
         test_case(&it, number);
+        test_without_old(&it, number);
         test_room(&it, number);
         free_case(&it);
     }

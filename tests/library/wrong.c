@@ -386,6 +386,20 @@ size_t cdpatch_run_begin(struct cdpatch_run *run, const uint8_t *script, size_t 
                          struct cdpatch_entry *entries, size_t room) {
     return right_run_begin(run, script, script_size, base, image_size, flags & ~(uint32_t)CDPATCH_CARRY, entries, room);
 }
+#elif defined RUN_BEGIN_TAKES_NO_FLAG_WITHOUT_OLD
+size_t right_run_begin(struct cdpatch_run *run, const uint8_t *script, size_t script_size, uint32_t base, uint64_t image_size, uint32_t flags,
+                       struct cdpatch_entry *entries, size_t room);
+size_t cdpatch_run_begin(struct cdpatch_run *run, const uint8_t *script, size_t script_size, uint32_t base, uint64_t image_size, uint32_t flags,
+                         struct cdpatch_entry *entries, size_t room) {
+    return right_run_begin(run, script, script_size, base, image_size, flags & ~(uint32_t)CDPATCH_WITHOUT_OLD, entries, room);
+}
+#elif defined RUN_BEGIN_COMPARES_NO_OLD_BYTES
+size_t right_run_begin(struct cdpatch_run *run, const uint8_t *script, size_t script_size, uint32_t base, uint64_t image_size, uint32_t flags,
+                       struct cdpatch_entry *entries, size_t room);
+size_t cdpatch_run_begin(struct cdpatch_run *run, const uint8_t *script, size_t script_size, uint32_t base, uint64_t image_size, uint32_t flags,
+                         struct cdpatch_entry *entries, size_t room) {
+    return right_run_begin(run, script, script_size, base, image_size, flags | CDPATCH_WITHOUT_OLD, entries, room);
+}
 #elif defined RUN_BEGIN_LEAVES_ENTRIES_UNSORTED
 size_t right_run_begin(struct cdpatch_run *run, const uint8_t *script, size_t script_size, uint32_t base, uint64_t image_size, uint32_t flags,
                        struct cdpatch_entry *entries, size_t room);

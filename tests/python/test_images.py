@@ -114,6 +114,12 @@ def test_the_message_of_a_failure_is_one_line():
             assert str(failed.value) == text
 
 
+def test_each_sector_is_patched_at_its_place():
+    made = cdpatch.apply(SECTOR * 6 + b'tail', b'cdpatch 1\nset 104 5 4142\nset 101 0 41\n', 100)
+    first, second = cdpatch.with_user(SECTOR, 0, b'A'), cdpatch.with_user(SECTOR, 5, b'AB')
+    assert made == (SECTOR + first + SECTOR * 2 + second + SECTOR + b'tail', 'line 3: applied\nline 2: applied\napplied 2 refused 0\n', False)
+
+
 def test_an_empty_image():
     assert cdpatch.listing(b'') == 'sectors 0 tail 0\n'
     assert cdpatch.audit(b'') == ('sectors 0 mode1 0 damaged 0 tail 0\n', False)

@@ -48,6 +48,17 @@ assert cdpatch.edc(form) == 0
 ''')
 
 
+def test_a_check_reads_of_a_mapped_image_only_what_patches_look_at(image):
+    run(image, '''
+def kilobytes():
+    with open('/proc/self/status') as status:
+        return next(int(line.split()[1]) for line in status if line.startswith('RssFile'))
+before = kilobytes()
+assert cdpatch.check(image, script) == (log, True)
+assert kilobytes() - before < 2000
+''')
+
+
 def test_a_new_image_is_made_in_the_map_that_is_given(image):
     run(image, '''
 import os

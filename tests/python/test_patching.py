@@ -1,6 +1,5 @@
-"""An image patched sector by sector, from a reader to a writer."""
+"""An image patched from a reader to a writer."""
 
-import ctypes
 import io
 import os
 import re
@@ -18,6 +17,8 @@ SECTOR = cdpatch.encode(cdpatch.address(0), bytes(2048))
 IMAGE = SECTOR * 9 + b'tail'
 SCRIPT = b'cdpatch 1\nset 5 2000 ' + b'41' * 4096 + b'\nset 5 1 4243 was 0000\nset 2 0 41\nset 7 0 41\n'
 PATCHED = cdpatch.apply(IMAGE, SCRIPT)
+EACH_SECTOR = b'cdpatch 1\n' + b''.join(b'set %d 0 41\n' % block for block in range(9))
+MOST_HELD = 65536
 PIECES = st.lists(st.integers(1, 5000), min_size=1, max_size=8)
 
 
@@ -101,11 +102,25 @@ def test_patch_agrees_with_the_model_for_any_reader_and_writer(number, read, wri
     assert (int(report.found), report.text.encode(), writer.inner.getvalue()) == (status, text, out)
 
 
-@pytest.mark.parametrize('patches', [b'', b'set 3 0 41\n', b'set 3 2047 ' + b'41' * 4096 + b'\nset 4 0 42\nset 5 0 42\nset 99 0 41\n'])
-def test_no_more_than_three_sectors_are_held(patches):
-    between = Counting(IMAGE)
+@pytest.mark.parametrize('patches', [b'', b'set 3 0 41\n', b'set 3 2047 ' + b'41' * 4096 + b'\nset 4 0 42\nset 5 0 42\nset 999 0 41\n'])
+def test_no_more_than_64_kilobytes_are_held(patches):
+    between = Counting(IMAGE * 20)
     cdpatch.patch(between, b'cdpatch 1\n' + patches, between)
-    assert between.most <= 3 * 2352 and between.held == 0
+    assert between.most <= MOST_HELD and between.held == 0
+
+
+def test_no_more_than_three_sectors_are_held_where_each_is_patched():
+    between = Counting(SECTOR * 100)
+    report = cdpatch.patch(between, b'cdpatch 1\n' + b''.join(b'fill %d 2047 2050 41\n' % block for block in range(100)), between)
+    assert report.text.endswith('applied 98 refused 2\n') and between.most == 3 * 2352 and between.held == 0
+
+
+@pytest.mark.parametrize('taken', [1, 65535])
+def test_a_writer_may_take_less_of_many_bytes_than_it_is_given(taken):
+    writer = InPieces(b'', [taken, 30000, 70000])
+    image = SECTOR * 90 + b'tail'
+    assert cdpatch.patch(io.BytesIO(image), b'cdpatch 1\nset 80 0 41\n', writer).text == 'line 2: applied\napplied 1 refused 0\n'
+    assert writer.inner.getvalue() == cdpatch.apply(image, b'cdpatch 1\nset 80 0 41\n').image
 
 
 def test_a_patch_meets_three_sectors():
@@ -148,13 +163,11 @@ def test_an_invalid_script_is_refused_before_a_byte_is_read(script, text):
     assert str(failed.value) == text
 
 
-def test_a_script_that_is_too_long_is_refused_as_by_check():
+def test_a_script_that_is_too_long_is_refused():
     script = b'#' * 67108865
-    with pytest.raises(cdpatch.Failed) as wanted_fault:
-        cdpatch.check(b'', script)
-    with pytest.raises(cdpatch.Failed) as fault:
-        patched(b'', script)
-    assert str(fault.value) == str(wanted_fault.value)
+    for call in (cdpatch.check, cdpatch.apply, patched):
+        with pytest.raises(cdpatch.Failed, match='^cdpatch: the script is longer than 67108864 bytes$'):
+            call(b'', script)
     with pytest.raises(cdpatch.Failed, match='line 2: no cdpatch 1 line'):
         patched(b'', script[1:])
 
@@ -170,15 +183,12 @@ class Endless:
     """A million blank sectors, and then as many bytes more as are given."""
 
     def __init__(self, more):
-        self.left, self.more, self.sector, self.written = 1000000, more, bytes(2352), 0
+        self.left, self.zeros, self.written = 1000000 * 2352 + more, bytes(MOST_HELD), 0
 
     def read(self, size):
-        self.left -= 1
-        if self.left >= 0:
-            assert size == 2352
-            return self.sector
-        more, self.more = self.more, b''
-        return more
+        size = min(size, self.left)
+        self.left -= size
+        return self.zeros[:size]
 
     def write(self, data):
         self.written += len(data)
@@ -188,16 +198,17 @@ class Endless:
 def test_a_byte_after_the_millionth_sector_is_refused():
     script = b'cdpatch 1\nset 999999 0 41\n'
     refused = 'line 2: refused: block 999999 is not mode 1\napplied 0 refused 1\n'
-    assert cdpatch.patch(Endless(b''), script, Endless(b'')) == (refused, True)
-    with pytest.raises(cdpatch.Failed, match='cdpatch: the image has more than 1000000 sectors$'):
-        cdpatch.patch(Endless(b'x'), script, Endless(b''))
+    assert cdpatch.patch(Endless(0), script, Endless(0)) == (refused, True)
+    for more in (1, 2352, 100000):
+        with pytest.raises(cdpatch.Failed, match='cdpatch: the image has more than 1000000 sectors$'):
+            cdpatch.patch(Endless(more), script, Endless(0))
 
 
 def test_an_image_that_is_too_long_has_the_lines_of_the_patches_before_its_end():
     script = b'cdpatch 1\nset 999998 0 41\nset 999999 0 41\nset 999999 2047 4141\nset 1000000 0 41\nset 0 0 41\n'
-    writer = Endless(b'')
+    writer = Endless(0)
     with pytest.raises(cdpatch.Failed) as failed:
-        cdpatch.patch(Endless(b'x'), script, writer)
+        cdpatch.patch(Endless(1), script, writer)
     assert str(failed.value) == ('line 6: refused: block 0 is not mode 1\nline 2: refused: block 999998 is not mode 1\n'
                                  'line 3: refused: block 999999 is not mode 1\ncdpatch: the image has more than 1000000 sectors')
     assert writer.written == 999999 * 2352
@@ -211,14 +222,15 @@ def test_a_base_that_no_image_has_is_refused_by_patch(base):
 
 
 @pytest.mark.parametrize('first', [0, 3, 8])
-@pytest.mark.parametrize('answer, error', [
-    (lambda size: bytes(size + 1), ValueError), (lambda size: None, BlockingIOError), (lambda size: 'text', TypeError),
-    (lambda size: 5, TypeError), (raising(KeyError('mine')), KeyError)])
-def test_a_reader_that_fails_leaves_a_prefix(first, answer, error):
+@pytest.mark.parametrize('answer, error, text', [
+    (lambda size: bytes(size + 1), ValueError, r'^the reader gave \d+ bytes and not \d+$'),
+    (lambda size: None, BlockingIOError, '^the reader has no bytes yet$'), (lambda size: 'text', TypeError, ''),
+    (lambda size: 5, TypeError, ''), (raising(KeyError('mine')), KeyError, 'mine')])
+def test_a_reader_that_fails_leaves_a_prefix(first, answer, error, text):
     writer = io.BytesIO()
-    with pytest.raises(error):
-        cdpatch.patch(Answering(IMAGE, first, answer), SCRIPT, writer)
-    assert bytes(PATCHED.image).startswith(writer.getvalue())
+    with pytest.raises(error, match=text):
+        cdpatch.patch(Answering(IMAGE, first, answer), EACH_SECTOR, writer)
+    assert cdpatch.apply(IMAGE, EACH_SECTOR).image.startswith(writer.getvalue())
 
 
 @pytest.mark.parametrize('first', [0, 3, 8])
@@ -228,12 +240,14 @@ def test_a_reader_that_fails_leaves_a_prefix(first, answer, error):
 def test_a_writer_that_fails_leaves_a_prefix(first, answer, error):
     writer = Answering(b'', first, answer)
     with pytest.raises(error):
-        cdpatch.patch(io.BytesIO(IMAGE), SCRIPT, writer)
-    assert writer.inner.getvalue() == PATCHED.image[:2352 * first]
+        cdpatch.patch(io.BytesIO(IMAGE), EACH_SECTOR, writer)
+    assert writer.inner.getvalue() == cdpatch.apply(IMAGE, EACH_SECTOR).image[:2352 * first]
 
 
-@pytest.mark.parametrize('image', [b'', b'tail', SECTOR, SECTOR * 3, IMAGE])
-def test_nothing_is_read_after_the_end(image):
+@pytest.mark.parametrize('count', [0, 1, 2, 3, 6, 7, 9])
+@pytest.mark.parametrize('tail', [b'', b'tail'])
+def test_nothing_is_read_after_the_end(count, tail):
+    image = SECTOR * count + tail
     inner, ends = io.BytesIO(image), []
 
     class Once:
@@ -259,27 +273,10 @@ def test_a_script_that_changes_meanwhile_is_refused(line):
             return inner.read(size)
 
     inner = io.BytesIO(IMAGE)
-    with pytest.raises(ValueError, match='^line 3 of the script has changed since it was read$'):
+    with pytest.raises(ValueError, match='^the script has changed since it was read$') as refused:
         cdpatch.patch(Changing(), script, writer)
+    assert refused.type is ValueError
     assert cdpatch.apply(IMAGE, b'cdpatch 1\nset 1 0 41\n').image.startswith(writer.getvalue())
-
-
-def test_a_later_version_of_the_language_is_no_error(monkeypatch):
-    class Later:
-        """A later library, whose scripts may begin with `cdpatch 3`, a language with the verbs of version 2."""
-
-        def __getattr__(self, name):
-            return getattr(library, name)
-
-        def cdpatch_read_line(self, version, number, earlier, place, size, *rooms):
-            if version == 0 and ctypes.string_at(place, size) == b'cdpatch 3':
-                return 256
-            return library.cdpatch_read_line(2 if version == 256 else version, number, earlier, place, size, *rooms)
-
-    library = cdpatch._scripts.library
-    monkeypatch.setattr(cdpatch._scripts, 'library', Later())
-    made, text, _ = patched(IMAGE, b'cdpatch 3\naddress 3 12:34:56\n')
-    assert text == 'line 2: applied\napplied 1 refused 0\n' and made[3 * 2352 + 12:][:3] == b'\x12\x34\x56'
 
 
 def test_a_rebuild_removes_damage_with_carry_too():

@@ -4,6 +4,7 @@ import { readFileSync } from 'node:fs';
 import { setFlagsFromString } from 'node:v8';
 
 const PAGE = 65536;
+const KEPT = 0x5A;
 
 /**
  * A module of a file. Node 18 and 20 take a 64-bit memory only with a flag of their engine.
@@ -68,7 +69,7 @@ export class Calls {
         });
         this.grow(at + 16);
         const memory = new Uint8Array(this.exports.memory.buffer);
-        memory.fill(0x5A, this.start, at + 16);
+        memory.fill(KEPT, this.start, at + 16);
         given.forEach((it, i) => {
             if (it instanceof Room) memory.set(it.bytes, placed[i]);
             if (it instanceof Uint8Array) memory.set(it, placed[i]);
@@ -94,12 +95,45 @@ export class Calls {
         given.forEach((it, i) => {
             const bytes = it instanceof Room ? it.bytes : it;
             if (!(bytes instanceof Uint8Array)) return;
-            if (memory.subarray(kept, placed[i]).some(byte => byte !== 0x5A)) throw new Error('bytes changed between what was passed');
+            if (memory.subarray(kept, placed[i]).some(byte => byte !== KEPT)) throw new Error('bytes changed between what was passed');
             kept = placed[i] + bytes.length;
             const now = memory.subarray(placed[i], kept);
             if (it instanceof Room) it.bytes.set(now);
             else if (Buffer.compare(now, bytes) !== 0) throw new Error('bytes changed that were only to be read');
         });
-        if (memory.subarray(kept, end + 16).some(byte => byte !== 0x5A)) throw new Error('bytes changed after what was passed');
+        if (memory.subarray(kept, end + 16).some(byte => byte !== KEPT)) throw new Error('bytes changed after what was passed');
+    }
+}
+
+/** Memory of a module that is lent for many calls: pieces of these sizes, or with these bytes, each sixteen bytes or more after the last. */
+export class Lent {
+    /**
+     * @param {Calls} calls
+     * @param {(number | Uint8Array)[]} pieces
+     */
+    constructor(calls, pieces) {
+        let at = calls.start;
+        /** @type {[number, number][]} */
+        this.between = [];
+        this.places = pieces.map(piece => {
+            const place = (at + 31) & ~15;
+            this.between.push([at, place]);
+            at = place + (typeof piece === 'number' ? piece : piece.length);
+            return place;
+        });
+        this.between.push([at, at + 16]);
+        calls.grow(at + 16);
+        this.memory = new Uint8Array(calls.exports.memory.buffer);
+        this.memory.fill(KEPT, calls.start, at + 16);
+        pieces.forEach((piece, i) => {
+            if (typeof piece !== 'number') this.memory.set(piece, this.places[i]);
+        });
+    }
+
+    /** Sees that no byte between the pieces has changed. */
+    seeBetween() {
+        for (const [from, to] of this.between) {
+            for (let at = from; at < to; at++) if (this.memory[at] !== KEPT) throw new Error('bytes changed between what was lent');
+        }
     }
 }

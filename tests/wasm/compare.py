@@ -1,5 +1,6 @@
 """Random cases of tests/model by a WebAssembly module in node: `compare.py MODULE [COUNT [SEED]]`. Prints what differs."""
 
+import os
 import sys
 from functools import partial
 from multiprocessing import Pool
@@ -43,8 +44,10 @@ def differs(path, seed, number):
 
 def main(path, count='300', seed='1'):
     judged = partial(differs, str(Path(path).resolve()), seed)
-    with Pool() as pool:
+    with Pool(len(os.sched_getaffinity(0))) as pool:
         lost = [line for line in pool.imap(judged, range(int(count)), chunksize=5) if line]
+        pool.close()
+        pool.join()
     print(*lost[:20], f'{count} cases, {len(lost)} differences', sep='\n')
     return bool(lost)
 

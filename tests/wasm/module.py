@@ -3,6 +3,7 @@
 import json
 import subprocess
 from functools import lru_cache
+from multiprocessing.util import Finalize
 from pathlib import Path
 
 HERE = Path(__file__).resolve().parent
@@ -10,8 +11,10 @@ HERE = Path(__file__).resolve().parent
 
 @lru_cache
 def served(path):
-    """The process that answers for a module, one for each process of the tests."""
-    return subprocess.Popen(['node', str(HERE / 'serve.mjs'), path], stdin=subprocess.PIPE, stdout=subprocess.PIPE)
+    """The process that answers for a module, one for each process of the tests, which waits for it at its own end: so its time is counted."""
+    process = subprocess.Popen(['node', str(HERE / 'serve.mjs'), path], stdin=subprocess.PIPE, stdout=subprocess.PIPE)
+    Finalize(process, process.communicate, exitpriority=0)
+    return process
 
 
 def ask(path, call, *parts, base=0, carry=False, block=0):

@@ -1,96 +1,170 @@
-// What a client makes of a script and an image by the two calls of a run.
+// What a client makes of a script and an image by the two calls of a run. What these are lent stands in the module's memory from the
+// first call to the last.
 
-import { Room, Size } from './calls.mjs';
+import { Lent } from './calls.mjs';
 
 /** @typedef {import('./calls.mjs').Calls} Calls */
 /** @typedef {{ status: number, text: Uint8Array, out: Uint8Array | null }} Answer */
 /** @typedef {{ image: Uint8Array, base: number, carry: boolean, script: Uint8Array }} Given */
-/** @typedef {{ kind: number, status: number, at: number, place: number, size: number, text: Uint8Array }} Step */
+/**
+ * An image that may be read, and where the new one goes.
+ * @typedef {object} Client
+ * @property {number} size of the image
+ * @property {(at: number, size: number) => Uint8Array} read
+ * @property {(at: number, size: number) => void} copy
+ * @property {(at: number, bytes: Uint8Array) => void} write
+ */
+/** @typedef {{ script: Uint8Array, base: number, flags: number, known: boolean }} Asked */
+/** @typedef {{ kind: number, status: number, at: number, place: number, size: number }} Step */
 
 const SECTOR = 2352;
 const SECTORS_IN_HAND = 3;
 const RUN_SIZE = 72;
 const STEP_SIZE = 144;
 const TEXT_AT = 48;
+const LINE_SIZE = 96;
 const ROOMS_SIZE = 8192;
 const ENTRY_SIZE = 20;
-const [END, READ, COPY, WRITE] = [0, 1, 2, 3];
-const [CARRY, NO_COPY] = [1, 2];
+const [END, READ, COPY, WRITE, LOG] = [0, 1, 2, 3, 4];
 const UNKNOWN_SIZE = (1n << 64n) - 1n;
+const FAILED = 2;
+export const [CARRY, NO_COPY] = [1, 2];
 
-/**
- * @param {Room} room
- * @returns {Step}
- */
-function stepOf({ bytes }) {
-    const view = new DataView(bytes.buffer, bytes.byteOffset, bytes.length);
-    const [at, place, size] = [24, 32, 40].map(field => Number(view.getBigUint64(field, true)));
-    return { kind: view.getUint32(0, true), status: view.getUint32(4, true), at, place, size, text: bytes.slice(TEXT_AT, TEXT_AT + Math.min(size, 96)) };
-}
+/** A run of a module, from its beginning. */
+class Run {
+    /**
+     * @param {Calls} calls
+     * @param {Asked} asked
+     * @param {number} size of the image
+     */
+    constructor(calls, asked, size) {
+        this.calls = calls;
+        this.asked = asked;
+        const count = this.begin(size, 0);
+        if (this.begin(size, count) !== count) throw new Error('a script has another number of patches a second time');
+        this.entries = this.lent.memory.slice(this.places[2], this.places[2] + count * ENTRY_SIZE);
+        this.step = new DataView(this.lent.memory.buffer, this.places[5], STEP_SIZE);
+    }
 
-/**
- * Begins a run with as many entries as it takes.
- * @param {Calls} calls
- * @param {Given} given
- * @param {{ known: boolean, copies: boolean }} how
- */
-function begun(calls, { image, base, carry, script }, { known, copies }) {
-    const run = new Room(RUN_SIZE);
-    const flags = (carry ? CARRY : 0) + (copies ? 0 : NO_COPY);
-    for (let room = 0; ;) {
-        const entries = new Room(room * ENTRY_SIZE);
-        const count = Number(calls.call('cdpatch_run_begin', run, script, new Size(script.length), base,
-            new Size(known ? image.length : UNKNOWN_SIZE), flags, entries, new Size(room)));
-        if (count <= room) return { run, entries: entries.bytes, count: room };
-        room = count;
+    /**
+     * Begins with room for so many entries, and returns how many there are.
+     * @param {number} size
+     * @param {number} room
+     */
+    begin(size, room) {
+        const { script, base, flags, known } = this.asked;
+        this.lent = new Lent(this.calls, [RUN_SIZE, script, room * ENTRY_SIZE, SECTORS_IN_HAND * SECTOR, ROOMS_SIZE, STEP_SIZE]);
+        this.places = this.lent.places;
+        const [run, text, entries, hand, rooms, step] = this.places.map(BigInt);
+        const lent = [text, BigInt(script.length), entries, BigInt(room)];
+        this.given = [...lent, hand, BigInt(SECTORS_IN_HAND), rooms, step];
+        this.run = run;
+        return Number(this.calls.exports.cdpatch_run_begin(run, text, BigInt(script.length), base, known ? BigInt(size) : UNKNOWN_SIZE, flags,
+            entries, BigInt(room)));
+    }
+
+    /**
+     * @param {number} done
+     * @returns {Step}
+     */
+    next(done) {
+        this.calls.exports.cdpatch_run_next(this.run, BigInt(done), ...this.given);
+        this.lent.seeBetween();
+        const [at, place, size] = [24, 32, 40].map(field => Number(this.step.getBigUint64(field, true)));
+        return { kind: this.step.getUint32(0, true), status: this.step.getUint32(4, true), at, place, size };
+    }
+
+    /**
+     * So many bytes of the hand.
+     * @param {number} place
+     * @param {number} size
+     */
+    hand(place, size) {
+        if (place + size > SECTORS_IN_HAND * SECTOR) throw new Error('a step moves bytes that are not in the hand');
+        return this.lent.memory.subarray(this.places[3] + place, this.places[3] + place + size);
+    }
+
+    /** @param {number} size */
+    text(size) {
+        if (size > LINE_SIZE) throw new Error('a line is too long');
+        return this.lent.memory.slice(this.places[5] + TEXT_AT, this.places[5] + TEXT_AT + size);
+    }
+
+    /** Sees that script and entries are as they were. */
+    seeGiven() {
+        [this.asked.script, this.entries].forEach((bytes, i) => {
+            const now = this.lent.memory.subarray(this.places[i + 1], this.places[i + 1] + bytes.length);
+            if (Buffer.compare(now, bytes) !== 0) throw new Error('bytes changed that were only to be read');
+        });
     }
 }
 
 /**
- * A run to its end.
+ * A run to its end: its status and its log.
  * @param {Calls} calls
- * @param {Given} given
- * @param {{ known: boolean, copies: boolean }} how
- * @returns {Answer}
+ * @param {Asked} asked
+ * @param {Client} client
  */
-function runOnce(calls, given, how) {
-    const { image, script } = given;
-    const { run, entries, count } = begun(calls, given, how);
-    const [hand, rooms, step] = [new Room(SECTORS_IN_HAND * SECTOR), new Room(ROOMS_SIZE), new Room(STEP_SIZE)];
-    /** @type {{ log: Uint8Array[], out: Uint8Array[] }} */
-    const made = { log: [], out: [] };
-    let [came, done] = [0, 0];
+export function runOnce(calls, asked, client) {
+    const run = new Run(calls, asked, client.size);
+    /** @type {Uint8Array[]} */
+    const log = [];
+    let [came, sent, done] = [0, 0, 0];
     for (;;) {
-        calls.call('cdpatch_run_next', run, new Size(done), script, new Size(script.length), entries, new Size(count), hand,
-            new Size(SECTORS_IN_HAND), rooms, step);
-        const { kind, status, at, place, size, text } = stepOf(step);
-        if (kind === END) return { status, text: Buffer.concat(made.log), out: status === 2 ? null : Buffer.concat(made.out) };
-        done = size;
-        if (kind === READ || kind === COPY) {
-            if (at !== came || (kind === COPY && !how.copies)) throw new Error('a run asks for other bytes than the next');
-            const bytes = image.subarray(at, Math.min(at + size, image.length));
-            if (kind === READ) hand.bytes.set(bytes, place);
-            else made.out.push(bytes.slice());
-            done = bytes.length;
-            came += done;
-        } else if (kind === WRITE) made.out.push(hand.bytes.slice(place, place + size));
-        else made.log.push(text);
+        const { kind, status, at, place, size } = run.next(done);
+        if (kind === END) {
+            run.seeGiven();
+            if (status !== FAILED && sent !== client.size) throw new Error('a run ends before its image');
+            return { status, text: Buffer.concat(log) };
+        }
+        const left = Math.min(size, client.size - at);
+        if (size === 0 || (asked.known && kind !== LOG && left < size)) throw new Error('a step moves bytes that are not there');
+        if ((kind === READ || kind === COPY) && at !== came) throw new Error('a run asks for other bytes than the next');
+        if ((kind === WRITE || kind === COPY) && at !== sent) throw new Error('a run passes on other bytes than the next');
+        done = kind === READ || kind === COPY ? left : size;
+        if (kind === READ) run.hand(place, size).set(client.read(at, left));
+        else if (kind === COPY) client.copy(at, left);
+        else if (kind === WRITE) client.write(at, run.hand(place, size));
+        else log.push(run.text(size));
+        if (kind === READ || kind === COPY) came += done;
+        if (kind === WRITE || kind === COPY) sent += done;
     }
 }
 
 /**
- * By a run, of which the size is known or not, and with COPY and without; all have to make the same as `due`.
+ * A client of an image in memory, and the bytes that it has passed on.
+ * @param {Uint8Array} image
+ * @param {boolean} copies whether it may be asked to copy
+ */
+function inMemory(image, copies) {
+    const out = new Uint8Array(image.length);
+    /** @type {Client} */
+    const client = {
+        size: image.length,
+        read: (at, size) => image.subarray(at, at + size),
+        copy: (at, size) => {
+            if (!copies) throw new Error('a run copies, though it may not');
+            out.set(image.subarray(at, at + size), at);
+        },
+        write: (at, bytes) => out.set(bytes, at),
+    };
+    return { client, out };
+}
+
+/**
+ * By runs of which the size is known or not, and with COPY and without; all have to make the same as `due`.
  * @param {Calls} calls
  * @param {Given} given
  * @param {Answer} due
+ * @param {number} flags more of them
  */
-export function sameByRuns(calls, given, due) {
+export function sameByRuns(calls, { image, base, carry, script }, due, flags = 0) {
     for (const known of [false, true]) for (const copies of [false, true]) {
-        const got = runOnce(calls, given, { known, copies });
-        if (got.status !== due.status || Buffer.compare(got.text, due.text) !== 0) throw new Error('a run prints another log than its patches');
-        if ((got.out === null) !== (due.out === null) || (got.out && due.out && Buffer.compare(got.out, due.out) !== 0)) {
-            throw new Error('a run makes another image than its patches');
-        }
+        const { client, out } = inMemory(image, copies);
+        const asked = { script, base, flags: flags + (carry ? CARRY : 0) + (copies ? 0 : NO_COPY), known };
+        const { status, text } = runOnce(calls, asked, client);
+        if (status !== due.status || Buffer.compare(text, due.text) !== 0) throw new Error('a run prints another log than is due');
+        if (due.out && Buffer.compare(out, due.out) !== 0) throw new Error('a run makes another image than is due');
     }
     return due;
 }

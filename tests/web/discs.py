@@ -59,6 +59,11 @@ def written(**files: bytes | str) -> dict[str, Path]:
     return paths
 
 
+def many_texts() -> bytes:
+    """An image in which スタート stands 400 times."""
+    return image_of([b'.' * 24 + (START + b'\0').ljust(18, b'.') * 100 for _ in range(4)])
+
+
 def scratched() -> bytes:
     """The game with a damaged sector."""
     return damaged(game(), first_block() + 1)

@@ -17,6 +17,21 @@ test('a hit is in the script if a line writes any byte of it, over a border of b
     assert.deepEqual(asked.map(it => places.lineAt(hit(...it))), [0, 3, 3, 0, 0, 4, 5, 0, 0]);
 });
 
+test('of many bytes of a block the last lines before others that write them are found with a look at each line', () => {
+    const script = Array.from({ length: 600 }, (_, i) => `${i % 3 ? 'set' : '# set'} ${6 + i % 2} ${(i * 37) % 2048} ${'41'.repeat(1 + i % 90)}`);
+    const places = placesInScript(script.join('\n'));
+    const asked = Array.from({ length: 500 }, (_, i) => ({ line: 100 + i, offset: (i * 53) % 2048 }));
+    const naive = ({ line, offset }) => placesInScript(script.slice(0, line - 1).join('\n')).lineAt({ block: 7, offset, size: 1 });
+    const due = asked.map(naive);
+    let looks = 0;
+    const counting = { get: (list, name) => { looks += Number(name !== 'length'); return list[name]; } };
+    places.blocks.set(7, new Proxy(places.blocks.get(7), counting));
+    assert.deepEqual(places.linesBefore(7, asked), due);
+    assert.ok(due.some(it => it > 0) && due.some(it => it === 0));
+    assert.ok(looks < 3 * (asked.length + 600), `${looks} looks`);
+    assert.deepEqual(places.linesBefore(99, asked.slice(0, 2)), [0, 0]);
+});
+
 test('a line that writes just a hit is written anew with its old bytes', () => {
     const fresh = Uint8Array.of(0x53, 0x54);
     const lines = ['set 5 6 4142 was 8358', ' set  5 6 4142\r', 'set 5 6 414243 was 835841', 'set 5 7 4142', 'fill 5 6 2 20', '# set 5 6 4142'];

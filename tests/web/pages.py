@@ -12,9 +12,12 @@ import common
 
 NO_PICKER = 'delete window.showSaveFilePicker'
 
-# A chosen file that is written in memory: `failing` is the write that fails, from 0, or -1; writes that `hold` holds wait for `release`.
+# A chosen file that is written in memory: `failing` is the write that fails, from 0, or -1; writes that `hold` holds wait for `release`, and
+# after `pickLater` the user chooses at `pick`.
 PICKER = '''
 globalThis.chosen = { writes: [], state: 'none', failing: -1, held: null, begun: 0, own: null, removed: false, asked: 0,
+    picked: null,
+    pickLater() { this.picked = new Promise(done => { this.pick = done; }); },
     hold() { this.held = new Promise(done => { this.release = done; }); },
     async bytes() {
         const bytes = new Uint8Array(this.writes.reduce((size, { position, data }) => Math.max(size, position + (data.size ?? data.length)), 0));
@@ -23,6 +26,7 @@ globalThis.chosen = { writes: [], state: 'none', failing: -1, held: null, begun:
     } };
 globalThis.showSaveFilePicker = async ({ suggestedName }) => {
     chosen.asked += 1;
+    await chosen.picked;
     if (chosen.none) throw new DOMException('nothing was chosen', 'AbortError');
     return {
         name: suggestedName,

@@ -9,7 +9,7 @@ const { isPatched, judgeImage } = await page('player_verdict.js');
 const { reasonOf, reasonsOf } = await page('player_reason.js');
 const { applyPatches } = await page('../core/patch.js');
 const { bytesOfPieces } = await page('../core/bytes.js');
-const { readPatches } = await page('patch_job.js');
+const { scriptFor } = await page('patch_job.js');
 
 const app = { calls, parts };
 const ascii = text => new TextEncoder().encode(text);
@@ -17,7 +17,7 @@ const game = imageOf([ascii('hello'), ascii('world'), ascii('again')]);
 
 /** The image that a script makes. */
 async function patchedBy(script, image = game) {
-    const { pieces, status } = await applyPatches(calls, image.reader, await readPatches(app, script), 0, false);
+    const { pieces, status } = await applyPatches(calls, image.reader, await scriptFor(app, script, 0), { base: 0 });
     assert.equal(status, 0);
     const parts = [];
     for await (const bytes of bytesOfPieces(image.reader, pieces)) parts.push(...bytes);

@@ -4,7 +4,7 @@ import assert from 'node:assert/strict';
 import { test } from 'node:test';
 import { calls, imageOf, page } from './page.mjs';
 
-const { patchesNear, sectorBytes } = await page('sector_bytes.js');
+const { scriptNear, sectorBytes } = await page('sector_bytes.js');
 const image = imageOf(Array.from({ length: 6 }, () => new Uint8Array(4)));
 
 async function userAfter(script, block) {
@@ -26,7 +26,8 @@ test('a long script shows what it does to a sector as a short one does', async (
 
 test('only patches near the block are read, by the version of the head line', () => {
     const script = '# note\ncdpatch 2\naddress 5 00:02:09\nset 1 0 41\nset 2 0 41\nset 4 0 41\nset 5 0 41\ncdpatch 1\n';
-    assert.deepEqual(patchesNear(calls, script, 4).map(it => it.block), [2, 4]);
-    assert.deepEqual(patchesNear(calls, script, 5).map(it => it.block), [4, 5, 5]);
-    assert.deepEqual(patchesNear(calls, script.replace('2', '1'), 5).map(it => it.block), [4, 5]);
+    assert.equal(scriptNear(calls, script, 4), 'cdpatch 2\nset 2 0 41\nset 4 0 41\n');
+    assert.equal(scriptNear(calls, script, 5), 'cdpatch 2\naddress 5 00:02:09\nset 4 0 41\nset 5 0 41\n');
+    assert.equal(scriptNear(calls, script.replace('2', '1'), 5), 'cdpatch 1\nset 4 0 41\nset 5 0 41\n');
+    assert.equal(scriptNear(calls, script, 9), '');
 });

@@ -1,4 +1,4 @@
-// What the page knows: typed bytes and lines of the script, and what Cancel ends.
+// What the page knows: typed bytes and lines of the script, and what ends its jobs.
 
 import assert from 'node:assert/strict';
 import { test } from 'node:test';
@@ -27,21 +27,25 @@ test('a job with the second image ends with it, and the next one goes on', async
     await Promise.all(jobs);
     assert.equal(ended.length, 2);
     begin();
-    assert.equal(app.jobs.length, 1);
-    assert.equal(app.jobs[0].signal.aborted, false);
+    assert.equal(ended.length, 2);
 });
 
-test('Cancel ends the job that began last, and then the reading of the image', async () => {
+test('saves are counted until they end, and nothing but their Cancel ends them', async () => {
     const app = new App(null, null, null);
-    assert.equal(app.cancel(), false);
-    app.survey = { over: false };
-    const signals = [];
-    const job = app.run(async signal => {
-        signals.push(signal);
-        assert.equal(app.cancel(), true);
-    });
-    assert.deepEqual([signals[0].aborted, app.reading.signal.aborted], [true, false]);
-    await job;
-    assert.equal(app.cancel(), true);
-    assert.equal(app.reading.signal.aborted, true);
+    const ends = [];
+    const save = () => app.runSave((signal, cancel) => new Promise((done, fail) => {
+        signal.addEventListener('abort', () => fail(new Error('cancelled')));
+        ends.push({ signal, cancel, done });
+    }));
+    const saves = [save(), save()];
+    assert.equal(app.saves, 2);
+    app.endPairing();
+    app.closing.abort();
+    assert.deepEqual(ends.map(({ signal }) => signal.aborted), [false, false]);
+    ends[0].cancel();
+    await assert.rejects(saves[0], /cancelled/);
+    assert.equal(app.saves, 1);
+    ends[1].done();
+    await saves[1];
+    assert.equal(app.saves, 0);
 });

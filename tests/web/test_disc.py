@@ -264,13 +264,30 @@ class Disc(unittest.TestCase):
         browser.give('#files', [file_of(discs.game() * 120)])
         browser.wait(VERDICT, 'Reading the disc')
         browser.press(Keys.ESCAPE)
+        browser.run("document.querySelector('#disc-line .lead button').focus()")
+        browser.wait(VERDICT, 'Reading the disc')
+        browser.press(Keys.ESCAPE)
         browser.wait(VERDICT, 'and no further')
+        browser.wait('#disc-line .sha-wait', 'not\u00a0known')
         browser.click('#tab-publish')
         browser.wait('#panel-publish', 'The image was not read to its end.')
         browser.click('#tab-disc')
         browser.run('globalThis.slow = false')
         browser.click(f'{VERDICT} button')
         browser.wait(VERDICT, 'Mode 1 sectors fit')
+
+    def test_the_hashes_are_calculated_beside_the_survey(self) -> None:
+        browser = self.browser
+        browser.run('''const post = Worker.prototype.postMessage; globalThis.late = [];
+            Worker.prototype.postMessage = function (...given) {
+                if (given[0].pieces && late) late.push(() => post.apply(this, given));
+                else post.apply(this, given);
+            }''')
+        browser.give('#files', [file_of(discs.game())])
+        browser.wait('.sha1', sha1(discs.game()))
+        browser.wait(VERDICT, 'Reading the disc: 0 %')
+        browser.run('const [first] = [late]; late = null; first.forEach(it => it())')
+        browser.wait(VERDICT, 'Mode 1 sectors are sound')
 
     def test_the_line_of_the_disc_keeps_its_controls_while_it_is_read(self) -> None:
         browser = self.browser

@@ -261,7 +261,7 @@ class Script(PageTest):
         self.open_script(files['english'])
         self.browser.run(GATE)
         self.press('Make the undo script')
-        self.browser.wait('#messages .progress')
+        self.browser.wait('#panel-script .progress')
         self.press('Cancel')
         self.browser.run('openGate()')
         self.browser.wait('#messages .say', 'No undo script was made.')

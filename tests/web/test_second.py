@@ -1,5 +1,6 @@
 """A second image: repair from it, compare with it, or open it instead. What is saved is compared with what the program says of it."""
 
+import math
 import random
 import unittest
 from pathlib import Path
@@ -7,7 +8,6 @@ from pathlib import Path
 import chromium
 import discs
 from common import PAGE, SECTOR_SIZE, damaged, folder, run_program, sector, sha1, waited
-from pages import PICKER, PageTest
 
 AUDIO = random.Random(8).randbytes(30 * SECTOR_SIZE)
 SECTORS = len(discs.game()) // SECTOR_SIZE + 30
@@ -198,20 +198,27 @@ class Second(unittest.TestCase):
             self.assertLessEqual(self.browser.wider(width), 0, width)
         self.assertEqual(self.browser.attempts(), [])
 
-
-class SecondSaved(PageTest):
-    stub = PICKER
-
-    def test_to_close_the_second_image_ends_the_saving_of_the_repaired_one(self) -> None:
-        files = discs.written(game=with_faults((40, 9)), other=with_faults())
-        self.open_image(files['game'])
-        self.open_files(files['other'])
-        self.browser.run('chosen.hold()')
-        self.press('Save repaired image')
-        waited(lambda: self.browser.run('return chosen.begun > 0'), 'nothing was written')
-        self.assertTrue(self.browser.asks_before_leaving())
+    def test_what_is_compared_ends_with_the_second_image(self) -> None:
+        browser = self.browser
+        place = folder('pair')
+        for name in ('game.bin', 'other.bin'):
+            (place / name).write_bytes(discs.game() * 300)
+        browser.give('#files', [place / 'game.bin'])
+        browser.wait('#disc-line .lead', 'Mode 1 sectors fit')
+        browser.run('''const post = Worker.prototype.postMessage; Object.assign(globalThis, { late: [], ranges: 0 });
+            Worker.prototype.postMessage = function (...given) {
+                globalThis.ranges += Number(Boolean(given[0].pieces));
+                if (given[0].pieces && late) late.push(() => post.apply(this, given));
+                else post.apply(this, given);
+            }''')
+        browser.give('#files', [place / 'other.bin'])
+        browser.wait('#second-body .progress')
+        waited(lambda: browser.run('return ranges > 0'), 'nothing is compared')
         self.press('Close it')
-        self.browser.run('chosen.release()')
-        waited(lambda: self.browser.run('return chosen.removed'), 'the file is kept')
-        self.assertEqual(self.browser.run('return chosen.state'), 'aborted')
-        self.assertFalse(self.browser.asks_before_leaving())
+        begun = browser.run('const [first] = [late]; late = null; first.forEach(it => it()); return first.length')
+        browser.click('#tab-text')
+        browser.type('#find-text', 'no such text')
+        browser.run("[...document.querySelectorAll('#panel-text button')].find(it => it.innerText === 'Find').click()")
+        browser.wait('#panel-text .say', 'No hit')
+        found = math.ceil(300 * (SECTORS - 30) / 1024)
+        self.assertLessEqual(browser.run('return ranges') - found, begun + 1)

@@ -4,26 +4,27 @@ import { Fault } from '../core/faults.js';
 import { ENCODINGS, encodingOf } from '../core/text.js';
 import { bytesOfHex } from '../core/texts/hex.js';
 import { FORMS, OPTION_FORMS } from './forms.js';
-import { LAST_BASE, MOST_BLOCKS, numberOf } from './numbers.js';
+import { LAST_BASE } from '../core/sector.js';
+import { MOST_BLOCKS, numberOf } from './numbers.js';
 import { didYouMean } from './suggesting.js';
 
 /**
  * The options that were given, by their names in OPTION_FORMS.
  * @typedef {{ base?: number, track?: number, limit?: number, first?: number, fill?: Uint8Array, encoding?: string, table?: string,
  *     output?: string, carry?: boolean, long?: boolean, skipDamaged?: boolean, partial?: boolean, all?: boolean, inside?: boolean,
- *     list?: string, csv?: boolean, in?: string, min?: number, fields?: boolean, help?: boolean, version?: boolean, notices?: boolean,
- *     dat?: string[], resume?: string }} Options
+ *     loose?: boolean, list?: string, csv?: boolean, in?: string[], min?: number, fields?: boolean, help?: boolean, version?: boolean,
+ *     notices?: boolean, dat?: string[], resume?: string }} Options
  */
 /** @typedef {{ job: string, names: string[], options: Options }} Given */
 
 /** Options of which only one is given. */
 const EXCLUDING = [
     ['encoding', 'table'], ['fields', 'skipDamaged'], ['fields', 'partial'], ['skipDamaged', 'partial'],
-    ['list', 'all'], ['list', 'inside'],
+    ['list', 'all'], ['list', 'inside'], ['list', 'loose'],
 ];
 
 /** Options that may be given several times. */
-const REPEATED = ['dat'];
+const REPEATED = ['dat', 'in'];
 
 const LAST_TRACK = 99;
 

@@ -130,8 +130,8 @@ export const auditJob = asProgram(run => report(run, auditText, 'survey'));
 async function scriptNamed(run) {
     const pieces = run.files.piecesOf(run.names[1]);
     const script = await orSay(OF_SCRIPTS, () => readScript(run.calls, pieces, run.options.long));
-    if (!(script instanceof Refusal)) return script;
-    throw new ProgramFault(script.reason === 'too-long' ? MESSAGES.long_script : script.text);
+    if (script instanceof Refusal) throw new ProgramFault(script.text);
+    return script;
 }
 
 /**
@@ -152,10 +152,11 @@ async function imageForScript(run, { bases }) {
  * @param {ReadScript} script
  * @param {(piece: Piece) => void | Promise<void>} [take]
  */
-async function patch(run, { reader, base }, { patches }, take) {
+async function patch(run, { reader, base }, script, take) {
     const { carry = false } = run.options;
-    if (imageTooLong(reader.size)) throw new ProgramFault(MESSAGES.long_image);
-    const made = await orSay(OF_IMAGES, () => passPatched(run.calls, run.watched(reader), patches, base, carry, take));
+    const taken = imageTooLong(reader.size) ? undefined : take; // of such an image nothing is written, only said
+    const made = await orSay(OF_IMAGES, () => passPatched(run.calls, run.watched(reader), script, { base, carry }, taken));
+    if (made.status === STATUS.FAILED) throw new ProgramFault(made.text);
     await run.output.write(made.text);
     run.output.flush();
     return made.status;

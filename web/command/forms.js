@@ -29,9 +29,10 @@ export const OPTION_FORMS = {
     fill: { word: '--fill', value: 'HEX', does: 'fill up with these bytes, as 20 or 8140' },
     all: { word: '--all', value: '', does: 'replace the text at all places, 1000000 at most' },
     inside: { word: '--inside', value: '', does: 'also where it may begin in the middle of a character' },
+    loose: { word: '--loose', value: '', does: 'take half-width and full-width, and both cases, as one' },
     list: { word: '--list', value: 'FILE', does: 'replace what this table says, in TSV or CSV' },
     csv: { word: '--csv', value: '', does: 'print CSV, as spreadsheets open it, and not TSV' },
-    in: { word: '--in', value: 'PATH', does: 'look only into this file or directory of the disc' },
+    in: { word: '--in', value: 'PATH', does: 'look only into this file or directory; may be given again' },
     min: { word: '--min', value: 'N', does: 'print texts of N characters or more; the default is 2' },
     limit: { word: '--limit', value: 'N', does: 'print the first N hits; the default is 1000' },
     first: { word: '--first', value: 'BLOCK', does: 'the block of the first sector; the default is 0' },
@@ -99,17 +100,18 @@ export const FORMS = {
         example: 'cdscript files game.cue -o files.tsv',
     },
     'find': {
-        job: findJob, takes: ['IMAGE', 'TEXT'], options: ['encoding', 'table', 'limit', 'track', 'base', 'output'],
+        job: findJob, takes: ['IMAGE', 'TEXT'], options: ['encoding', 'table', 'loose', 'limit', 'track', 'base', 'output'],
         says: 'Find a text in the user data of a disc',
         does: 'Prints block, offset, bytes, file with the place in it, and the text around, with tabs between. Without an encoding ' +
             'those are searched that Japanese discs have. Status: 0 found, 1 not found, 2 failed',
         example: "cdscript find game.cue 'press start' --encoding CP932",
     },
     'texts': {
-        job: textsJob, takes: ['IMAGE'], options: ['encoding', 'in', 'min', 'csv', 'track', 'base', 'output'],
-        says: 'Print a table of all Japanese texts of a disc',
+        job: textsJob, takes: ['IMAGE'], options: ['encoding', 'table', 'in', 'min', 'csv', 'track', 'base', 'output'],
+        says: 'Print a table of all texts of a disc',
         does: 'Its columns are block, offset, bytes, room, encoding, file, text, and an empty one for what replace --list takes. What is ' +
-            'no text is kept out by how likely it is. Status: 0 done, 1 none found, 2 failed',
+            'no text is kept out by how likely it is. Without an encoding those of Japanese discs are looked for. Status: 0 done, 1 none ' +
+            'found, 2 failed',
         example: 'cdscript texts game.cue -o texts.tsv',
     },
     'show': {
@@ -125,7 +127,8 @@ export const FORMS = {
     },
     'replace': {
         job: replaceJob, takes: ['IMAGE', '[BLOCK OFFSET]', 'OLD', 'NEW'],
-        instead: { list: ['IMAGE'] }, options: ['encoding', 'table', 'fill', 'all', 'inside', 'list', 'partial', 'track', 'base', 'output'],
+        instead: { list: ['IMAGE'] },
+        options: ['encoding', 'table', 'loose', 'fill', 'all', 'inside', 'list', 'partial', 'track', 'base', 'output'],
         says: 'Write the script that replaces a text',
         does: 'Without BLOCK and OFFSET it finds the text OLD, which has to stand at one place, unless --all is given. A shorter NEW is ' +
             'filled up, with spaces, or 00 for hex, if --fill is not given; a longer one is refused. With --list the ' +
@@ -138,8 +141,8 @@ export const FORMS = {
         job: replaceFileJob, takes: ['IMAGE', 'PATH', 'FILE'], options: ['fill', 'track', 'base', 'output'],
         own: { fill: 'fill up with this byte, as 20' },
         says: 'Write the script that replaces a file of a disc',
-        does: 'A shorter FILE is filled up with one byte over and over, 00 or that of --fill; a longer one is refused. The length of the ' +
-            'file on the disc stays.',
+        does: 'FILE may have as many bytes as the sectors of the file, whose length on the disc changes too; the rest becomes 00. With ' +
+            '--fill the length stays, and a shorter FILE is filled up.',
         example: 'cdscript replace-file game.cue /DATA/TEXT.BIN text.bin -o new.txt',
     },
     'diff': {

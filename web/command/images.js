@@ -128,9 +128,11 @@ export async function userJob(run) {
 export async function extractJob(run) {
     const out = await run.files.make(run.names[2]);
     const { part } = await openTrack(run, run.names[0]);
-    const { path, block, size, fault } = await fileNamed(part, run.names[1]);
-    if (fault !== '') throw new Fault(`${path}: ${fault}`);
-    const [first, count] = [block - part.base, Math.ceil(size / USER_SIZE)];
-    const has = await writeUser(run, out, sliceOf(part.reader, first * SECTOR_SIZE, (first + count) * SECTOR_SIZE), block, size);
+    let has = false;
+    for (const { block, size } of (await fileNamed(part, run.names[1])).extents) {
+        const [first, count] = [block - part.base, Math.ceil(size / USER_SIZE)];
+        const sectors = sliceOf(part.reader, first * SECTOR_SIZE, (first + count) * SECTOR_SIZE);
+        has = await writeUser(run, out, sectors, block, size) || has;
+    }
     return Number(has);
 }

@@ -5,7 +5,7 @@ import { Fault } from '../core/faults.js';
 import { ScriptParts } from '../core/output.js';
 import { encodingOf, textOfFile } from '../core/text.js';
 import { listRows, replacedRows } from '../core/texts/list.js';
-import { openTrack } from './opening.js';
+import { openTexts } from './looking.js';
 import { assertFits, writeScript } from './scripts.js';
 import { encodingsOf } from './searching.js';
 import { sayOfRuns } from './words.js';
@@ -35,7 +35,7 @@ async function rowsIn(run, name) {
 export async function replaceListJob(run, list) {
     const { fill = null, partial, encoding, table } = run.options;
     const target = await run.target();
-    const { image, part } = await openTrack(run, run.names[0]);
+    const { image, part } = await openTexts(run, run.names[0]);
     const given = await encodingsOf(run);
     const encodingsFor = (/** @type {string} */ name) => {
         const named = encoding === undefined && table === undefined && name !== '' ? encodingOf(name) : null;

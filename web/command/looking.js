@@ -3,11 +3,12 @@
 import { bytesOfLines } from '../core/bytes.js';
 import { sectorsOfRange } from '../core/edit.js';
 import { Fault } from '../core/faults.js';
-import { VolumeFault, filesOf } from '../core/iso.js';
+import { fileOrder } from '../core/file_order.js';
+import { VolumeFault, filesOf, wholeFile } from '../core/iso.js';
 import { kindName } from '../core/records.js';
 import { FIELDS, USER_SIZE, addressIn, addressText } from '../core/sector.js';
 import { LONGEST_CHARACTER, LOOKED_BACK, bytesInside, charactersFrom } from '../core/texts/boundaries.js';
-import { bytesAround, contextOf, filesWith } from '../core/texts/context.js';
+import { FilesAlong, bytesAround, contextsOf } from '../core/texts/context.js';
 import { hexText } from '../core/texts/hex.js';
 import { placeOf } from './numbers.js';
 import { openTrack } from './opening.js';
@@ -20,7 +21,9 @@ import { visible } from './words.js';
 /** @typedef {import('../core/iso.js').FileEntry} FileEntry */
 /** @typedef {import('../core/texts/encoding.js').Encoding} Encoding */
 /** @typedef {import('../core/texts/find.js').Hit} Hit */
+/** @typedef {import('../core/texts/context.js').Context} Context */
 /** @typedef {import('./run.js').Run} Run */
+/** @typedef {import('./run.js').Target} Target */
 
 const DEFAULT_LIMIT = 1000;
 
@@ -29,16 +32,15 @@ const ROW = 16;
 const SHOWN = 128;
 
 /**
- * The file of a path. Throws a Fault if there is none.
+ * The file of a path, and what names the files of its volume. Throws a Fault if there is none.
  * @param {DiscImage} part
  * @param {string} path
  */
 export async function fileNamed(part, path) {
-    const { files } = await filesOf(part.reader, part.base);
+    const { files, ...names } = await filesOf(part.reader, part.base);
     const rooted = (/** @type {string} */ name) => `/${name}`.replace(/^\/+/, '/');
     const named = files.filter(file => [file.path, visible(file.path)].map(rooted).includes(rooted(path)));
-    if (named.length === 1) return named[0];
-    if (named.length > 1) throw new Fault(`${path} has ${named.length} parts`);
+    if (named.length > 0) return { ...wholeFile(named), names };
     const meant = nearest(rooted(path), files.map(file => rooted(file.path)));
     throw new Fault(`there is no file ${path}; ${meant === null ? 'cdscript files lists them' : `there is ${meant}`}`);
 }
@@ -70,38 +72,73 @@ export async function filesIfAny(part) {
 }
 
 /**
+ * The data track that a job means, as `openTrack` gives it, whose texts are read in the order of its files; and these.
+ * @param {Run} run
+ * @param {string} name
+ * @param {boolean} [whole]
+ */
+export async function openTexts(run, name, whole) {
+    const { image, part, ...opened } = await openTrack(run, name, whole);
+    const found = await filesIfAny(part);
+    const inOrder = (/** @type {DiscImage} */ it) => ({ ...it, order: fileOrder(it, found.files) });
+    return { ...opened, image: inOrder(image), part: inOrder(part), ...found };
+}
+
+/**
  * The files in which a place lies, with how many of their bytes are before it.
- * @param {FileEntry[]} files
+ * @param {FilesAlong} files
  * @param {Place} place
  */
 function filesText(files, place) {
-    return filesWith(files, place).map(({ path, at }) => `${visible(path)}+${at}`).join(' ') || '-';
+    return files.with(place).map(({ path, at }) => `${path}+${at}`).join(' ') || '-';
+}
+
+/**
+ * The files as they are printed, for places one after the other.
+ * @param {FileEntry[]} files
+ */
+function printedFiles(files) {
+    return new FilesAlong(files.map(file => ({ ...file, path: visible(file.path) })));
 }
 
 /**
  * The line of a hit.
+ * @param {FilesAlong} files
+ * @param {Hit} hit
+ * @param {Context} context
+ */
+function hitLine(files, hit, { before, hit: text, after, doubt }) {
+    const around = visible(`${before.join('')}${text}${after.join('')}`);
+    return [hit.block, hit.offset, hit.size, filesText(files, hit), around, ...doubt === '' ? [] : [doubt]].join('\t');
+}
+
+/**
+ * Writes the lines of hits.
+ * @param {Target} target
  * @param {DiscImage} part
  * @param {FileEntry[]} files
  * @param {Encoding} encoding
- * @param {Hit} hit
+ * @param {Hit[]} hits
  */
-async function hitLine(part, files, encoding, hit) {
-    const { before, hit: text, after, doubt } = await contextOf(part, encoding, hit);
-    const around = visible([...before, text, ...after].join(''));
-    return [hit.block, hit.offset, hit.size, filesText(files, hit), around, ...doubt === '' ? [] : [doubt]].join('\t');
+async function writeHits(target, part, files, encoding, hits) {
+    const along = printedFiles(files);
+    for await (const near of contextsOf(part, encoding, hits)) {
+        await target.write(bytesOfLines(Array.from(near, ({ hit, context }) => hitLine(along, hit, context))));
+    }
 }
 
 /** @param {Run} run */
 export async function findJob(run) {
     const { limit = DEFAULT_LIMIT } = run.options;
     const target = await run.target();
-    const opened = await openTrack(run, run.names[0]);
+    const { files, why, ...opened } = await openTexts(run, run.names[0]);
     const { part } = opened;
-    // The files are read while the threads search.
-    const [found, { files, why }] = await Promise.all([hitsOf(run, opened, run.names[1], limit), filesIfAny(part)]);
-    const { count, hits, encoding } = found || { count: 0, hits: [], encoding: null };
-    if (hits.length > 0) why.forEach(text => run.say(text));
-    for (const hit of hits) await target.write(bytesOfLines([await hitLine(part, files, /** @type {Encoding} */ (encoding), hit)]));
+    const found = await hitsOf(run, opened, run.names[1], limit);
+    if (found !== null) {
+        why.forEach(text => run.say(text));
+        await writeHits(target, part, files, found.encoding, found.hits);
+    }
+    const { count, hits } = found || { count: 0, hits: [] };
     run.say(`hits ${count} printed ${hits.length}`);
     return Number(count === 0);
 }
@@ -143,7 +180,7 @@ async function sectorLines(run, part, sector, place) {
     return [
         `block ${place.block} address ${addressText(addressIn(sector, 0))} ${kind} edc ${edc}`,
         ...found.startsWith('sectors ') ? [] : [`wrong: ${found.replace(/^\d+ /, '')}`],
-        `file ${filesText(files, place)}`,
+        `file ${filesText(printedFiles(files), place)}`,
     ];
 }
 

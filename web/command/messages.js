@@ -1,7 +1,6 @@
 // The program's own messages of files, which the jobs that are the program's print as it does, after `cdpatch: `. tests/messages.sh has
 // them too, and a test compares.
 
-import { MOST_SCRIPT_BYTES } from '../core/script.js';
 import { MOST_SECTORS } from '../core/sector.js';
 
 export const MESSAGES = Object.freeze({
@@ -10,7 +9,6 @@ export const MESSAGES = Object.freeze({
     no_output: 'cannot make the output file',
     no_memory: 'no memory',
     no_text: 'the words are not text',
-    long_script: `the script is longer than ${MOST_SCRIPT_BYTES} bytes`,
     long_image: `the image has more than ${MOST_SECTORS} sectors`,
     read_failed: 'reading the image failed',
     write_failed: 'writing the output failed',

@@ -2,7 +2,6 @@
 
 import { Fault } from '../core/faults.js';
 
-export const LAST_BASE = 449849;
 export const MOST_BLOCKS = 999999999;
 
 /**

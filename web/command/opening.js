@@ -6,7 +6,7 @@ import { sheetOf } from '../core/cue.js';
 import { MissingFiles, dataTrack, openDisc } from '../core/disc.js';
 import { Fault } from '../core/faults.js';
 import { natureOf } from '../core/image.js';
-import { baseFault } from '../core/script.js';
+import { baseFault } from '../core/base_said.js';
 import { imageTooLong } from '../core/sector.js';
 import { textOfFile } from '../core/text.js';
 import { MESSAGES } from './messages.js';
@@ -97,7 +97,7 @@ export function sayUnknownBase(run, { name, base, addressed }) {
 
 /**
  * Throws a Fault if a script is for another base.
- * @param {import('../core/script.js').BaseSaid[]} bases
+ * @param {import('../core/base_said.js').BaseSaid[]} bases
  * @param {number} base of the image
  */
 export function assertBase(bases, base) {

@@ -1,20 +1,19 @@
 // The jobs that write scripts for a text or a file: `replace` and `replace-file`. The core has applied each before it is written.
 
-import { readBytes } from '../core/bytes.js';
 import { filledUp, replaceBytes } from '../core/edit.js';
 import { Fault } from '../core/faults.js';
 import { leftText } from '../core/lines.js';
 import { ScriptParts } from '../core/output.js';
 import { replaceFile } from '../core/replace_file.js';
-import { SECTOR_SIZE, USER_SIZE } from '../core/sector.js';
-import { contextOf } from '../core/texts/context.js';
-import { encodeText, spaceIn } from '../core/texts/encoding.js';
-import { findIn, sectorsBeyond } from '../core/texts/find.js';
+import { unitsAlike } from '../core/texts/alike.js';
+import { bytesAround, contextOf } from '../core/texts/context.js';
+import { spaceIn, usualBytes } from '../core/texts/encoding.js';
+import { endOfMatch, longestOf } from '../core/texts/find.js';
 import { hexText } from '../core/texts/hex.js';
 import { leftHitText, replacedHits } from '../core/texts/replace.js';
 import { encodingsWith } from '../core/texts/search.js';
 import { replaceListJob } from './listing.js';
-import { fileNamed } from './looking.js';
+import { fileNamed, openTexts } from './looking.js';
 import { placeOf } from './numbers.js';
 import { openTrack } from './opening.js';
 import { assertFits, writeScript } from './scripts.js';
@@ -43,17 +42,16 @@ const MOST_PLACES = 1000000;
  * @returns {Promise<Places>}
  */
 async function placeOfText(run, image, place, text) {
-    const { encodings } = encodingsWith(await encodingsOf(run), text);
-    const after = image.base + image.sectors - place.block;
-    for (const encoding of place.block < image.base || after <= 0 ? [] : encodings) {
-        const wanted = encoding.units(text);
-        const count = Math.min(1 + sectorsBeyond(wanted), after);
-        const bytes = await readBytes(image.reader, (place.block - image.base) * SECTOR_SIZE, count * SECTOR_SIZE);
-        const [{ hits }] = findIn(bytes, place.block, { texts: [wanted], count: 1, limit: USER_SIZE });
-        const hit = hits.find(({ offset }) => offset === place.offset);
-        if (hit) return { image, encoding, hits: [hit], inside: true };
+    const { loose } = run.options;
+    const { encodings } = encodingsWith(await encodingsOf(run), text, loose);
+    const isIn = place.block >= image.base && place.block < image.base + image.sectors;
+    for (const encoding of isIn ? encodings : []) {
+        const wanted = unitsAlike(encoding, text, loose);
+        const { bytes } = await bytesAround(image, place, 0, longestOf(wanted));
+        const size = endOfMatch(wanted, bytes, 0);
+        if (size > 0) return { image, encoding, hits: [{ ...place, size }], inside: true };
     }
-    const usual = encodeText(encodings[0], text);
+    const usual = usualBytes(unitsAlike(encodings[0], text));
     await replaceBytes(run.calls, image, place, usual, usual);
     throw new Fault('the text is not found');
 }
@@ -99,7 +97,7 @@ async function assertBegins(image, encoding, hit) {
  * @param {string} text
  */
 function freshBytes(run, { encoding, hits }, text) {
-    const bytes = encodeText(encoding, text);
+    const bytes = usualBytes(unitsAlike(encoding, text));
     const fill = run.options.fill || spaceIn(encoding);
     /** @type {Map<number, Uint8Array>} */
     const known = new Map();
@@ -145,7 +143,7 @@ export async function replaceJob(run) {
     const given = block === undefined ? null : placeOf(block, offset);
     if (given !== null && run.options.all) throw new Fault('--all and a place exclude each other');
     const target = await run.target();
-    const opened = await openTrack(run, name, given !== null);
+    const opened = await openTexts(run, name, given !== null);
     const { image } = opened;
     const places = given === null ? await placesOf(run, opened, before) : await placeOfText(run, image, given, before);
     if (given !== null) {
@@ -160,16 +158,17 @@ export async function replaceJob(run) {
 
 /** @param {Run} run */
 export async function replaceFileJob(run) {
-    const { fill = Uint8Array.of(0) } = run.options;
-    if (fill.length !== 1) throw new Fault('--fill is one byte here');
+    const { fill } = run.options;
+    if (fill && fill.length !== 1) throw new Fault('--fill is one byte here');
     const target = await run.target();
     const { image, part } = await openTrack(run, run.names[0]);
     const file = await fileNamed(part, run.names[1]);
     const { reader } = await run.files.image(run.names[2]);
-    const made = await replaceFile(run.calls, run.crew, part, file, reader, { fill: fill[0] });
+    const made = await replaceFile(run.calls, run.crew, part, file, reader, fill && { fill: fill[0] });
     sayOfRuns(run, made.left, left => leftText([left], part.name));
     if (made.script === null) throw new Fault('these blocks of the file can not be patched, so no script is written');
-    if (reader.size < file.size) run.say(`bytes filled up with ${hexText(fill)}: ${file.size - reader.size}`);
+    if (fill && reader.size < file.size) run.say(`bytes filled up with ${hexText(fill)}: ${file.size - reader.size}`);
+    else if (reader.size !== file.size) run.say(`${file.path} had ${file.size} bytes, and gets ${reader.size}`);
     await writeScript(run, target, made.script, image.base);
     return 0;
 }

@@ -1,18 +1,18 @@
 // The jobs that write scripts of whole images: `diff`, `rebuilds` and `undo`. The core has applied what it writes.
 
+import { baseComment } from '../core/base_said.js';
 import { compareImages } from '../core/compare.js';
 import { dataTrack } from '../core/disc.js';
 import { Fault } from '../core/faults.js';
 import { LineList, leftText } from '../core/lines.js';
 import { ScriptParts } from '../core/output.js';
 import { passPatched } from '../core/patch.js';
-import { RECORD_SIZE } from '../core/records.js';
+import { MOST_SCRIPT_BYTES, RECORD_SIZE, STATUS } from '../core/records.js';
 import { blocksIn, blocksText } from '../core/runs.js';
-import { MOST_SCRIPT_BYTES, Refusal, baseComment, patchesOf } from '../core/script.js';
+import { Refusal, readScript } from '../core/script.js';
 import { isDamaged } from '../core/survey.js';
 import { undoScript } from '../core/undo.js';
 import { differingFields } from './fields.js';
-import { MESSAGES } from './messages.js';
 import { NewFile } from './new_file.js';
 import { openDiscOf, openTrack } from './opening.js';
 import { sayOfRuns } from './words.js';
@@ -67,9 +67,9 @@ function sayOfScript(run, { patches, long, carry }) {
  * @param {Script} script
  */
 export async function assertFits(run, image, script) {
-    const patches = await patchesOf(run.calls, script.pieces, true);
-    const fit = !(patches instanceof Refusal) && (await passPatched(run.calls, image.reader, patches, image.base, false)).status === 0;
-    if (!fit) throw new Fault('the patches do not fit together, so no script is written');
+    const read = await readScript(run.calls, script.pieces, script.long);
+    const made = read instanceof Refusal ? null : await passPatched(run.calls, image.reader, read, { base: image.base });
+    if (made === null || made.status !== STATUS.DONE) throw new Fault('the patches do not fit together, so no script is written');
 }
 
 /**
@@ -139,11 +139,6 @@ export async function rebuildsJob(run) {
     return 0;
 }
 
-/** @param {Refusal} refusal */
-function refusalText({ reason, text }) {
-    return reason === 'fault' ? new TextDecoder().decode(text).trim() : MESSAGES.long_script;
-}
-
 /** @param {Run} run */
 export async function undoJob(run) {
     const { carry = false, long = false } = run.options;
@@ -152,7 +147,7 @@ export async function undoJob(run) {
     const script = run.files.piecesOf(run.names[1]);
     const crew = run.crew.crew(image.sectors);
     const made = await undoScript(run.calls, run.watched(image.reader), script, { base: image.base, carry, long, crew });
-    if (made instanceof Refusal) throw new Fault(refusalText(made));
+    if (made instanceof Refusal) throw new Fault(new TextDecoder().decode(made.text).trim().replace(/^cdpatch: /, ''));
     const refused = made.patched.outcomes.filter(({ result }) => result !== 0).length;
     const why = `${refused === 1 ? '1 patch is' : `${refused} patches are`} refused on ${image.name}: is it the image before the script?`;
     if (refused > 0 && made.script.patches === 0 && made.left.length === 0) throw new Fault(why);

@@ -31,8 +31,10 @@ export async function encodingsOf({ options: { encoding, table }, files }) {
  */
 export async function hitsOf(run, opened, text, limit) {
     if (text === '') throw new Fault('there is nothing to find in a text without characters');
-    const { encodings, names } = encodingsWith(await encodingsOf(run), text);
-    const [first, ...others] = await searchText(run.crew, opened.part, { text, encodings, limit });
+    const { loose } = run.options;
+    const { encodings, names, faults } = encodingsWith(await encodingsOf(run), text, loose);
+    const [first, ...others] = await searchText(run.crew, opened.part, { text, encodings, limit, loose });
+    faults.forEach(({ message }) => run.say(message));
     if (first === undefined) {
         const which = opened.disc.sheet === null ? '' : `track ${opened.track.number} in `;
         run.say(`${which}${opened.part.name} was searched for the text in ${names.join(', ')}`);

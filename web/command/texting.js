@@ -1,130 +1,117 @@
 // The job `texts`: a table of all texts of a data track, for translators.
 
-import { readBytes } from '../core/bytes.js';
+import { wholeOf } from '../core/bytes.js';
 import { Fault } from '../core/faults.js';
-import { SECTOR_SIZE, USER_SIZE, joinedUser } from '../core/sector.js';
-import { encodingOf } from '../core/text.js';
+import { sliceOf } from '../core/image.js';
+import { SECTOR_SIZE, USER_SIZE } from '../core/sector.js';
+import { encodingOf, tableTextOf } from '../core/text.js';
 import { rowText } from '../core/texts/cells.js';
-import { cellOf } from '../core/texts/codes.js';
-import { fillingAfter } from '../core/texts/list.js';
-import { TextTeller, keptOf } from '../core/texts/telling.js';
-import { filesIfAny } from './looking.js';
-import { openTrack } from './opening.js';
+import { bytesBefore } from '../core/texts/context.js';
+import { HEX } from '../core/texts/hex.js';
+import { BEYOND } from '../core/texts/range.js';
+import { keptOf } from '../core/texts/telling.js';
+import { openTexts } from './looking.js';
 import { visible } from './words.js';
 
 /** @typedef {import('../core/disc.js').DiscImage} DiscImage */
 /** @typedef {import('../core/iso.js').FileEntry} FileEntry */
-/** @typedef {import('../core/texts/candidates.js').Candidate} Candidate */
+/** @typedef {import('../core/texts/range.js').Asked} Asked */
+/** @typedef {import('../core/texts/range.js').Told} Told */
+/** @typedef {import('../core/jobs.js').Sharer} Sharer */
 /** @typedef {import('./run.js').Run} Run */
-/** A stretch of user bytes that is a file, or what lies between files: from a sector of the part on. */
-/** @typedef {{ path: string, first: number, size: number }} Stretch */
-/** @typedef {Candidate & { room: number, text: string }} Told a text, with its places counted from the beginning of its stretch */
+/**
+ * A stretch of user bytes that is a file, or what lies between files: from a sector of the part on, in the order of files. `before` is how
+ * many bytes of the file come before it.
+ * @typedef {{ path: string, before: number, first: number, size: number }} Stretch
+ */
 
 const COLUMNS = ['block', 'offset', 'bytes', 'room', 'encoding', 'file', 'text', 'new'];
 
-/** So many sectors are read at once, and so many of those before and after them, since texts go over borders. */
-const STEP = 4096;
-const BESIDE = 4;
-
 const LEAST_CHARACTERS = 2;
 
+/** So many stretches are looked at side by side. */
+const TOGETHER = 64;
+
 /**
- * The stretches of a part, in order: each file, and what lies between them.
+ * The stretches of a part, in the order of its files.
  * @param {DiscImage} part
  * @param {FileEntry[]} files
  * @returns {Stretch[]}
  */
-function stretchesOf({ base, sectors }, files) {
+function stretchesOf(part, files) {
+    /** @type {Stretch[]} */
     const stretches = [];
     let next = 0;
-    for (const { path, block, size } of [...files].sort((a, b) => a.block - b.block)) {
-        const first = block - base;
-        const count = Math.min(Math.ceil(size / USER_SIZE), sectors - first);
+    const between = (/** @type {number} */ end) => {
+        if (end > next) stretches.push({ path: '', before: 0, first: next, size: (end - next) * USER_SIZE });
+    };
+    const placed = files.map(it => ({ ...it, first: bytesBefore(part, { block: it.block, offset: 0 }) / USER_SIZE }));
+    for (const { path, before, first, size } of placed.sort((a, b) => a.first - b.first)) {
+        const count = Math.min(Math.ceil(size / USER_SIZE), part.sectors - first);
         if (first < next || count <= 0) continue;
-        if (first > next) stretches.push({ path: '', first: next, size: (first - next) * USER_SIZE });
-        stretches.push({ path, first, size: Math.min(size, count * USER_SIZE) });
+        between(first);
+        const [last] = stretches.slice(-1);
+        const own = Math.min(size, count * USER_SIZE);
+        if (before > 0 && last && last.path === path && (first - last.first) * USER_SIZE === before) last.size += own;
+        else stretches.push({ path, before, first, size: own });
         next = first + count;
     }
-    if (next < sectors) stretches.push({ path: '', first: next, size: (sectors - next) * USER_SIZE });
+    between(part.sectors);
     return stretches;
 }
 
 /**
  * The texts of a stretch.
- * @param {TextTeller} teller
+ * @param {Sharer} crew
  * @param {DiscImage} part
  * @param {Stretch} stretch
- * @param {number} wanted the bits of the encodings
+ * @param {Asked} asked
  */
-async function textsOf(teller, { reader }, { first, size }, wanted) {
+async function textsOf(crew, { reader, order }, { first, size }, asked) {
     /** @type {Told[]} */
     const told = [];
-    const count = Math.ceil(size / USER_SIZE);
-    for (let done = 0; done < count; done += STEP) {
-        const [from, to] = [Math.max(done - BESIDE, 0), Math.min(done + STEP + BESIDE, count)];
-        const raw = await readBytes(reader, (first + from) * SECTOR_SIZE, (to - from) * SECTOR_SIZE);
-        const bytes = joinedUser(raw).subarray(0, size - from * USER_SIZE);
-        const shift = from * USER_SIZE;
-        const own = (/** @type {Candidate} */ { start }) => start + shift >= done * USER_SIZE && start + shift < (done + STEP) * USER_SIZE;
-        const texts = teller.tell(bytes, wanted);
-        texts.forEach((it, i) => {
-            if (!own(it)) return;
-            let next = i + 1;
-            while (next < texts.length && texts[next].scores !== it.scores) next += 1;
-            const free = bytes.subarray(0, next < texts.length ? texts[next].start : bytes.length);
-            const { encoding } = it.scores;
-            const room = it.end - it.start + fillingAfter(encoding, free, it.end);
-            const text = cellOf(encoding, bytes.subarray(it.start, it.end));
-            told.push({ ...it, start: it.start + shift, end: it.end + shift, room, text });
-        });
-    }
-    return /** @type {Told[]} */ (keptOf(told));
+    const end = first + Math.ceil(size / USER_SIZE);
+    const sectors = sliceOf(order ? order.reader : reader, first * SECTOR_SIZE, end * SECTOR_SIZE);
+    await crew.share('texts', [sectors], { ...asked, size }, { beyond: BEYOND }, (/** @type {Told[]} */ texts) => void told.push(...texts));
+    return keptOf(told);
 }
 
 /**
- * The bits of the encodings that texts may be in.
- * @param {TextTeller} teller
- * @param {string | undefined} name
+ * The stretches that are looked at. Throws a Fault if a path names none.
+ * @param {Stretch[]} stretches
+ * @param {string[]} paths of files or directories; without any all are
  */
-function wantedBits(teller, name) {
-    const all = teller.finder.all.filter(({ encoding }) => name === undefined || encoding === encodingOf(name));
-    const names = teller.finder.all.map(({ encoding }) => encoding.name).join(', ');
-    if (all.length === 0) throw new Fault(`texts are found in ${names}, and not in ${name}`);
-    return all.reduce((bits, { bit }) => bits | bit, 0);
+function stretchesIn(stretches, paths) {
+    const rooted = (/** @type {string} */ path) => `/${path}`.replace(/^\/+/, '/').replace(/\/+$/, '');
+    const isIn = (/** @type {Stretch} */ { path }, /** @type {string} */ below) =>
+        path !== '' && `${rooted(path)}/`.startsWith(`${rooted(below)}/`);
+    const missing = paths.find(path => !stretches.some(it => isIn(it, path)));
+    if (missing !== undefined) throw new Fault(`there is no file ${missing}; cdscript files lists them`);
+    return stretches.filter(it => paths.length === 0 || paths.some(path => isIn(it, path)));
 }
 
 /** @param {Run} run */
 export async function textsJob(run) {
-    const { encoding, csv, min = LEAST_CHARACTERS } = run.options;
-    const teller = new TextTeller();
-    const wanted = wantedBits(teller, encoding);
+    const { encoding, table, csv, min = LEAST_CHARACTERS, in: paths = [] } = run.options;
+    if (encoding !== undefined && encodingOf(encoding) === HEX) throw new Fault('texts are told by their characters, and hex has none');
+    const asked = { encoding, table: table && tableTextOf(await wholeOf((await run.files.image(table)).reader)) };
     const target = await run.target();
-    const { part } = await openTrack(run, run.names[0]);
-    const { files, why } = await filesIfAny(part);
+    const { part, files, why } = await openTexts(run, run.names[0]);
     why.forEach(text => run.say(text));
-    const stretches = stretchesOf(part, files).filter(({ path }) => isIn(path, run.options.in));
-    if (stretches.length === 0) throw new Fault(`there is no file ${run.options.in}; cdscript files lists them`);
+    const stretches = stretchesIn(stretchesOf(part, files), paths);
+    const crew = run.crew.crew(part.sectors);
     const mark = csv ? ',' : '\t';
     let count = 0;
     await target.write(new TextEncoder().encode(`${csv ? '\uFEFF' : ''}${rowText(COLUMNS, mark)}`));
-    for (const stretch of stretches) {
-        const rows = (await textsOf(teller, part, stretch, wanted)).filter(({ text }) => [...text].length >= min);
-        const lines = rows.map(it => rowText(cellsOf(part, stretch, it), mark));
+    for (let i = 0; i < stretches.length; i += TOGETHER) {
+        const some = stretches.slice(i, i + TOGETHER);
+        const found = await Promise.all(some.map(stretch => textsOf(crew, part, stretch, asked)));
+        const rows = found.flatMap((texts, k) => texts.filter(({ text }) => [...text].length >= min).map(it => cellsOf(part, some[k], it)));
         count += rows.length;
-        if (lines.length > 0) await target.write(new TextEncoder().encode(lines.join('')));
+        await target.write(new TextEncoder().encode(rows.map(cells => rowText(cells, mark)).join('')));
     }
     run.say(`texts ${count}`);
     return Number(count === 0);
-}
-
-/**
- * @param {string} path
- * @param {string | undefined} wanted a file or a directory, or all
- */
-function isIn(path, wanted) {
-    if (wanted === undefined) return true;
-    const [name, below] = [path, wanted].map(it => `/${it}`.replace(/^\/+/, '/').replace(/\/+$/, ''));
-    return path !== '' && (name === below || name.startsWith(`${below}/`));
 }
 
 /**
@@ -132,8 +119,8 @@ function isIn(path, wanted) {
  * @param {Stretch} stretch
  * @param {Told} told
  */
-function cellsOf({ base }, { path, first }, { start, end, room, scores, text }) {
-    const block = base + first + Math.floor(start / USER_SIZE);
-    const file = path === '' ? '-' : `${visible(path)}+${start}`;
-    return [block, start % USER_SIZE, end - start, room, scores.encoding.name, file, text, ''];
+function cellsOf({ base, order }, { path, before, first }, { start, end, room, scores, text }) {
+    const index = first + Math.floor(start / USER_SIZE);
+    const file = path === '' ? '-' : `${visible(path)}+${before + start}`;
+    return [order ? order.blockOf(index) : base + index, start % USER_SIZE, end - start, room, scores, file, text, ''];
 }

@@ -5,12 +5,16 @@ import { readSync } from 'node:fs';
 import { cpus } from 'node:os';
 import { Worker, parentPort, workerData } from 'node:worker_threads';
 import { Calls } from '../core/codes.js';
-import { Crew, UNREAD, localHand, serving, transfersOf } from '../core/jobs.js';
+import { Crew, JOBS, UNREAD, localHand, serving, transfersOf } from '../core/jobs.js';
 import { sectorCount } from '../core/sector.js';
+import { textsOfRange } from '../core/texts/range.js';
 
 /** @typedef {import('../core/jobs.js').Hand} Hand */
 /** @typedef {import('../core/jobs.js').Message} Message */
 /** @typedef {import('../core/jobs.js').Reply} Reply */
+
+/** A job with tables of its own, which the page does not carry. */
+JOBS.texts = (_, [bytes], first, args) => textsOfRange(bytes, first, args);
 
 /** Fewer sectors are done sooner than threads have begun. */
 const SECTORS_FOR_THREADS = 8000;

@@ -1,7 +1,6 @@
-// The memory of a module of libcdpatch: a few rooms of its own, and an arena, which grows and is used again.
+// The memory of a module of libcdpatch: a few rooms of its own, what is lent, and after that an arena, which grows and is used again.
 
-import { PATCH_RECORD_SIZE } from './records.js';
-
+const PATCH_RECORD_SIZE = 16;
 const PATCH_SIZE = 4096;
 const ANSWER_SIZE = 144;
 const PAGE_SIZE = 65536;
@@ -16,6 +15,8 @@ export class Arena {
         this.fresh = this.patch + PATCH_RECORD_SIZE;
         this.old = this.fresh + PATCH_SIZE;
         this.arena = this.old + PATCH_SIZE;
+        /** @type {{ at: number, back: boolean }[]} what was lent, and whether it was given back */
+        this.lent = [];
         this.places = { answer: BigInt(this.answer), patch: BigInt(this.patch), fresh: BigInt(this.fresh), old: BigInt(this.old) };
         this.memory = new Uint8Array(0);
         this.view = new DataView(this.memory.buffer);
@@ -30,6 +31,32 @@ export class Arena {
         if (this.memory.buffer === this.exports.memory.buffer) return;
         this.memory = new Uint8Array(this.exports.memory.buffer);
         this.view = new DataView(this.exports.memory.buffer);
+    }
+
+    /**
+     * Memory that stays as it is, whatever is put or held meanwhile, until it is given back. Returns where it begins.
+     * @param {number} size
+     */
+    lend(size) {
+        const at = this.arena;
+        this.lent.push({ at, back: false });
+        this.moveArena(at + Math.ceil(size / 16) * 16);
+        return at;
+    }
+
+    /** @param {number} at where what was lent begins */
+    giveBack(at) {
+        for (const it of this.lent) it.back = it.back || it.at === at;
+        let end = this.arena;
+        while (this.lent.length > 0 && this.lent[this.lent.length - 1].back) end = this.lent.pop()?.at ?? end;
+        this.moveArena(end);
+    }
+
+    /** @param {number} at where it begins from now on. Nothing is held in it any more. */
+    moveArena(at) {
+        this.arena = at;
+        this.heldSize = 0;
+        this.reserve(0);
     }
 
     /**

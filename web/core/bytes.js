@@ -94,6 +94,30 @@ export function wholeOf(reader) {
     return readBytes(reader, 0, reader.size);
 }
 
+/**
+ * Where a piece stands in the image.
+ * @param {Piece} piece
+ */
+export function extentOf(piece) {
+    return 'bytes' in piece ? { from: piece.at, to: piece.at + piece.bytes.length } : piece;
+}
+
+/**
+ * What of a piece stands in a range, null if nothing does.
+ * @template {Piece} Some
+ * @param {Some} piece
+ * @param {number} from
+ * @param {number} to
+ * @returns {Some | null}
+ */
+export function pieceWithin(piece, from, to) {
+    const extent = extentOf(piece);
+    const [at, end] = [Math.max(extent.from, from), Math.min(extent.to, to)];
+    if (at >= end) return null;
+    const bytes = 'bytes' in piece && piece.bytes.subarray(at - extent.from, end - extent.from);
+    return /** @type {Some} */ (bytes ? { at, bytes } : { from: at, to: end });
+}
+
 /** Cuts an image in which some bytes are others into pieces, in order. */
 export class PieceCutter {
     /** @param {(piece: Piece) => void | Promise<void>} take */

@@ -1,8 +1,19 @@
 // The calls of the module of libcdpatch, over bytes and numbers of JavaScript. cdpatch.h says what each does.
 
 import { Arena } from './arena.js';
-import { PATCH_RECORD_SIZE, RECORD, RECORD_SIZE, freshSize } from './records.js';
+import { MOST_PATCHES, RECORD, RECORD_SIZE, RUN_SIZES, SECTORS_IN_HAND, STEP, VERB } from './records.js';
 import { SECTOR_SIZE, USER_SIZE, sectorCount } from './sector.js';
+
+/**
+ * A run, and the memory that is lent to it: where that begins, where its hand and its step do, and what the two calls are given.
+ * @typedef {{ at: number, hand: number, step: number, script: bigint[], entries: bigint[], rooms: bigint[] }} Run
+ */
+/**
+ * A step of a run: a STEP, and the status of END; the line of a patch, its RESULT, and the block and the user byte there that refuse it;
+ * where in the image the bytes stand, where in the hand, and how many they are.
+ * @typedef {{ kind: number, status: number, number: number, result: number, block: number, offset: number, at: number, place: number,
+ *     size: number }} Step
+ */
 
 /**
  * The bytes, if they have the size that a call takes for granted.
@@ -139,35 +150,14 @@ export class Calls extends Arena {
         return this.exports.cdpatch_read_line(version, number, BigInt(earlier), at, BigInt(size), patch, fresh, old);
     }
 
-    /** The first block of the patch of the line that was read. */
-    blockRead() {
-        return this.view.getUint32(this.patch, true);
-    }
-
-    /** The patch of the line that was read: its first block; and its record, then its new and its old bytes. */
+    /** What the patch of the line that was read says. It has new bytes if it sets some; `old` is null if it names no old ones. */
     patchRead() {
-        const size = freshSize(this.memory, this.patch);
-        const hasOld = this.memory[this.patch + 9] !== 0;
-        const bytes = this.memory.slice(this.patch, this.fresh + (hasOld ? 2 * size : size));
-        if (hasOld) bytes.set(this.memory.subarray(this.old, this.old + size), PATCH_RECORD_SIZE + size);
-        return { block: this.blockRead(), bytes };
-    }
-
-    /**
-     * Makes a patch on held sectors, and returns the result with its place.
-     * @param {Uint8Array | null} bytes of the patch; null is that of the line that was read last, which need not be copied
-     * @param {number} from the byte at which the first of the sectors begins
-     * @param {number} count of sectors
-     * @param {boolean} carry
-     */
-    applyPatch(bytes, from, count, carry) {
-        this.within(from + count * SECTOR_SIZE);
-        if (bytes !== null) this.memory.set(bytes, this.patch);
-        const { patch, fresh, answer } = this.places;
-        const old = BigInt(bytes === null ? this.old : this.fresh + freshSize(bytes, 0));
-        const at = BigInt(this.arena + from);
-        const result = this.exports.cdpatch_apply_patch(patch, fresh, old, at, BigInt(count), Number(carry), answer);
-        return { result, block: this.view.getUint32(this.answer, true), offset: this.view.getUint16(this.answer + 4, true) };
+        const { view, memory, patch } = this;
+        const [verb, hasOld, value] = memory.subarray(patch + 8, patch + 11);
+        const count = view.getUint16(patch + 6, true);
+        const size = verb === VERB.SET ? count : 0;
+        return { block: view.getUint32(patch, true), offset: view.getUint16(patch + 4, true), count, verb, value,
+            address: this.copied(patch + 11, 3), fresh: this.copied(this.fresh, size), old: hasOld ? this.copied(this.old, size) : null };
     }
 
     /**
@@ -194,5 +184,58 @@ export class Calls extends Arena {
      */
     faultLine(number, fault) {
         return this.line('cdpatch_fault_line', number, fault);
+    }
+
+    /**
+     * Begins a run of a script, to which memory is lent until `runEnd`.
+     * @param {Uint8Array} script
+     * @param {number} base
+     * @param {number | null} imageSize null if it is not known
+     * @param {number} flags
+     * @returns {Run}
+     */
+    runBegin(script, base, imageSize, flags) {
+        const room = Math.min(script.length, MOST_PATCHES);
+        const { RUN, ROOMS, ENTRY } = RUN_SIZES;
+        const sizes = [RUN, RUN_SIZES.STEP, ROOMS, SECTORS_IN_HAND * SECTOR_SIZE, room * ENTRY, script.length];
+        const at = this.lend(sizes.reduce((sum, size) => sum + size, 0));
+        let end = at;
+        const [run, step, rooms, hand, entries, text] = sizes.map(size => (end += size) - size);
+        this.memory.set(script, text);
+        const made = { at, hand, step, script: [text, script.length].map(BigInt), entries: [entries, room].map(BigInt),
+            rooms: [hand, SECTORS_IN_HAND, rooms, step].map(BigInt) };
+        const given = [base, BigInt(imageSize === null ? -1 : imageSize), flags];
+        const begun = base === base >>> 0 && this.exports.cdpatch_run_begin(BigInt(run), ...made.script, ...given, ...made.entries) >= 0;
+        if (begun) return made;
+        this.runEnd(made);
+        throw new RangeError(`no run from block ${base} on`);
+    }
+
+    /**
+     * The next step of a run.
+     * @param {Run} run
+     * @param {number} done how many bytes of the last step were moved, at first 0
+     * @returns {Step}
+     */
+    runNext({ at, step, script, entries, rooms }, done) {
+        this.exports.cdpatch_run_next(BigInt(at), BigInt(done), ...script, ...entries, ...rooms);
+        const number = (/** @type {number} */ place) => this.view.getUint32(step + place, true);
+        return { kind: number(0), status: number(4), number: number(8), result: number(12), block: number(16), offset: number(20),
+            at: number(24), place: number(32), size: number(40) };
+    }
+
+    /**
+     * The bytes of a step in the hand of its run, or the line that it logs; not copied.
+     * @param {Run} run
+     * @param {Step} step
+     */
+    runBytes({ hand, step }, { kind, place, size }) {
+        const at = kind === STEP.LOG ? step + RUN_SIZES.TEXT : hand + place;
+        return this.memory.subarray(at, at + size);
+    }
+
+    /** @param {Run} run */
+    runEnd({ at }) {
+        this.giveBack(at);
     }
 }

@@ -16,8 +16,9 @@ import { textOfFile } from './text.js';
 /** @typedef {{ name: string, reader: Reader }} DiscFile */
 /**
  * An image of sectors, and the block of its first one. `addressed` is that block as most addresses of some sectors give it; if it is
- * null or below 0, `base` is what the cue sheet says, or 0.
- * @typedef {{ name: string, reader: Reader, base: number, addressed: number | null, sectors: number, tail: number }} DiscImage
+ * null or below 0, `base` is what the cue sheet says, or 0. Texts are read in `order`, if it is there.
+ * @typedef {{ name: string, reader: Reader, base: number, addressed: number | null, sectors: number, tail: number,
+ *     order?: import('./file_order.js').FileOrder }} DiscImage
  */
 /**
  * A track. Without a cue sheet there is one. `file` counts the files of the disc from 0; it is -1 if that is not open. `image` is that

@@ -50,6 +50,24 @@ export function replaceBytes(calls, image, place, old, fresh) {
 }
 
 /**
+ * A change in parts, if what comes after one in the order of files lies elsewhere.
+ * @param {Pick<DiscImage, 'order'>} image
+ * @param {Change} change
+ * @returns {Change[]}
+ */
+function cutAtExtents({ order }, change) {
+    const { place, old, fresh } = change;
+    for (let size = USER_SIZE - place.offset; order && size < old.length; size += USER_SIZE) {
+        const { block } = placeAfter(place, size);
+        const next = { block: order.blockOf(order.indexOf(block - 1) + 1), offset: 0 };
+        if (next.block === block) continue;
+        const rest = { place: next, old: old.subarray(size), fresh: fresh.subarray(size) };
+        return [{ place, old: old.subarray(0, size), fresh: fresh.subarray(0, size) }, ...cutAtExtents({ order }, rest)];
+    }
+    return [change];
+}
+
+/**
  * The same for several changes, in the order of their places, of which none meets another.
  * @param {Calls} calls
  * @param {DiscImage} image
@@ -57,6 +75,11 @@ export function replaceBytes(calls, image, place, old, fresh) {
  * @returns {Promise<Lines>}
  */
 export async function replaceEach(calls, image, changes) {
+    const parts = changes.flatMap(change => cutAtExtents(image, change));
+    if (parts.length > changes.length) {
+        const made = await Promise.all(parts.map(part => replaceEach(calls, image, [part])));
+        return { ...made[0], text: joinedBytes(made.map(({ text }) => text)), patches: made.reduce((sum, it) => sum + it.patches, 0) };
+    }
     const { place: first } = changes[0];
     const { place: last, old: lastOld } = changes[changes.length - 1];
     const distance = (/** @type {Place} */ { block, offset }) => (block - first.block) * USER_SIZE + offset - first.offset;
@@ -72,8 +95,9 @@ export async function replaceEach(calls, image, changes) {
         user.set(filledUp(fresh, old.length, null), at);
         setLines(lines, place, old, fresh);
     }
-    assertLeads(calls, lines, { blocks, old: sectors, fresh: encodedUser(calls, sectors, user) }, false);
-    return lines.lines();
+    const made = lines.lines();
+    assertLeads(calls, made, { blocks, old: sectors, fresh: encodedUser(calls, sectors, user) }, false);
+    return made;
 }
 
 /**

@@ -2,19 +2,23 @@
 
 import { readBytes } from './bytes.js';
 import { Fault } from './faults.js';
-import { isSelf, recordAt, sharingSkip } from './iso_records.js';
+import { SEVERAL_EXTENTS, isSelf, recordAt, sharingSkip } from './iso_records.js';
 import { walked } from './iso_walk.js';
 import { SECTOR_SIZE, USER_SIZE, joinedUser, sectorCount } from './sector.js';
 
 /** @typedef {import('./bytes.js').Reader} Reader */
+/** @typedef {import('./edit.js').Place} Place */
 /**
- * A file, or one extent of a file that has several. `fault` says why its bytes are not just those from its block on, '' if they are.
- * @typedef {{ path: string, block: number, size: number, fault: string }} FileEntry
+ * A file, or one extent of a file that has several, before which it has so many bytes. `fault` says why its bytes are not just those from
+ * its block on, '' if they are; `record` is where its directory names it.
+ * @typedef {{ path: string, block: number, size: number, fault: string, before: number, record: Place }} FileEntry
  */
 /**
- * The files by their blocks, with the best names that there are; and what could not be read, in lines for a person.
- * @typedef {{ files: FileEntry[], faults: string[] }} VolumeFiles
+ * The files by their blocks, with the best names that there are; what could not be read, in lines for a person; all that the trees of
+ * names have, some of it several times; and whether UDF names the files too.
+ * @typedef {{ files: FileEntry[], faults: string[], entries: FileEntry[], udf: boolean }} VolumeFiles
  */
+/** @typedef {{ path: string, size: number, extents: FileEntry[] }} WholeFile a file, with its extents in the order of its bytes */
 
 const FIRST_DESCRIPTOR = 16;
 const MOST_DESCRIPTORS = 64;
@@ -24,6 +28,9 @@ const LAST_DESCRIPTOR = 255;
 const ROOT_RECORD = 156;
 const ESCAPES = 88;
 const NUMBER_IN_SET = 124;
+
+/** What descriptors name in a row: ISO 9660, and UDF with its beginning and end. */
+const STANDARDS = ['CD001', 'BEA01', 'NSR02', 'NSR03', 'TEA01'];
 
 /** Why a track has no volume whose files can be listed. */
 export class VolumeFault extends Fault {}
@@ -88,7 +95,7 @@ export class VolumeReader {
  */
 export async function filesOf(reader, base) {
     const volume = new VolumeReader(reader, base);
-    const { primary, joliet } = await descriptorsOf(volume);
+    const { primary, joliet, udf } = await descriptorsOf(volume);
     const { first, own } = await foundRoot(volume, rootOf(primary).extent);
     volume.first = first;
     const skip = await sharingSkip(volume, own);
@@ -103,7 +110,24 @@ export async function filesOf(reader, base) {
     files.sort((a, b) => a.block - b.block || Number(a.path > b.path) - Number(a.path < b.path));
     const faults = new Set(found.flatMap(it => it.faults));
     if (joliet && !other) faults.add("Joliet's volume descriptor has no root directory");
-    return { files, faults: [...faults] };
+    return { files, faults: [...faults], entries: found.flatMap(it => it.files), udf };
+}
+
+/**
+ * The file that the entries of a path are. Throws a Fault if they are not just its bytes.
+ * @param {FileEntry[]} entries
+ * @returns {WholeFile}
+ */
+export function wholeFile(entries) {
+    const extents = [...entries].sort((a, b) => a.before - b.before);
+    const [{ path }] = extents;
+    let size = 0;
+    for (const { fault, before, size: own } of extents) {
+        if (fault !== '' && fault !== SEVERAL_EXTENTS) throw new Fault(`${path}: ${fault}`);
+        if (before !== size) throw new Fault(`${path} has ${extents.length} parts, which are no file`);
+        size += own;
+    }
+    return { path, size, extents };
 }
 
 /** @param {Uint8Array} descriptor */
@@ -139,10 +163,15 @@ export function filesAt(files, block, offset) {
  */
 async function descriptorsOf(volume) {
     let [primary, joliet] = [new Uint8Array(0), /** @type {Uint8Array | null} */ (null)];
+    let [ended, udf] = [false, false];
     const count = volume.available(FIRST_DESCRIPTOR, MOST_DESCRIPTORS);
     for (let i = 0; i < count; i++) {
         const user = await volume.user(FIRST_DESCRIPTOR + i, 1);
-        if (String.fromCharCode(...user.subarray(1, 6)) !== 'CD001' || user[0] === LAST_DESCRIPTOR) break;
+        const standard = String.fromCharCode(...user.subarray(1, 6));
+        if (!STANDARDS.includes(standard)) break;
+        udf = udf || standard.startsWith('NSR');
+        ended = ended || standard !== 'CD001' || user[0] === LAST_DESCRIPTOR;
+        if (ended) continue;
         if (user[0] === PRIMARY && primary.length === 0) primary = user;
         if (user[0] === SUPPLEMENTARY && isJoliet(user)) joliet = user;
     }
@@ -151,7 +180,7 @@ async function descriptorsOf(volume) {
     }
     const size = primary[128] + 256 * primary[129];
     if (size !== USER_SIZE) throw new VolumeFault(`the volume has logical blocks of ${size} bytes, not of ${USER_SIZE}`);
-    return { primary, joliet };
+    return { primary, joliet, udf };
 }
 
 /** @param {Uint8Array} descriptor */

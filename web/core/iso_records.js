@@ -5,12 +5,13 @@ import { USER_SIZE } from './sector.js';
 import { textOfFile } from './text.js';
 
 /**
- * A directory record: where its extent begins, its bytes, whether both are the same with the most significant byte first, the volume of
- * the set that it lies on, its flags, its name as it stands there, and its System Use field.
- * @typedef {{ extent: number, size: number, agrees: boolean, volume: number, flags: number, interleaved: boolean, name: Uint8Array,
- *     system: Uint8Array, length: number }} DirectoryRecord
+ * A directory record: its place in the bytes, where its extent begins, its bytes, whether both are the same with the most significant byte
+ * first, the volume of the set that it lies on, its flags, its name as it stands there, and its System Use field.
+ * @typedef {{ at: number, extent: number, size: number, agrees: boolean, volume: number, flags: number, interleaved: boolean,
+ *     name: Uint8Array, system: Uint8Array, length: number }} DirectoryRecord
  */
 /** @typedef {{ kind: 'file' | 'directory', path: string, extent: number, size: number, fault: string }} Entry */
+/** @typedef {{ entry: Entry, at: number, before: number }} Part the place of a record, and how much of its file others have before it */
 /**
  * The sectors of a volume, and how many of those were read in which records are continued.
  * @typedef {{ user(extent: number, count: number): Promise<Uint8Array>, available(extent: number, count: number): number, areas: number }}
@@ -25,6 +26,12 @@ const DIRECTORY = 2;
 const ASSOCIATED = 4;
 const MORE_EXTENTS = 128;
 const MOST_CONTINUATIONS = 64;
+
+/** The fault of each part of a file that has several. */
+export const SEVERAL_EXTENTS = 'it has several extents';
+
+/** Where a record has the size of its extent, and how many bytes that is: once in each byte order. */
+export const SIZE_FIELD = Object.freeze({ offset: 10, length: 8 });
 
 /**
  * @param {Uint8Array} bytes
@@ -57,9 +64,10 @@ export function recordAt(bytes, at) {
     const record = bytes.subarray(at, at + length);
     const end = NAME + record[32];
     return {
+        at,
         extent: numberAt(record, 2) + record[1],
-        size: numberAt(record, 10),
-        agrees: agreesAt(record, 2) && agreesAt(record, 10),
+        size: numberAt(record, SIZE_FIELD.offset),
+        agrees: agreesAt(record, 2) && agreesAt(record, SIZE_FIELD.offset),
         volume: record[28] + 256 * record[29],
         flags: record[25],
         interleaved: record[26] > 0 || record[27] > 0,
@@ -167,15 +175,17 @@ async function rockRidge(blocks, area) {
  * @param {Selves} blocks
  * @param {Uint8Array} user of the whole directory
  * @param {Reading} reading
+ * @returns {AsyncGenerator<Part>}
  */
 export async function* entriesOfDirectory(blocks, user, reading) {
-    let more = false;
+    let [more, before] = [false, 0];
     for (const record of recordsOf(user, reading.fault)) {
         if (isSelf(record) || isParent(record)) continue;
         const entry = await entryOf(blocks, record, reading);
-        if (entry && more) entry.fault = 'it has several extents';
-        if (entry) yield entry;
+        if (entry && more && entry.fault === '') entry.fault = SEVERAL_EXTENTS;
+        if (entry) yield { entry, at: record.at, before };
         more = (record.flags & MORE_EXTENTS) !== 0;
+        before = more ? before + record.size : 0;
     }
 }
 
@@ -232,9 +242,9 @@ async function childOf(blocks, extent, path, fault) {
 function faultOf({ flags, interleaved, agrees, volume }, number) {
     if (!agrees) return 'its numbers in the two byte orders differ';
     if (volume !== number) return `it lies on volume ${volume} of the set, and this is volume ${number}`;
-    if (flags & MORE_EXTENTS) return 'it has several extents';
     if (interleaved) return 'it is interleaved';
-    return flags & ASSOCIATED ? 'it belongs to another file of this name' : '';
+    if (flags & ASSOCIATED) return 'it belongs to another file of this name';
+    return flags & MORE_EXTENTS ? SEVERAL_EXTENTS : '';
 }
 
 /**

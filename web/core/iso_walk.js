@@ -1,12 +1,12 @@
 // What the directories of a volume have. A volume may lie: its sectors are read once, and what is kept is bounded by its image.
 
-import { entriesOfDirectory } from './iso_records.js';
+import { SEVERAL_EXTENTS, entriesOfDirectory } from './iso_records.js';
 import { USER_SIZE } from './sector.js';
 
 /** @typedef {import('./iso.js').FileEntry} FileEntry */
-/** @typedef {import('./iso.js').VolumeFiles} VolumeFiles */
+/** @typedef {{ files: FileEntry[], faults: string[] }} TreeFiles */
 /** @typedef {import('./iso.js').VolumeReader} VolumeReader */
-/** @typedef {import('./iso_records.js').Entry} Entry */
+/** @typedef {import('./iso_records.js').Part} Part */
 /** @typedef {{ path: string, extent: number, size: number, depth: number }} Directory */
 /** @typedef {{ joliet: boolean, skip: number | null, number: number }} Tree */
 
@@ -31,7 +31,7 @@ class Walk {
     constructor(volume, tree) {
         this.volume = volume;
         this.tree = tree;
-        /** @type {VolumeFiles} */
+        /** @type {TreeFiles} */
         this.found = { files: [], faults: [] };
         this.faults = 0;
         /** The sectors of directories that were read. */
@@ -87,11 +87,12 @@ class Walk {
         const fault = (/** @type {string} */ text) => this.fault(path, text);
         const user = await this.userOf(directory, fault);
         let isDeep = false;
-        for await (const entry of entriesOfDirectory(this.volume, user, { path, ...this.tree, fault })) {
+        for await (const part of entriesOfDirectory(this.volume, user, { path, ...this.tree, fault })) {
+            const { entry } = part;
             this.entries += 1;
             this.characters += entry.path.length;
             if (this.excess() !== '') break;
-            if (entry.kind === 'file') this.found.files.push(this.fileOf(entry));
+            if (entry.kind === 'file') this.found.files.push(this.fileOf(part, directory));
             else if (depth < DEEPEST) directories.push({ path: entry.path, depth: depth + 1, extent: entry.extent, size: entry.size });
             isDeep = isDeep || (entry.kind === 'directory' && depth >= DEEPEST);
         }
@@ -120,13 +121,15 @@ class Walk {
     }
 
     /**
-     * @param {Entry} entry
+     * @param {Part} part
+     * @param {Directory} directory
      * @returns {FileEntry}
      */
-    fileOf({ path, extent, size, fault }) {
+    fileOf({ entry: { path, extent, size, fault }, at, before }, directory) {
         const count = Math.ceil(size / USER_SIZE);
-        const whole = this.volume.available(extent, count) === count;
-        return { path, block: this.volume.blockOf(extent), size, fault: fault || (whole ? '' : 'the image has not all of it') };
+        const isLess = this.volume.available(extent, count) < count && (fault === '' || fault === SEVERAL_EXTENTS);
+        const record = { block: this.volume.blockOf(directory.extent) + Math.floor(at / USER_SIZE), offset: at % USER_SIZE };
+        return { path, block: this.volume.blockOf(extent), size, fault: isLess ? 'the image has not all of it' : fault, before, record };
     }
 }
 

@@ -1,11 +1,10 @@
 // Lines of a script that make sectors others. They are applied by the calls before they are given out.
 
-import { ByteList, sameBytes } from './bytes.js';
+import { ByteList, joinedBytes, sameBytes } from './bytes.js';
 import { Fault } from './faults.js';
-import { SECTORS_IN_HAND } from './patch.js';
-import { CONTENT, RECORD, RECORD_SIZE, RESULT, SECTOR_KIND, kindName } from './records.js';
+import { CONTENT, RECORD, RECORD_SIZE, RESULT, RUN_FLAG, SECTOR_KIND, STATUS, STEP, kindName } from './records.js';
 import { addToRuns, blocksText, runOf } from './runs.js';
-import { SECTOR_SIZE, addressIn, addressText, asWords, differingSectors, sectorOf, userOf } from './sector.js';
+import { LAST_BASE, SECTOR_SIZE, addressIn, addressText, asWords, differingSectors, hasZeroByte, sectorOf, userOf } from './sector.js';
 import { isDamaged } from './survey.js';
 
 /** @typedef {import('./codes.js').Calls} Calls */
@@ -23,6 +22,7 @@ import { isDamaged } from './survey.js';
  * Lines as bytes, how many patches they are, the version of the language and whether they need `--carry`, and what they leave.
  * @typedef {{ text: Uint8Array, patches: number, version: number, carry: boolean, left: Left[] }} Lines
  */
+/** @typedef {Pick<Lines, 'text' | 'version'>} Text */
 /**
  * With `carry` the lines are for a patched image whose damage was carried. With `heal` a sector that has to become a damaged one becomes
  * it but for its damage, and is named too.
@@ -31,6 +31,12 @@ import { isDamaged } from './survey.js';
 
 /** Bytes that differ are in one patch if at most so many equal ones stand between them: a patch of their own costs more. */
 const JOINED_BYTES = 8;
+
+/** Lines of so many sectors are tried at a time: a run has at most MOST_PATCHES. */
+const TRIED = 256;
+
+/** What stands in a block that is not looked at. */
+const NO_DATA = new Uint8Array(SECTOR_SIZE);
 
 const HEX_DIGITS = '0123456789ABCDEF';
 
@@ -142,19 +148,23 @@ export class LineList extends ByteList {
  * @param {Uint8Array} old
  * @param {Uint8Array} fresh
  */
-function* differingRuns(old, fresh) {
+function differingRuns(old, fresh) {
     const [before, after] = [asWords(old), asWords(fresh)];
+    const runs = [];
     let [from, end] = [0, 0];
     for (let word = 0; word < before.length; word++) {
-        if (before[word] === after[word]) continue;
-        for (let at = 4 * word; at < 4 * word + 4; at++) {
+        const other = before[word] ^ after[word];
+        if (other === 0) continue;
+        const isNear = end > 0 && 4 * word - end <= JOINED_BYTES;
+        for (let at = isNear && !hasZeroByte(other) ? 4 * word + 3 : 4 * word; at < 4 * word + 4; at++) {
             if (old[at] === fresh[at]) continue;
-            if (end > 0 && at - end > JOINED_BYTES) yield { from, end };
+            if (end > 0 && at - end > JOINED_BYTES) runs.push({ from, end });
             if (end === 0 || at - end > JOINED_BYTES) from = at;
             end = at + 1;
         }
     }
-    if (end > 0) yield { from, end };
+    if (end > 0) runs.push({ from, end });
+    return runs;
 }
 
 /**
@@ -180,7 +190,10 @@ export function linesBetween(calls, { blocks, old, fresh }, { carry = false, hea
     const states = [old, fresh].map(sectors => calls.survey(sectors, 0));
     const lines = new LineList();
     const due = old.slice(); // what the sectors become: as they are if they are left
+    /** @type {number[]} where the lines of each begin */
+    const begins = [];
     blocks.forEach((block, i) => {
+        begins.push(lines.size);
         const [from, to] = [old, fresh].map(bytes => sectorOf(bytes, i));
         const [before, after] = [addressIn(from, 0), addressIn(to, 0)];
         const kinds = states.map(records => records[RECORD_SIZE * i + RECORD.KIND]);
@@ -199,7 +212,12 @@ export function linesBetween(calls, { blocks, old, fresh }, { carry = false, hea
         lines.leave(block, 'damaged');
         return heal ? lead(calls.encode(after, userOf(to, 0)), damaged) : undefined;
     });
-    assertLeads(calls, lines, { blocks, old, fresh: due }, carry);
+    for (let i = 0; i < blocks.length; i += TRIED) {
+        const [from, to] = [SECTOR_SIZE * i, SECTOR_SIZE * (i + TRIED)];
+        const text = lines.bytes().subarray(begins[i], begins[i + TRIED]);
+        assertLeads(calls, { version: lines.version, text }, { blocks: blocks.slice(i, i + TRIED), old: old.subarray(from, to),
+            fresh: due.subarray(from, to) }, carry);
+    }
     return lines.lines();
 }
 
@@ -213,38 +231,50 @@ export function linesBetween(calls, { blocks, old, fresh }, { carry = false, hea
 function isCarried(calls, block, old, fresh) {
     const lines = new LineList();
     lines.sector(block, old, fresh, false);
-    return firstWrong(calls, lines, { blocks: [block], old, fresh }, true) < 0;
+    return firstWrong(calls, lines.lines(), { blocks: [block], old, fresh }, true) < 0;
 }
 
 /**
- * Which sector lines in the order of their blocks do not make what it has to become, by the module; -1 if there is none. A patch that
- * goes on in other blocks needs their sectors too.
+ * Which sector lines do not make what it has to become, by a run of them; -1 if there is none. The blocks between those of the pairs are no
+ * data, which no patch changes.
  * @param {Calls} calls
- * @param {LineList} lines
+ * @param {Text} lines
  * @param {Pairs} pairs
  * @param {boolean} carry
  */
-function firstWrong(calls, lines, { blocks, old, fresh }, carry) {
-    calls.hold(old, lines.bytes());
-    let [i, number] = [0, 1];
-    for (let at = old.length; at < calls.heldSize;) {
-        const line = calls.firstLine(at) || { size: 0, taken: 0 };
-        number += 1;
-        if (calls.readLine(lines.version, number, 0, at, line.size) !== CONTENT.PATCH) return i;
-        while (blocks[i] < calls.blockRead()) i += 1;
-        if (blocks[i] !== calls.blockRead()) return Math.min(i, blocks.length - 1);
-        const there = Math.min(SECTORS_IN_HAND, blocks.length - i);
-        if (calls.applyPatch(null, i * SECTOR_SIZE, there, carry).result !== RESULT.OK) return i;
-        at += line.taken;
+function firstWrong(calls, { version, text }, { blocks, old, fresh }, carry) {
+    const base = Math.min(blocks[0], LAST_BASE);
+    const size = (blocks[blocks.length - 1] + 1 - base) * SECTOR_SIZE;
+    const made = old.slice();
+    const after = (/** @type {number} */ i, /** @type {number} */ block) => {
+        while (blocks[i] < block) i += 1;
+        return i;
+    };
+    const script = joinedBytes([new TextEncoder().encode(`cdpatch ${version}\n`), text]);
+    const run = calls.runBegin(script, base, size, carry ? RUN_FLAG.CARRY : 0);
+    try {
+        for (let [done, read, written] = [0, 0, 0]; ;) {
+            const step = calls.runNext(run, done);
+            const block = base + step.at / SECTOR_SIZE;
+            done = step.size;
+            if (step.kind === STEP.READ) {
+                read = after(read, block);
+                calls.runBytes(run, step).set(blocks[read] === block ? sectorOf(old, read) : NO_DATA);
+            } else if (step.kind === STEP.WRITE) {
+                written = after(written, block);
+                if (blocks[written] === block) sectorOf(made, written).set(calls.runBytes(run, step));
+            } else if (step.kind === STEP.LOG && step.result !== RESULT.OK) return Math.min(after(0, step.block), blocks.length - 1);
+            else if (step.kind === STEP.END) return step.status === STATUS.DONE ? differingSectors(made, fresh)[0] ?? -1 : 0;
+        }
+    } finally {
+        calls.runEnd(run);
     }
-    const wrong = differingSectors(calls.held(0, old.length), fresh);
-    return wrong.length > 0 ? wrong[0] : -1;
 }
 
 /**
  * Throws a Fault if lines do not make sectors what they have to become: a defect of this core. Nothing of them is given out then.
  * @param {Calls} calls
- * @param {LineList} lines
+ * @param {Text} lines
  * @param {Pairs} pairs
  * @param {boolean} carry
  */

@@ -1,9 +1,8 @@
 // A script that this core has written, in pieces, and what it asks of who reads it.
 
 import { Fault } from './faults.js';
-import { CONTENT } from './records.js';
+import { CONTENT, MOST_SCRIPT_BYTES } from './records.js';
 import { addToRuns } from './runs.js';
-import { MOST_SCRIPT_BYTES } from './script.js';
 
 /** @typedef {import('./codes.js').Calls} Calls */
 /** @typedef {import('./lines.js').Left} Left */

@@ -1,18 +1,19 @@
-// The patches of a script on an image, of which only the sectors near them are read.
+// The patches of a script on an image, of which only the sectors that they meet are read.
 
-import { ByteList, PieceCutter, joinedBytes, readBytes } from './bytes.js';
-import { RESULT, patchFields } from './records.js';
-import { SECTOR_SIZE, USER_SIZE, sectorCount } from './sector.js';
+import { ByteList, joinedBytes, pieceWithin, readBytes } from './bytes.js';
+import { runScript } from './patch_run.js';
+import { RESULT, SECTORS_IN_HAND, STATUS } from './records.js';
+import { SECTOR_SIZE, sectorCount } from './sector.js';
 
 /** @typedef {import('./codes.js').Calls} Calls */
+/** @typedef {import('./codes.js').Step} Step */
 /** @typedef {import('./bytes.js').Reader} Reader */
 /** @typedef {import('./bytes.js').Piece} Piece */
-/** @typedef {import('./script.js').Patch} Patch */
-
-/**
- * Neighbouring patches, from one to before another, and the sectors of the image that they may look at.
- * @typedef {{ from: number, to: number, first: number, end: number }} Stretch
- */
+/** @typedef {import('./patch_run.js').How} How */
+/** @typedef {import('./patch_run.js').Take} Take */
+/** @typedef {import('./script.js').ReadScript} ReadScript */
+/** @typedef {import('./long_script.js').Part} Part */
+/** @typedef {{ at: number, bytes: Uint8Array }} Bytes at a place of the image */
 
 /**
  * What became of a patch: its line, a RESULT, and the block and the user byte there that refuse it.
@@ -24,160 +25,157 @@ import { SECTOR_SIZE, USER_SIZE, sectorCount } from './sector.js';
  * @typedef {{ status: number, text: Uint8Array, outcomes: Outcome[] }} Patched
  */
 
-/** A patch looks at so many sectors from its block on, if the image has them. */
-export const SECTORS_IN_HAND = 3;
-
-/** Patches with fewer sectors than these between them are read for together, but no more sectors at a time than those. */
-const NEAR = 32;
-const MOST_IN_STRETCH = 1024;
-
-/**
- * The sectors of an image that a patch may look at: none if its first block is not in the image.
- * @param {Patch} patch
- * @param {number} base
- * @param {number} count how many sectors the image has
- */
-function sectorsFor(patch, base, count) {
-    const first = Math.min(Math.max(patch.block - base, 0), count);
-    const end = Math.min(first + SECTORS_IN_HAND, count);
-    return { first, end: patch.block < base ? first : end };
-}
-
-/**
- * Cuts patches in their order into stretches, which read the sectors of an image in theirs.
- * @param {Patch[]} patches
- * @param {number} base
- * @param {number} count how many sectors the image has
- * @returns {Generator<Stretch>}
- */
-function* stretchesOf(patches, base, count) {
-    for (let from = 0, to = 0; from < patches.length; from = to) {
-        let { first, end } = sectorsFor(patches[from], base, count);
-        for (to = from + 1; to < patches.length; to++) {
-            const next = sectorsFor(patches[to], base, count);
-            if (next.first > end + NEAR || next.end > first + MOST_IN_STRETCH) break;
-            end = Math.max(end, next.end);
-        }
-        yield { from, to, first, end };
-    }
-}
-
-/**
- * How many sectors an applied patch has changed: those in which its bytes lie, or one.
- * @param {Patch} patch
- */
-function sectorsChanged(patch) {
-    const { offset, count } = patchFields(patch.bytes);
-    return Math.max(1, Math.ceil((offset + count) / USER_SIZE));
-}
-
-/** The patched image: a sector that a later patch may meet waits, and what no later patch meets is passed on. */
-class PatchedImage {
-    /**
-     * @param {Reader} reader
-     * @param {(piece: Piece) => void | Promise<void>} take
-     */
-    constructor(reader, take) {
-        this.reader = reader;
-        this.pieces = new PieceCutter(take);
-        /** @type {Map<number, Uint8Array>} */
-        this.waiting = new Map();
+/** The lines of runs, and what became of their patches. */
+class PatchLog {
+    constructor() {
+        this.text = new ByteList();
+        /** @type {Outcome[]} */
+        this.outcomes = [];
     }
 
     /**
-     * Passes on what is before a sector: slices of the image, and patched sectors, neighbours joined.
-     * @param {number} end
+     * @param {Step} step
+     * @param {Uint8Array} line
      */
-    async passBefore(end) {
-        const ready = [...this.waiting].filter(([i]) => i < end).sort(([a], [b]) => a - b);
-        for (let from = 0, to = 0; from < ready.length; from = to) {
-            const first = ready[from][0];
-            while (to < ready.length && ready[to][0] - first === to - from) to++;
-            await this.pieces.put(first * SECTOR_SIZE, joinedBytes(ready.slice(from, to).map(([, sector]) => sector)));
-        }
-        ready.forEach(([i]) => this.waiting.delete(i));
+    add({ number, result, block, offset }, line) {
+        this.text.push(line);
+        if (number > 0) this.outcomes.push({ number, result, block, offset });
     }
 
-    /** Passes on the rest, the tail too. */
-    async end() {
-        await this.passBefore(sectorCount(this.reader.size));
-        await this.pieces.keep(this.reader.size);
+    /**
+     * @param {number} status
+     * @returns {Patched}
+     */
+    patched(status) {
+        return { status, text: this.text.bytes(), outcomes: this.outcomes };
     }
 }
 
 /**
- * Makes the patches of a stretch, and returns what becomes of each. The sectors that they change wait.
- * @param {Calls} calls
- * @param {PatchedImage} image
- * @param {Patch[]} patches
- * @param {Stretch} stretch
- * @param {{ base: number, count: number, carry: boolean }} how
- * @returns {Promise<Outcome[]>}
+ * An image with other bytes at a place.
+ * @param {Reader} reader
+ * @param {Bytes} over
+ * @returns {Reader}
  */
-async function patchStretch(calls, { reader, waiting }, patches, { from, to, first, end }, { base, count, carry }) {
-    calls.hold(await readBytes(reader, first * SECTOR_SIZE, (end - first) * SECTOR_SIZE));
-    const heldSector = (/** @type {number} */ i) => calls.held((i - first) * SECTOR_SIZE, (i - first + 1) * SECTOR_SIZE);
-    for (const [i, sector] of waiting) heldSector(i).set(sector);
-    const changed = new Set();
-    const outcomes = patches.slice(from, to).map(patch => {
-        const near = sectorsFor(patch, base, count);
-        const made = calls.applyPatch(patch.bytes, (near.first - first) * SECTOR_SIZE, near.end - near.first, carry);
-        for (let i = 0; made.result === RESULT.OK && i < sectorsChanged(patch); i++) changed.add(near.first + i);
-        return { number: patch.number, ...made };
-    });
-    for (const i of changed) waiting.set(i, heldSector(i).slice());
-    return outcomes;
+function laidOver(reader, over) {
+    return {
+        size: reader.size,
+        async read(at, length, room) {
+            const bytes = await reader.read(at, length, room);
+            const there = pieceWithin(over, at, at + bytes.length);
+            if (there === null) return bytes;
+            const own = bytes.slice();
+            own.set(there.bytes, there.at - at);
+            return own;
+        },
+    };
 }
 
 /**
- * What is printed of outcomes, and the status.
- * @param {Calls} calls
- * @param {Outcome[]} outcomes
- * @returns {Patched}
+ * A piece of an image with other bytes at a place, as pieces of the image itself.
+ * @param {Piece} piece
+ * @param {Bytes} over
+ * @returns {(Piece | null)[]}
  */
-function patchedOf(calls, outcomes) {
-    const text = new ByteList();
-    for (const { number, result, block, offset } of outcomes) text.push(calls.outcomeLine(number, result, block, offset));
-    const refused = outcomes.filter(({ result }) => result !== RESULT.OK).length;
-    text.push(calls.lastLine(outcomes.length - refused, refused));
-    return { status: Number(refused > 0), text: text.bytes(), outcomes };
+function piecesUnder(piece, over) {
+    if ('bytes' in piece) return [piece];
+    const end = over.at + over.bytes.length;
+    return [pieceWithin(piece, 0, over.at), pieceWithin(over, piece.from, piece.to), pieceWithin(piece, end, Infinity)];
 }
 
 /**
- * What becomes of patches on an image that is not too long. The pieces of the patched image are given to `take` as soon as no later patch
- * can meet them, in order.
+ * Where the first sector begins that a part of a script may meet.
+ * @param {Part} part
+ * @param {number} base
+ * @param {number} size of the image
+ */
+function startOf({ patches: [{ block }] }, base, size) {
+    return SECTOR_SIZE * Math.min(Math.max(block - base, 0), sectorCount(size));
+}
+
+/**
+ * Makes a run of a part of a long script on an image in which the parts before it have made other bytes, up to which all has gone out.
+ * Passes on what no later part can meet, and returns the bytes of the rest that may be others; null if the run failed.
  * @param {Calls} calls
  * @param {Reader} reader
- * @param {Patch[]} patches in the order in which they are applied
- * @param {number} base
- * @param {boolean} carry
- * @param {(piece: Piece) => void | Promise<void>} [take]
+ * @param {Part} part
+ * @param {Bytes} made
+ * @param {number} end where the first sector begins that the next part may meet
+ * @param {{ how: How, log: PatchLog, take: Take }} where
+ * @returns {Promise<Bytes | null>}
+ */
+async function passPart(calls, reader, part, made, end, { how, log, take }) {
+    /** @type {Uint8Array[]} */
+    const later = [];
+    let last = new Uint8Array(0);
+    const note = (/** @type {Step} */ step, /** @type {Uint8Array} */ line) => {
+        const { result, block, offset } = step;
+        if (step.number === 0) return void (last = line.slice());
+        const number = part.numberOf(step.number);
+        return log.add({ ...step, number }, calls.outcomeLine(number, result, block, offset));
+    };
+    const status = await runScript(calls, laidOver(reader, made), part.text(), how, note, async piece => {
+        for (const it of piecesUnder(piece, made)) {
+            const ready = it && pieceWithin(it, made.at, end);
+            const rest = it && pieceWithin(it, end, end + SECTORS_IN_HAND * SECTOR_SIZE);
+            if (ready !== null) await take(ready);
+            if (rest !== null) later.push('bytes' in rest ? rest.bytes : await readBytes(reader, rest.from, rest.to - rest.from));
+        }
+    });
+    if (status !== STATUS.FAILED) return { at: end, bytes: joinedBytes(later) };
+    log.text.push(last);
+    return null;
+}
+
+/**
+ * The patches of a long script, by a run of each of its parts.
+ * @param {Calls} calls
+ * @param {Reader} reader
+ * @param {Part[]} parts
+ * @param {How} how
+ * @param {Take} take
  * @returns {Promise<Patched>}
  */
-export async function passPatched(calls, reader, patches, base, carry, take = () => {}) {
-    const image = new PatchedImage(reader, take);
-    const count = sectorCount(reader.size);
-    /** @type {Outcome[]} */
-    const outcomes = [];
-    for (const stretch of stretchesOf(patches, base, count)) {
-        await image.passBefore(stretch.first);
-        for (const outcome of await patchStretch(calls, image, patches, stretch, { base, count, carry })) outcomes.push(outcome);
+async function passParts(calls, reader, parts, how, take) {
+    const log = new PatchLog();
+    /** @type {Bytes | null} */
+    let made = { at: 0, bytes: new Uint8Array(0) };
+    for (const [i, part] of parts.entries()) {
+        const end = i + 1 < parts.length ? startOf(parts[i + 1], how.base, reader.size) : reader.size;
+        made = await passPart(calls, reader, part, made, end, { how, log, take });
+        if (made === null) return log.patched(STATUS.FAILED);
     }
-    await image.end();
-    return patchedOf(calls, outcomes);
+    const refused = log.outcomes.filter(({ result }) => result !== RESULT.OK).length;
+    log.text.push(calls.lastLine(log.outcomes.length - refused, refused));
+    return log.patched(refused > 0 ? STATUS.FOUND : STATUS.DONE);
 }
 
 /**
- * What becomes of patches on an image, and the pieces of the patched image.
+ * What becomes of the patches of a script on an image. The pieces of the patched image are given to `take` in order, as soon as no later
+ * patch can meet them.
  * @param {Calls} calls
  * @param {Reader} reader
- * @param {Patch[]} patches
- * @param {number} base
- * @param {boolean} carry
+ * @param {ReadScript} script
+ * @param {How} how
+ * @param {Take} [take]
+ * @returns {Promise<Patched>}
+ */
+export async function passPatched(calls, reader, script, how, take = () => {}) {
+    if ('parts' in script) return passParts(calls, reader, script.parts, how, take);
+    const log = new PatchLog();
+    return log.patched(await runScript(calls, reader, script.text, how, (step, line) => log.add(step, line), take));
+}
+
+/**
+ * What becomes of the patches of a script on an image, and the pieces of the patched image.
+ * @param {Calls} calls
+ * @param {Reader} reader
+ * @param {ReadScript} script
+ * @param {How} how
  * @returns {Promise<Patched & { pieces: Piece[] }>}
  */
-export async function applyPatches(calls, reader, patches, base, carry) {
+export async function applyPatches(calls, reader, script, how) {
     /** @type {Piece[]} */
     const pieces = [];
-    return { ...await passPatched(calls, reader, patches, base, carry, piece => void pieces.push(piece)), pieces };
+    return { ...await passPatched(calls, reader, script, how, piece => void pieces.push(piece)), pieces };
 }

@@ -14,6 +14,8 @@ const WORDS = SECTOR_SIZE / 4;
 
 /** The most sectors of an image. No call asks for it: who opens an image does. */
 export const MOST_SECTORS = 1000000;
+/** The last block that the first sector of an image may be. */
+export const LAST_BASE = 449849;
 
 /**
  * The number of whole sectors of an image. The bytes after them are its tail.
@@ -66,6 +68,14 @@ export function userOf(bytes, i) {
 export function asWords(bytes) {
     const { buffer, byteOffset } = bytes.byteOffset % 4 === 0 ? bytes : bytes.slice();
     return new Int32Array(buffer, byteOffset, bytes.length >> 2);
+}
+
+/**
+ * Whether one of the four bytes of a word is 0.
+ * @param {number} word
+ */
+export function hasZeroByte(word) {
+    return ((word - 0x01010101) & ~word & 0x80808080) !== 0;
 }
 
 /**

@@ -1,6 +1,7 @@
 // The encodings by their names, and the texts of files.
 
 import { BIG5 } from './texts/big5.js';
+import { TextFault } from './texts/characters.js';
 import { CP932 } from './texts/cp932.js';
 import { EUC_JP } from './texts/euc_jp.js';
 import { EUC_KR } from './texts/euc_kr.js';
@@ -17,6 +18,9 @@ export const ENCODINGS = [HEX, CP932, EUC_JP, UTF8, UTF16LE, UTF16BE, BIG5, GBK,
 
 /** What is taken if none is named. */
 export const USUAL_ENCODING = CP932;
+
+/** A table has no more bytes: some 65536 lines of two bytes and a character take a tenth. */
+const LARGEST_TABLE = 1 << 23;
 
 const strictUtf8 = new TextDecoder('utf-8', { fatal: true });
 
@@ -47,9 +51,18 @@ export function textOfFile(bytes) {
 }
 
 /**
+ * The text of a `.tbl` file. Throws a TextFault if it is too long.
+ * @param {Uint8Array} bytes
+ */
+export function tableTextOf(bytes) {
+    if (bytes.length > LARGEST_TABLE) throw new TextFault(`the table has ${bytes.length} bytes, and one has at most ${LARGEST_TABLE}`);
+    return textOfFile(bytes);
+}
+
+/**
  * The encoding of a `.tbl` file. Throws a TextFault that names the line.
  * @param {Uint8Array} bytes
  */
 export function tableOf(bytes) {
-    return tableEncoding(textOfFile(bytes));
+    return tableEncoding(tableTextOf(bytes));
 }

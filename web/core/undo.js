@@ -1,13 +1,15 @@
 // The script that takes another one back.
 
-import { joinedBytes, readBytes } from './bytes.js';
+import { baseFault } from './base_said.js';
+import { joinedBytes } from './bytes.js';
 import { Fault } from './faults.js';
 import { Crew, localHand } from './jobs.js';
 import { ScriptParts } from './output.js';
 import { passPatched } from './patch.js';
 import { STATUS } from './records.js';
-import { Refusal, baseFault, readScript } from './script.js';
+import { Refusal, readScript } from './script.js';
 import { SECTOR_SIZE, differingSectors, sectorOf } from './sector.js';
+import { ReadAhead } from './read_ahead.js';
 
 /** @typedef {import('./codes.js').Calls} Calls */
 /** @typedef {import('./bytes.js').Piece} Piece */
@@ -38,7 +40,7 @@ class TakenBack {
      * @param {Given} given who compares
      */
     constructor(reader, base, given) {
-        this.reader = reader;
+        this.ahead = new ReadAhead(reader);
         this.base = base;
         this.given = given;
         this.parts = new ScriptParts();
@@ -51,7 +53,7 @@ class TakenBack {
     /** @param {Piece} piece of the patched image */
     async take(piece) {
         if (!('bytes' in piece)) return;
-        const before = await readBytes(this.reader, piece.at, piece.bytes.length);
+        const before = (await this.ahead.bytesAt(piece.at, piece.bytes.length)).slice();
         const { next } = this;
         for (const i of differingSectors(piece.bytes, before)) {
             next.blocks.push(this.base + piece.at / SECTOR_SIZE + i);
@@ -94,7 +96,7 @@ export async function undoScript(calls, reader, script, { base, carry = false, l
     const fault = baseFault(read.bases, base);
     if (fault !== '') throw new Fault(fault);
     const back = new TakenBack(reader, base, (job, pieces, blocks) => crew.given(job, pieces, { blocks, how: { carry, heal: true } }));
-    const patched = await passPatched(calls, reader, read.patches, base, carry, piece => back.take(piece));
+    const patched = await passPatched(calls, reader, read, { base, carry }, piece => back.take(piece));
     const parts = await back.end();
     const undo = { script: parts.script(calls), patched, left: parts.left };
     if (changesNothing(undo)) throw new Fault(NOTHING_TO_TAKE_BACK);

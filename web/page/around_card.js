@@ -4,10 +4,11 @@ import { USER_SIZE } from '../core/sector.js';
 import { bytesInside, charactersFrom } from '../core/texts/boundaries.js';
 import { bytesAround } from '../core/texts/context.js';
 import { button, element, fill, hexOf } from './dom.js';
-import { chosenEncoding, columnLabel, encodingLabel } from './encodings.js';
+import { chosenEncoding, columnLabel, encodingLabel, signOf } from './encodings.js';
 
 /** @typedef {import('./state.js').App} App */
 /** @typedef {import('./state.js').Image} Image */
+/** @typedef {import('../core/texts/encoding.js').Encoding} Encoding */
 /** @typedef {import('../core/texts/find.js').Hit} Hit */
 /** User data from the first byte of a block on; the hit begins at a place of it. */
 /** @typedef {{ bytes: Uint8Array, at: number }} Around */
@@ -84,7 +85,7 @@ export class AroundCard {
 function rowsOf(app, hit, { bytes: user, at }, columns) {
     const from = Math.max(Math.floor(at / columns) - ROWS_BEFORE, 0) * columns;
     const to = Math.min(from + ROWS * columns, user.length);
-    const texts = textsOf(app, user, from, to);
+    const texts = textsOf(chosenEncoding(app), user, [from, at, Math.min(at + hit.size, to), to]);
     const rows = [];
     for (let row = from; row < to; row += columns) {
         const cells = [];
@@ -107,18 +108,19 @@ function byteBox(byte, hit) {
 }
 
 /**
- * For each byte the character that begins at it: '' inside one, '·' if there is none to show.
- * @param {App} app
+ * For each byte the character that begins at it: '' inside one, '·' if there is none to show. What is before the hit, the hit and what is
+ * after it are read apart, since a hit may begin inside a character of what is before it.
+ * @param {Encoding} encoding
  * @param {Uint8Array} user
- * @param {number} from
- * @param {number} to
+ * @param {number[]} ends where the first of these parts begins, and where each ends
  * @returns {string[]}
  */
-function textsOf(app, user, from, to) {
-    const texts = Array.from({ length: to - from }, () => '');
-    const encoding = chosenEncoding(app);
-    for (const { at, text } of charactersFrom(encoding, user.subarray(0, to), from + bytesInside(encoding, user, from))) {
-        texts[at - from] = /[\p{Cc}\uFFFD]/u.test(text) ? '·' : text;
-    }
+function textsOf(encoding, user, ends) {
+    const [from] = ends;
+    const texts = Array.from({ length: ends[ends.length - 1] - from }, () => '');
+    ends.slice(1).forEach((end, i) => {
+        const begin = ends[i] + (i === 0 ? Math.min(bytesInside(encoding, user, from), end - from) : 0);
+        for (const { at, text } of charactersFrom(encoding, user.subarray(0, end), begin)) texts[at - from] = signOf(text);
+    });
     return texts;
 }

@@ -128,11 +128,17 @@ export class CheckCard {
             ' stays as it is.'];
     }
 
+    /** Whether the script can be checked and saved: it has no fault, and neither is done already. */
+    isFree() {
+        const { faults, head } = this.owner.lines;
+        return !this.busy && !this.saving.running && faults === 0 && head >= 0;
+    }
+
     /** Checks the script on the image. */
     async check() {
         const { image } = this.app;
         const { lines } = this.owner;
-        if (image === null || this.busy || lines.faults > 0 || lines.head < 0) return;
+        if (image === null || !this.isFree()) return;
         this.busy = true;
         const began = performance.now();
         try {
@@ -170,7 +176,7 @@ export class CheckCard {
     async apply() {
         const { image } = this.app;
         const { lines } = this.owner;
-        if (image === null || this.busy || lines.faults > 0 || lines.head < 0) return;
+        if (image === null || !this.isFree()) return;
         const work = { reader: image.reader, base: image.base, script: lines.text(), carry: this.carry.checked };
         const made = await this.saving.save(image, work);
         if (made && this.app.image === image && work.script === lines.text()) this.take(made, this.seconds);

@@ -38,13 +38,22 @@ function sameName(one, other) {
 }
 
 /**
+ * Whether two files are one, as far as a page can see.
+ * @param {File} one
+ * @param {File} other
+ */
+export function isSameFile(one, other) {
+    return one.name === other.name && one.size === other.size && one.lastModified === other.lastModified;
+}
+
+/**
  * Refuses a chosen file if it is an open image.
  * @param {File} chosen
  * @param {Reader} reader of the image
  */
 export function assertOther(chosen, reader) {
     const own = fileOf(reader);
-    if (own && chosen.name === own.name && chosen.size === own.size && chosen.lastModified === own.lastModified) {
+    if (own && isSameFile(chosen, own)) {
         throw new WorkRefused(`This is the open image itself: ${shownName(own.name)}`,
             'cdpatch never writes over it. Choose another name.');
     }

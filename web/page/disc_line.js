@@ -1,9 +1,10 @@
 // The line with the open image, which stands over every panel; and on the Disc panel the verdict, or how far reading has come.
 
-import { SECTOR_SIZE } from '../core/sector.js';
+import { LAST_BASE, SECTOR_SIZE } from '../core/sector.js';
 import { button, byId, countOf, counted, element, fill, keepFocus, redraw, renew, term } from './dom.js';
 import { MARK } from './marks.js';
 import { nameOf, seen, shownName } from './names.js';
+import { jobEnd } from './progress.js';
 import { imageOfTrack } from './open.js';
 import { otherBase, placesOf } from './places.js';
 import { copyText } from './say.js';
@@ -14,8 +15,6 @@ import { modeOneSectors } from './words.js';
 /** @typedef {import('./state.js').Image} Image */
 /** @typedef {import('./state.js').Surveyed} Surveyed */
 /** @typedef {import('./dom.js').Child} Child */
-
-const LAST_BASE = 449849;
 
 /** @param {App} app */
 export function mountDiscLine(app) {
@@ -72,11 +71,11 @@ function facts(app, image, drawn) {
     const counts = survey ? survey.marks.counts : new Uint32Array(16);
     const findings = survey ? survey.marks.findings() : 0;
     const over = survey !== null && survey.over && survey.known === image.sectors;
-    const tone = findings > 0 ? 'bad-ink' : over ? 'good-ink' : 'quiet';
+    const mode1 = survey ? survey.marks.mode1() : 0;
+    const tone = findings > 0 ? 'bad-ink' : over && mode1 > 0 ? 'good-ink' : 'quiet';
     const cell = (/** @type {string} */ name, /** @type {Child[]} */ ...value) => element('div', {}, element('dt', {}, name),
         element('dd', {}, ...value));
     const own = [cell('Base', term('base', String(image.base)), ' ', button('slim bare tiny change', () => askBase(app, drawn), 'Change'))];
-    const mode1 = survey ? survey.marks.mode1() : 0;
     own.push(cell('Mode 1', counted(mode1)));
     if (counts[MARK.MODE2] > 0 || mode1 === 0) own.push(cell('Mode 2', counted(counts[MARK.MODE2])));
     if (counts[MARK.NOSYNC] > 0 || panel === 'disc') own.push(cell('Audio, no sync', counted(counts[MARK.NOSYNC])));
@@ -125,7 +124,8 @@ function trackChoice(app, image) {
  * @param {number} length
  */
 function shaWaits({ reader }, { hashed }, length) {
-    return (hashed === 0 ? '(after reading)' : `(${Math.floor(100 * hashed / reader.size)} %)`).padEnd(length).replace(/ /g, '\u00a0');
+    const words = hashed < 0 ? 'not known' : `(${reader.size === 0 ? 0 : Math.floor(100 * hashed / reader.size)} %)`;
+    return words.padEnd(length).replace(/ /g, '\u00a0');
 }
 
 /**
@@ -159,7 +159,7 @@ function askBase(app, drawn) {
     };
     const form = element('form', { class: 'row', submit: (/** @type {Event} */ event) => {
         event.preventDefault();
-        drawn.changing = false;
+        close();
         changeBase(app, Number(input.value));
     } }, element('label', { for: 'base' }, 'The block of the first sector'), input, element('button', { class: 'btn slim main' }, 'Set'),
     button('slim bare', close, 'Leave it'));
@@ -201,7 +201,7 @@ function progressOf(app, { sectors, reader }, { known, began }) {
         element('p', { class: 'facts' }, fact(counted(Math.round(megabytes)), ` of ${all} MB`),
             fact(counted(Math.round(megabytes / Math.max(seconds, 0.001))), ' MB/s'),
             part > 0 && fact(`${Math.ceil(seconds / part - seconds)} s`, ' left')),
-        button('slim', () => app.reading.abort(), 'Cancel')];
+        jobEnd(() => app.reading.abort(), false)];
 }
 
 /**

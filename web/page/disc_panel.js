@@ -22,7 +22,7 @@ export function mountDisc(app, panel) {
     for (const name of /** @type {const} */ (['survey', 'panel', 'files'])) app.on(name, () => disc.drawMap());
     app.on('surveyed', () => disc.findings.draw());
     app.on('image', () => disc.begin());
-    app.on('place', ({ show }) => disc.drawPlace(show));
+    app.on('place', ({ show, comes }) => disc.drawPlace(show, comes));
     app.on('second', () => disc.second.begin());
 }
 
@@ -34,6 +34,7 @@ class DiscPanel {
             spoken: sector => spokenOf(app, sector),
             tip: sector => tipOf(app, sector),
             choose: (sector, how) => this.choose(sector, how.focus),
+            goTo: () => this.sector.ask(),
         });
         this.legend = new Legend(alone => {
             this.map.alone = alone;
@@ -73,14 +74,18 @@ class DiscPanel {
         this.drawReadout();
     }
 
-    /** @param {boolean} wanted whether the place is scrolled to */
-    drawPlace(wanted) {
+    /**
+     * @param {boolean} wanted whether the place is scrolled to
+     * @param {boolean} comes whether the panel was not shown before, so that the focus was elsewhere
+     */
+    drawPlace(wanted, comes) {
         const { survey, place } = this.app;
         if (survey === null || place.block < 0) return;
         this.map.moveTo(place.block - survey.block);
         this.sector.part.hidden = false;
         this.findings.drawPlace();
         this.sector.draw(true, wanted);
+        if (comes) this.sector.focus();
         this.drawReadout();
     }
 

@@ -38,6 +38,14 @@ export function columnLabel(label, columns) {
 }
 
 /**
+ * A character as it is shown: a point if it has no sign.
+ * @param {string} text
+ */
+export function signOf(text) {
+    return /^[\p{C}\p{Z}\uFFFD]*$/u.test(text) && text !== ' ' && text !== '\u3000' ? '·' : text;
+}
+
+/**
  * Puts the encodings into a list of choices, and keeps both alike.
  * @param {App} app
  * @param {HTMLSelectElement} choice

@@ -175,12 +175,25 @@ export class Findings {
             element('td', { class: 'num nowrap' }, element('button', { type: 'button', class: 'fold', 'data-block': first },
                 first === last ? String(first) : `${first}–${last}`)),
             element('td', { class: 'n', 'data-l': 'sectors' }, counted(last - first + 1)),
-            element('td', {}, dotOf(KINDS[kind][1]), KINDS[kind][0]),
+            element('td', {}, ...this.kindWords(first, kind)),
             element('td', { class: 'num', 'data-l': 'begins at' }, addressOf(this.app, first))));
         fill(this.body, element('table', {}, element('thead', {}, head), element('tbody', {}, ...rows)));
         const left = runs.length - rows.length;
         fill(this.foot, element('span', {}, left > 0 ? `and ${counted(left)} more: “As text” has all. ` : '',
             'A run is a row of neighbours of one kind. Begins at: minutes, seconds, frames of 1/75 second.'));
+    }
+
+    /**
+     * The kind of a run, as the map has it: a few sectors of another kind inside Mode 1 have lost their sync or mode.
+     * @param {number} first block of the run
+     * @param {number} kind
+     */
+    kindWords(first, kind) {
+        const { survey } = this.app;
+        const lost = survey !== null && survey.marks.marks[first - survey.block] === MARK.LOST;
+        const look = lost ? SURVEY_LOOKS.find(it => it.mark === MARK.LOST) : undefined;
+        const [name, colour] = look ? [look.name, look.colour] : KINDS[kind];
+        return [dotOf(colour), name];
     }
 
     drawText() {

@@ -2,6 +2,7 @@
 
 import { byId, setAttribute } from './dom.js';
 import { oneStop } from './groups.js';
+import { escapeJob } from './progress.js';
 import { PANELS } from './state.js';
 
 /** @typedef {import('./state.js').App} App */
@@ -14,7 +15,7 @@ export function mountFrame(app) {
     app.on('panel', () => showPanels(app));
     app.on('image', () => showPanels(app));
     byId('home').addEventListener('click', () => app.showPanel('disc'));
-    document.addEventListener('keydown', event => pressed(app, event));
+    document.addEventListener('keydown', pressed);
 }
 
 /**
@@ -43,13 +44,10 @@ function showPanels(app) {
     }
 }
 
-/**
- * @param {App} app
- * @param {KeyboardEvent} event
- */
-function pressed(app, event) {
+/** @param {KeyboardEvent} event */
+function pressed(event) {
     if (event.defaultPrevented) return;
-    if (event.key === 'Escape' && !isNoteOpen() && app.cancel()) event.preventDefault();
+    if (event.key === 'Escape' && !isNoteOpen() && escapeJob(document.activeElement)) event.preventDefault();
     if (event.key === 'F6') {
         event.preventDefault();
         focusNextCard(event.shiftKey ? -1 : 1);

@@ -44,7 +44,8 @@ function nextOf(list, at, event) {
  * @param {HTMLElement[]} list
  */
 function keepStop(list) {
-    const chosen = list.find(it => it.matches('[aria-selected=true], [aria-current]')) || list.find(it => it.tabIndex === 0) || list[0];
+    const chosen = list.find(it => it.matches('[aria-selected=true], [aria-current], [aria-current] *')) ||
+        list.find(it => it.tabIndex === 0) || list[0];
     setStop(list, chosen);
 }
 

@@ -11,7 +11,7 @@ import { messageOf } from './say.js';
 
 /** @type {[string, string][]} keys between spaces or commas, and what they do; without keys, where */
 const KEYS = [
-    ['', 'Anywhere'], ['F6, Shift+F6', 'next, previous part of the panel'], ['Esc', 'close a note, else cancel what is running'],
+    ['', 'Anywhere'], ['F6, Shift+F6', 'next, previous part of the panel'], ['Esc', 'close a note, else cancel what runs in this card'],
     ['', 'Map'], ['← →', 'one sector'], ['↑ ↓', 'one row'], ['Page Up, Page Down', '4500 sectors, a minute'],
     ['Home, End', 'first, last sector'], ['N, P', 'next, previous finding'], ['R, Shift+R', 'next, previous run'],
     ['G', 'go to a block'], ['Enter', 'open the sector'],

@@ -3,7 +3,7 @@
 import { SECTOR_SIZE, USER_OFFSET, USER_SIZE } from '../core/sector.js';
 import { charactersFrom } from '../core/texts/boundaries.js';
 import { element, fill, styleValue } from './dom.js';
-import { columnLabel } from './encodings.js';
+import { columnLabel, signOf } from './encodings.js';
 
 /** @typedef {import('../core/texts/encoding.js').Encoding} Encoding */
 /** @typedef {{ name: string, label: string, from: number, to: number }} Field */
@@ -129,7 +129,7 @@ export class HexView {
         const cell = this.hex.querySelector(`#byte-${Math.min(Math.max(at, 0), SECTOR_SIZE - 1)}`);
         const line = /** @type {HTMLElement | null} */ (cell && cell.closest('.line'));
         if (line === null) return;
-        const top = line.offsetTop - this.hex.offsetTop;
+        const top = line.offsetTop;
         const [first, last] = [this.hex.scrollTop + HEX_LINE_HEIGHT, this.hex.scrollTop + this.hex.clientHeight - HEX_LINE_HEIGHT];
         if (middle) this.hex.scrollTop = top - this.hex.clientHeight / 2;
         else if (top < first) this.hex.scrollTop = top - 2 * HEX_LINE_HEIGHT;
@@ -246,10 +246,10 @@ function textCells({ bytes, mode1, crossings, encoding }) {
     for (let part = 0; part + 1 < stops.length; part++) {
         for (const { at, size, text } of charactersFrom(encoding, bytes.subarray(stops[part], stops[part + 1]))) {
             const place = stops[part] + at;
-            const shown = /^[\p{C}\p{Z}\uFFFD]*$/u.test(text) && text !== ' ' && text !== '\u3000' ? null : text;
-            const plain = shown === null ? element('em', {}, '·') : shown;
+            const isSeen = signOf(text) === text;
+            const plain = isSeen ? text : element('em', {}, '·');
             cells[place] = crossings.has(place) ? element('u', {}, plain) : plain;
-            for (let i = 1; i < size && shown === null; i++) cells[place + i] = element('em', {}, '·');
+            for (let i = 1; i < size && !isSeen; i++) cells[place + i] = element('em', {}, '·');
         }
     }
     return cells;

@@ -40,17 +40,33 @@ export class Places {
     /**
      * The last line that writes a byte of a range, or 0.
      * @param {Hit} range
-     * @param {number} [before] which line it comes before, if it must
      */
-    lineAt({ block, offset, size }, before = Infinity) {
+    lineAt({ block, offset, size }) {
         const from = block * USER_SIZE + offset;
         let last = 0;
         for (let at = block; at * USER_SIZE < from + size; at++) {
             for (const it of this.blocks.get(at) || []) {
-                if (it.from < from + size && it.to > from && it.line < before) last = Math.max(last, it.line);
+                if (it.from < from + size && it.to > from) last = Math.max(last, it.line);
             }
         }
         return last;
+    }
+
+    /**
+     * For each of several lines, in their order, that ask for a byte of one block: the last line before it that writes the byte, or 0.
+     * @param {number} block
+     * @param {{ line: number, offset: number }[]} asked
+     */
+    linesBefore(block, asked) {
+        const [ranges, writers, start] = [this.blocks.get(block) || [], new Uint32Array(USER_SIZE), block * USER_SIZE];
+        let next = 0;
+        return asked.map(({ line, offset }) => {
+            for (; next < ranges.length && ranges[next].line < line; next++) {
+                const { from, to, line: writer } = ranges[next];
+                writers.fill(writer, Math.max(from - start, 0), to - start);
+            }
+            return writers[offset];
+        });
     }
 }
 
@@ -67,6 +83,29 @@ export function placesInScript(script) {
         places.add({ block: Number(block), offset: Number(offset), size }, i + 1);
     });
     return places;
+}
+
+/**
+ * The last lines before others that have written the bytes which these ask for, or 0, by the numbers of the lines that ask.
+ * @param {string[]} lines of a script
+ * @param {{ number: number, block: number, offset: number }[]} asking
+ */
+export function writersBefore(lines, asking) {
+    const places = placesInScript(lines.join('\n'));
+    /** @type {Map<number, { line: number, offset: number }[]>} */
+    const blocks = new Map();
+    for (const { number, block, offset } of asking) {
+        const asked = blocks.get(block) || [];
+        blocks.set(block, asked);
+        asked.push({ line: number, offset });
+    }
+    /** @type {Map<number, number>} */
+    const writers = new Map();
+    for (const [block, asked] of blocks) {
+        asked.sort((a, b) => a.line - b.line);
+        places.linesBefore(block, asked).forEach((writer, i) => writers.set(asked[i].line, writer));
+    }
+    return writers;
 }
 
 /**

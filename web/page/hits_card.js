@@ -2,7 +2,8 @@
 
 import { contextOf, filesWith } from '../core/texts/context.js';
 import { button, counted, element, fill, redraw, term } from './dom.js';
-import { chosenEncoding } from './encodings.js';
+import { chosenEncoding, signOf } from './encodings.js';
+import { oneStop } from './groups.js';
 import { Places } from './hits.js';
 import { shownPaths } from './names.js';
 import { copyText } from './say.js';
@@ -22,10 +23,12 @@ const SHOWN = 200;
 const BEFORE = 14;
 const AFTER = 24;
 const BYTES_AFTER = 48;
+/** So many hits are read at a time. */
+const AT_ONCE = 25;
 
 /** @param {string[]} characters */
 function shownText(characters) {
-    return characters.map(text => /[\p{Cc}\uFFFD]/u.test(text) ? '·' : text).join('');
+    return characters.map(signOf).join('');
 }
 
 /** The card with the hits. */
@@ -43,7 +46,10 @@ export class HitsCard {
         this.places = new Places();
         /** @type {Map<number, Context>} */
         this.contexts = new Map();
+        /** Of those who read contexts, the number of the last one: the others end. */
+        this.reader = 0;
         this.body = element('tbody', {});
+        oneStop(this.body, 'button');
         this.card = element('section', { class: 'card', 'aria-label': 'Hits' });
     }
 
@@ -117,28 +123,44 @@ export class HitsCard {
         const context = this.contexts.get(i);
         if (context === undefined) return [element('span', { class: 'ctx' }, '…')];
         const { before, hit, after, doubt } = context;
-        return [element('span', { class: 'ctx' }, element('em', {}, shownText(before.slice(-BEFORE))), element('mark', {}, hit),
-            element('em', {}, shownText(after.slice(0, AFTER)))), doubt !== '' && element('span', { class: 'tag warn' }, doubt)];
+        const parts = [element('em', {}, shownText(before.slice(-BEFORE))), element('mark', {}, shownText([...hit])),
+            element('em', {}, shownText(after.slice(0, AFTER)))];
+        return [element('span', { class: 'ctx' }, ...parts), doubt !== '' && element('span', { class: 'tag warn' }, doubt)];
     }
 
     /**
-     * Reads what stands round the hits that are shown, and draws their rows again.
+     * Reads what stands round the hits that are shown, and puts it into their rows.
      * @param {Search} search
      */
-    async readContexts(search) {
+    async readContexts({ hits }) {
         const { app } = this;
         const { image } = app;
-        for (let i = 0; i < Math.min(this.shown, search.hits.length) && image !== null; i++) {
-            if (this.contexts.has(i)) continue;
-            const encoding = chosenEncoding(app);
-            const context = await contextOf(image, encoding, search.hits[i], BYTES_AFTER);
-            if (this.search !== search || encoding !== chosenEncoding(app)) return;
-            this.contexts.set(i, context);
-            const row = this.body.rows[i];
-            const cell = row && row.cells[3];
-            const waiting = cell && cell.querySelector('.ctx');
-            if (waiting) waiting.replaceWith(...this.context(i).filter(it => it instanceof Node).map(it => /** @type {Node} */ (it)));
+        const number = ++this.reader;
+        const encoding = chosenEncoding(app);
+        const wanted = hits.slice(0, this.shown).map((_, i) => i).filter(i => !this.contexts.has(i));
+        for (let at = 0; at < wanted.length && image !== null; at += AT_ONCE) {
+            const part = wanted.slice(at, at + AT_ONCE);
+            const read = await Promise.all(part.map(i => contextOf(image, encoding, hits[i], BYTES_AFTER)));
+            if (number !== this.reader) return;
+            part.forEach((i, k) => this.showContext(i, read[k]));
         }
+    }
+
+    /**
+     * @param {number} i
+     * @param {Context} context
+     */
+    showContext(i, context) {
+        this.contexts.set(i, context);
+        const row = this.body.rows[i];
+        const waiting = row && row.cells[3].querySelector('.ctx');
+        if (waiting) waiting.replaceWith(...this.context(i).filter(it => it instanceof Node).map(it => /** @type {Node} */ (it)));
+    }
+
+    /** They are those of another encoding. */
+    forgetContexts() {
+        this.contexts.clear();
+        this.reader += 1;
     }
 
     copy() {

@@ -1,6 +1,6 @@
 // The map of a disc: the canvas with its ruler, the tip at the pointer, the loupe under it, and the keys.
 
-import { byId, element, fill } from './dom.js';
+import { element, fill } from './dom.js';
 import { cellOf, layoutOf, paintMap, sectorAt } from './map_paint.js';
 import { nextFinding, nextRun } from './marks.js';
 
@@ -8,9 +8,9 @@ import { nextFinding, nextRun } from './marks.js';
 /** @typedef {import('./map_paint.js').MapLayout} MapLayout */
 /**
  * What the map asks whoever uses it: the text of a sector for the slider, the lines of the tip, and what happens when a place is
- * chosen (`open` if the sector is to be opened, and `focus` if the focus goes there).
+ * chosen (`open` if the sector is to be opened, and `focus` if the focus goes there) or a block is to be typed.
  * @typedef {{ spoken: (sector: number) => string, tip: (sector: number) => string[],
- *     choose: (sector: number, how: { open: boolean, focus: boolean }) => void }} MapOwner
+ *     choose: (sector: number, how: { open: boolean, focus: boolean }) => void, goTo: () => void }} MapOwner
  */
 
 const SECTORS_A_MINUTE = 4500;
@@ -210,7 +210,7 @@ export class DiscMap {
             r: () => nextRun(model, Math.max(at, 0), step),
         };
         const key = event.key.length === 1 ? event.key.toLowerCase() : event.key;
-        if (key === 'g') byId('go-to').focus();
+        if (key === 'g') this.owner.goTo();
         else if (key === 'Enter') this.choose(Math.max(at, 0), { open: true, focus: true });
         else if (!moves[key]) return;
         else this.moveBy(key, moves[key](), last);

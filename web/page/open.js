@@ -3,15 +3,14 @@
 import { readBytes } from '../core/bytes.js';
 import { DiscFault, MissingFiles, dataTrack, openDisc } from '../core/disc.js';
 import { natureOf } from '../core/image.js';
-import { CONTENT } from '../core/records.js';
-import { MOST_SCRIPT_BYTES } from '../core/script.js';
+import { CONTENT, MOST_SCRIPT_BYTES } from '../core/records.js';
 import { MOST_SECTORS, SECTOR_SIZE, imageTooLong, sectorCount } from '../core/sector.js';
 import { textOfFile } from '../core/text.js';
 import { byId, counted, element } from './dom.js';
 import { exampleFile } from './example.js';
 import { nameOf, namesOf } from './names.js';
 import { fileReader } from './reading.js';
-import { clearNotices, copyable, messageParts, showFailure, showNotice } from './say.js';
+import { clearNotices, copyable, messageParts, refuseWhileSaving, showFailure, showNotice } from './say.js';
 import { readImage } from './survey_image.js';
 
 /** @typedef {import('../core/disc.js').Disc} Disc */
@@ -78,11 +77,25 @@ async function isTaken(app, file) {
     for (const take of app.takers) {
         if (await take(file)) return true;
     }
-    if (file.size > MOST_SCRIPT_BYTES || !isScript(app, await fileReader(file).read(0, SCRIPT_START))) return false;
-    app.setScript(textOfFile(await readBytes(fileReader(file), 0, file.size)), file.name, 'file');
+    const start = file.size > MOST_SCRIPT_BYTES ? new Uint8Array(0) : await fileReader(file).read(0, SCRIPT_START);
+    if (!isScript(app, start) && !LIKE_SCRIPT.test(textOfFile(start))) return false;
+    // The program reads no text with a mark of its encoding: what stands in the editor is in no file then.
+    const marked = MARKS.find(({ bytes }) => bytes.every((byte, i) => byte === start[i]));
+    app.setScript(textOfFile(await readBytes(fileReader(file), 0, file.size)), file.name, marked ? 'made' : 'file');
     app.showPanel('script');
+    if (marked) {
+        showNotice('warn', ['This file is ', marked.name, ', which cdpatch does not read: ', nameOf(file.name)],
+            'It was read here all the same. Save the script: then it is in plain UTF-8.');
+    }
     return true;
 }
+
+/** How editors mark the encoding of a text. */
+const MARKS = [{ name: 'UTF-8 with a mark', bytes: [0xEF, 0xBB, 0xBF] }, { name: 'UTF-16', bytes: [0xFF, 0xFE] },
+    { name: 'UTF-16', bytes: [0xFE, 0xFF] }];
+
+/** What is meant as a script, though its first line is no head that is known: comments, and then a word of scripts and another one. */
+const LIKE_SCRIPT = /^(?:[ \t]*(?:#.*)?\r?\n)*[ \t]*(?:cdpatch|set|fill|rebuild|address)[ \t]+\S/;
 
 /**
  * Whether a text is a script: the first of its lines that says something is a head.
@@ -108,6 +121,7 @@ export function isScript({ calls }, text) {
  */
 async function openImages(app, files) {
     const names = files.map(file => file.name);
+    if (refuseWhileSaving(app, names)) return;
     const different = new Set(names.map(name => name.toLowerCase())).size;
     if (different < names.length) throw new DiscFault('Two of these files have one name. Open one of them.');
     const two = files.length === 2 && (await Promise.all(files.map(file => isRaw(app, file)))).every(it => it);

@@ -1,8 +1,9 @@
 // What is done with a script and an image: checking, and saving the patched image.
 
+import { baseFault } from '../core/base_said.js';
 import { JobAborted } from '../core/jobs.js';
 import { applyPatches, passPatched } from '../core/patch.js';
-import { Refusal, baseFault, readScript } from '../core/script.js';
+import { Refusal, readScript } from '../core/script.js';
 import { imageTooLong } from '../core/sector.js';
 import { RunningHash, sha1Of } from './crew.js';
 import { chosenOther } from './chosen.js';
@@ -25,21 +26,20 @@ import { blobOfPieces, saveToSink } from './save.js';
  */
 
 /**
- * The patches of a script for an image that begins with a block. Throws WorkRefused.
+ * A script for an image that begins with a block. Throws WorkRefused.
  * @param {App} app
  * @param {string} script
  * @param {number} base
  */
-export async function readPatches({ calls }, script, base) {
+export async function scriptFor({ calls }, script, base) {
     const read = await readScript(calls, [new TextEncoder().encode(script)]);
     if (!(read instanceof Refusal)) {
         const fault = baseFault(read.bases, base);
-        if (fault === '') return read.patches;
+        if (fault === '') return read;
         throw new WorkRefused(`${fault[0].toUpperCase()}${fault.slice(1)}.`, 'Set the base that the script says, or take that line out.');
     }
-    if (read.reason === 'fault') throw new WorkRefused(new TextDecoder().decode(read.text).trimEnd(),
-        'Nothing was done. Mend the line first.');
-    throw new WorkRefused('The script is too long.', 'A script has at most 67,108,864 bytes. Cut it into two.');
+    if (read.tooLong) throw new WorkRefused('The script is too long.', 'A script has at most 67,108,864 bytes. Cut it into two.');
+    throw new WorkRefused(new TextDecoder().decode(read.text).trimEnd(), 'Nothing was done. Mend the line first.');
 }
 
 /** @param {Reader} reader of an image */
@@ -72,9 +72,9 @@ export function watched(reader, { signal, progress }) {
  * @returns {Promise<Patched>}
  */
 export async function checkWork(app, { reader, base, script, carry }, watch) {
-    const patches = await readPatches(app, script, base);
+    const read = await scriptFor(app, script, base);
     assertNotTooLong(reader);
-    return passPatched(app.calls, watched(reader, watch), patches, base, carry);
+    return passPatched(app.calls, watched(reader, watch), read, { base, carry });
 }
 
 /**
@@ -109,9 +109,9 @@ async function streamWork(app, { reader, base, carry, script, opened = [] }, nam
     /** @type {Patched | null} */
     let made = null;
     try {
-        const patches = await readPatches(app, script, base);
+        const read = await scriptFor(app, script, base);
         await saveToSink(await chosen.createWritable(), reader, async take => {
-            made = await passPatched(app.calls, reader, patches, base, carry, take);
+            made = await passPatched(app.calls, reader, read, { base, carry }, take);
         }, { signal, progress: done => progress(done, reader.size), ...hash && comparing(hash, wanted) });
     } catch (error) {
         if (before.size === 0 && chosen.remove) await chosen.remove().catch(() => {});
@@ -157,8 +157,8 @@ export class WrongResult extends Error {
 async function downloadWork(app, { reader, base, carry, script }, name, wanted, watch) {
     const file = fileOf(reader);
     if (file === null) throw new Error('this image is no file');
-    const patches = await readPatches(app, script, base);
-    const { pieces, ...made } = await applyPatches(app.calls, watched(reader, watch), patches, base, carry);
+    const read = await scriptFor(app, script, base);
+    const { pieces, ...made } = await applyPatches(app.calls, watched(reader, watch), read, { base, carry });
     const blob = blobOfPieces(file, pieces);
     const progress = (/** @type {number} */ done) => watch.progress(done, blob.size);
     const result = fileReader(new File([blob], name));

@@ -8,7 +8,7 @@ import { pageSource } from './own_text.js';
 import { comparedWithPage, readPatcherText } from './patcher.js';
 import { fileReader } from './reading.js';
 import { releaseOf } from './releases.js';
-import { clearNotices, notice, sentence, showNotice } from './say.js';
+import { clearNotices, notice, refuseWhileSaving, sentence, showNotice } from './say.js';
 import { showPlayer } from './show_player.js';
 
 /** @typedef {import('./state.js').App} App */
@@ -51,6 +51,7 @@ async function wholeDocument() {
  */
 async function takePatcher(app, file) {
     if (!await isPage(app, file)) return false;
+    if (refuseWhileSaving(app, [file.name])) return true;
     const compared = file.size > LARGEST_PATCHER ? null : comparedWithPage(new Uint8Array(await file.arrayBuffer()), pageSource(app.calls));
     const release = compared === null || compared.same ? '' : await releaseOf(compared.program);
     if (compared === null) {

@@ -1,17 +1,9 @@
 // An image that is only in pieces yet, read as if it were a file.
 
-import { readBytes } from '../core/bytes.js';
+import { extentOf, readBytes } from '../core/bytes.js';
 
 /** @typedef {import('../core/bytes.js').Reader} Reader */
 /** @typedef {import('../core/bytes.js').Piece} Piece */
-
-/**
- * Where a piece stands in the image.
- * @param {Piece} piece
- */
-export function extentOf(piece) {
-    return 'bytes' in piece ? { from: piece.at, to: piece.at + piece.bytes.length } : piece;
-}
 
 /**
  * A reader of pieces that stand one after the other. It reads the range of the image, unless one piece has all its bytes, and puts the

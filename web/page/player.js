@@ -7,14 +7,14 @@ import { textOfFile } from '../core/text.js';
 import { askBeforeLeaving, button, countOf, counted, element, fill, hashParts, icon, keepFocus } from './dom.js';
 import { downloadText } from './files_out.js';
 import { saveWork } from './patch_job.js';
-import { nameOf, namesOf } from './names.js';
+import { nameOf } from './names.js';
 import { authorsWords, moreOf } from './player_more.js';
 import { CARRIES, VERDICTS, reasonOf, reasonsOf } from './player_reason.js';
 import { imageOfSize, judgeImage } from './player_verdict.js';
 import { jobBar } from './progress.js';
 import { fileReader } from './reading.js';
 import { failureOfSaving } from './save_card.js';
-import { clearNotices, isCancelled, messageParts, notice, showNotice } from './say.js';
+import { clearNotices, isCancelled, messageParts, notice, refuseWhileSaving } from './say.js';
 import { sheetNaming } from './sheet.js';
 
 /** @typedef {import('./state.js').App} App */
@@ -43,7 +43,6 @@ export class Player {
         this.files = /** @type {File[]} */ ([]);
         this.sheet = '';
         this.leaving = false;
-        this.saving = false;
         this.number = 0;
         /** The block of the image's first sector, as far as it is known. */
         this.base = /** @type {number | null} */ (null);
@@ -96,7 +95,7 @@ export class Player {
     async open(files) {
         this.input.value = '';
         if (files.length === 0) return;
-        if (this.saving) return this.sayBusy(files);
+        if (refuseWhileSaving(this.app, files.map(file => file.name))) return;
         this.stop();
         const number = ++this.number;
         try {
@@ -110,13 +109,6 @@ export class Player {
             if (number !== this.number) return;
             this.start(isCancelled(error) ? null : notice('bad', 'Not opened.', ...messageParts(error, files.map(file => file.name))));
         }
-    }
-
-    /** @param {File[]} files */
-    sayBusy(files) {
-        const names = namesOf(files.map(file => file.name));
-        showNotice('warn', ['Not opened: ', ...names, '.'],
-            'An image is being saved. Drop it again when that has ended, or press Cancel first.');
     }
 
     /** @param {DiscImage} image */
@@ -221,23 +213,22 @@ export class Player {
     async patch(image, { work, verdict }, first) {
         const { app, data } = this;
         try {
-            const saved = await app.run((signal, cancel) => {
-                const bar = jobBar('Saving', cancel);
+            const saved = await app.runSave((signal, cancel) => {
+                const bar = jobBar('Saving', cancel, { saves: true });
                 this.show(first, this.step('2', 'now', ['Saving ', nameOf(data.name)], ...bar.parts));
-                this.leaving = this.saving = true;
+                this.leaving = true;
                 this.stop = cancel;
                 const wanted = verdict === 'right' ? data.result : '';
                 return saveWork(app, { ...work, opened: this.files }, data.name, wanted, { signal, progress: bar.at });
             });
             clearNotices();
-            this.saving = false;
             this.leaving = saved !== null && !saved.streamed;
             if (saved !== null) return this.saved(saved, verdict, first);
             return this.show(first, this.again(image, { work, verdict }, first,
                 notice('plain', 'No file was chosen.', 'Nothing was saved.')));
         } catch (error) {
             clearNotices();
-            this.leaving = this.saving = false;
+            this.leaving = false;
             return this.show(first, this.again(image, { work, verdict }, first, failureOfSaving(error, work.reader.size)));
         }
     }

@@ -1,12 +1,13 @@
 // What a player's image is to a patcher: the right disc, another dump that the patch fits or does not fit, or patched already; or one of
 // which the patch cannot say it.
 
-import { readBytes } from '../core/bytes.js';
 import { DiscFault, dataTrack } from '../core/disc.js';
+import { readLines } from '../core/long_script.js';
 import { passPatched } from '../core/patch.js';
-import { PATCH_RECORD_SIZE, RESULT, STATUS, freshSize, patchFields } from '../core/records.js';
+import { RESULT, STATUS } from '../core/records.js';
+import { ReadAhead } from '../core/read_ahead.js';
 import { sha1Of } from './crew.js';
-import { assertNotTooLong, readPatches, watched } from './patch_job.js';
+import { assertNotTooLong, scriptFor, watched } from './patch_job.js';
 import { wordsOfLine } from './script_lines.js';
 
 /** @typedef {import('./state.js').App} App */
@@ -15,7 +16,6 @@ import { wordsOfLine } from './script_lines.js';
 /** @typedef {import('../core/bytes.js').Reader} Reader */
 /** @typedef {import('./patcher.js').PatcherData} PatcherData */
 /** @typedef {import('./patch_job.js').PatchWork} PatchWork */
-/** @typedef {import('../core/script.js').Patch} Patch */
 /**
  * `right` and `patched` are said by the SHA-1 only. Any other image fits if it is as long as the author's and all that is written names its
  * old bytes; if some names none, it is `unknown`. In one that is `changed` all places have their new bytes already.
@@ -54,13 +54,13 @@ export async function judgeImage(app, data, image, watch) {
     const early = addressedBase(image, data.base) === data.base ? '' : await hash();
     const base = [data.image.sha1, data.result].includes(early) ? data.base : addressedBase(image, data.base);
     const work = { reader, base, script: data.script, carry: data.carry };
-    const patches = await readPatches(app, data.script, base);
+    const script = await scriptFor(app, data.script, base);
     assertNotTooLong(reader);
     const seen = watched(reader, { signal: watch.signal, progress: () => {} });
-    const { outcomes } = await passPatched(app.calls, seen, patches, base, data.carry);
+    const { outcomes } = await passPatched(app.calls, seen, script, { base, carry: data.carry });
     const refused = outcomes.filter(it => it.result !== RESULT.OK);
     const words = refused.length === 0 ? '' : wordsOfLine(app.calls.outcomeLine(1, refused[0].result, refused[0].block, refused[0].offset));
-    const without = countWithoutOld(patches);
+    const { without } = oldBytesOf(app, data.script);
     const judged = { sha1: '', patches: outcomes.length, without, refused: refused.map(it => it.result), words, work };
     const damaged = judged.refused.every(it => it === RESULT.DAMAGED);
     if (refused.length > 0 && !await isPatched(app, work)) return { ...judged, verdict: damaged ? 'damaged' : 'other' };
@@ -72,11 +72,16 @@ export async function judgeImage(app, data, image, watch) {
 }
 
 /**
- * How many patches name no old bytes: nothing shows whether they belong where they write.
- * @param {Patch[]} patches
+ * How many patches of a script name no old bytes, so that nothing shows whether they belong where they write; and how many old bytes the
+ * others name.
+ * @param {App} app
+ * @param {string} script that has no fault
  */
-export function countWithoutOld(patches) {
-    return patches.filter(({ bytes }) => patchFields(bytes).old === null).length;
+export function oldBytesOf({ calls }, script) {
+    const lines = readLines(calls, new TextEncoder().encode(script));
+    const patches = lines instanceof Uint8Array ? [] : lines.patches;
+    const named = patches.flatMap(({ old }) => old === null ? [] : [old]);
+    return { without: patches.length - named.length, old: named.reduce((sum, size) => sum + size, 0) };
 }
 
 /**
@@ -95,20 +100,12 @@ function addressedBase({ addressed, base }, other) {
  */
 export async function isPatched(app, { reader, base, script }) {
     let same = true;
-    const made = await passPatched(app.calls, reader, (await readPatches(app, script, base)).map(withoutOld), base, true, async piece => {
+    const ahead = new ReadAhead(reader);
+    const how = { base, carry: true, withoutOld: true };
+    const made = await passPatched(app.calls, reader, await scriptFor(app, script, base), how, async piece => {
         if (!('bytes' in piece) || !same) return;
-        const there = await readBytes(reader, piece.at, piece.bytes.length);
+        const there = await ahead.bytesAt(piece.at, piece.bytes.length);
         same = there.every((byte, i) => byte === piece.bytes[i]);
     });
     return same && made.status === STATUS.DONE && made.outcomes.length > 0;
-}
-
-/**
- * @param {Patch} patch
- * @returns {Patch}
- */
-function withoutOld({ bytes, ...patch }) {
-    const record = bytes.slice(0, PATCH_RECORD_SIZE + freshSize(bytes, 0));
-    record[9] = 0;
-    return { ...patch, bytes: record };
 }

@@ -1,11 +1,11 @@
 // What a patcher is made of: the script as it was tried on the image, and the name that the patched image gets.
 
 import { applyPatches } from '../core/patch.js';
-import { RESULT, patchFields } from '../core/records.js';
+import { RESULT } from '../core/records.js';
 import { stemOf } from './names.js';
-import { readPatches } from './patch_job.js';
+import { scriptFor } from './patch_job.js';
 import { isImageName } from './patcher_head.js';
-import { countWithoutOld } from './player_verdict.js';
+import { oldBytesOf } from './player_verdict.js';
 import { fileOf } from './reading.js';
 import { blobOfPieces, patchedName } from './save.js';
 
@@ -36,20 +36,17 @@ export function proposedName(name) {
  */
 export async function triedOn(app, image, carry) {
     const script = app.script.text || 'cdpatch 1\n';
-    const patches = await readPatches(app, script, image.base);
-    const made = await applyPatches(app.calls, image.reader, patches, image.base, carry);
+    const made = await applyPatches(app.calls, image.reader, await scriptFor(app, script, image.base), { base: image.base, carry });
     const file = fileOf(image.reader);
     if (file === null) throw new Error('this image is no file');
-    const fields = patches.map(({ bytes }) => patchFields(bytes));
     const refused = made.outcomes.filter(it => it.result !== RESULT.OK);
     return {
         script,
-        patches: patches.length,
+        patches: made.outcomes.length,
         refused: refused.length,
         first: refused.reduce((first, { number }) => first === 0 ? number : Math.min(first, number), 0),
         damaged: made.outcomes.filter(it => it.result === RESULT.DAMAGED).length,
-        without: countWithoutOld(patches),
-        old: fields.reduce((sum, { old }) => sum + (old === null ? 0 : old.length), 0),
+        ...oldBytesOf(app, script),
         result: blobOfPieces(file, made.pieces),
     };
 }

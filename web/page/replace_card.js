@@ -47,6 +47,7 @@ export class ReplaceCard {
         this.old = element('div', {});
         this.length = element('span', { class: 'small', id: 'new-length', role: 'status' });
         this.rest = element('div', { class: 'stack' });
+        this.job = element('div', { class: 'stack' });
         this.add = button('main', () => this.addLine(), 'Add to the script');
         this.all = button('', () => this.addAll(), '');
         const filling = element('span', { class: 'row small quiet' }, 'Fill with', this.fill, this.other);
@@ -54,7 +55,7 @@ export class ReplaceCard {
             element('div', { class: 'pad stack' }, this.old,
             element('div', {}, element('label', { for: 'new-text' }, 'New text'), this.input),
             element('div', { class: 'row spread' }, this.length, filling), this.rest,
-            element('div', { class: 'row' }, this.add, this.all, button('slim bare', () => owner.skip(), 'Skip ▸')),
+            element('div', { class: 'row' }, this.add, this.all, button('slim bare', () => owner.skip(), 'Skip ▸')), this.job,
             element('p', { class: 'small quiet' }, element('kbd', {}, 'Enter'), ' adds the line and goes to the next hit.')));
     }
 

@@ -84,8 +84,8 @@ export class SaveCard {
         const name = patchedName(image.name);
         this.running = true;
         try {
-            const saved = await this.app.run((signal, cancel) => {
-                const bar = jobBar('Saving', cancel);
+            const saved = await this.app.runSave((signal, cancel) => {
+                const bar = jobBar('Saving', cancel, { saves: true });
                 this.show(['Saving ', nameOf(name)], ...bar.parts, element('p', { class: 'small quiet' },
                     'After Cancel no image is kept: the browser throws the unfinished file away.'));
                 this.leaving = true;

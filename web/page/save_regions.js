@@ -1,7 +1,8 @@
 // An image that is saved, region by region: each is one write of parts of the file, with the patched sectors between them. A browser
 // writes parts of a file twice as fast as bytes that a page has read.
 
-import { extentOf, pieceReader } from './piece_reader.js';
+import { extentOf } from '../core/bytes.js';
+import { pieceReader } from './piece_reader.js';
 import { fileOf } from './reading.js';
 
 /** @typedef {import('../core/bytes.js').Reader} Reader */

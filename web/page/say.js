@@ -5,6 +5,7 @@ import { button, byId, element, fill } from './dom.js';
 import { namesOf, seen, withNames } from './names.js';
 
 /** @typedef {import('./dom.js').Child} Child */
+/** @typedef {import('./state.js').App} App */
 /** @typedef {'good' | 'bad' | 'warn' | 'plain'} Tone */
 
 /**
@@ -33,6 +34,18 @@ export function showNotice(tone, head, ...rest) {
     fill(place, made);
     place.hidden = false;
     made.scrollIntoView({ block: 'nearest' });
+}
+
+/**
+ * Whether an image is being saved, which is said then: no other one is opened until it has ended, and none is closed.
+ * @param {App} app
+ * @param {string[]} [names] of the files that were to be opened
+ */
+export function refuseWhileSaving({ saves }, names = []) {
+    if (saves === 0) return false;
+    showNotice('warn', names.length > 0 ? ['Not opened: ', ...namesOf(names), '.'] : 'An image is being saved.',
+        `${names.length > 0 ? 'An image is being saved. ' : ''}Do it again when that has ended, or press Cancel there first.`);
+    return true;
 }
 
 /** Takes away what showNotice has shown. */

@@ -1,11 +1,10 @@
 // The lines of the script: what each of them has, edits that can be undone, and what Check has said of them.
 
-import { CONTENT, RESULT, patchFields } from '../core/records.js';
-import { placesInScript } from './hits.js';
+import { CONTENT, MOST_PATCHES, RESULT } from '../core/records.js';
+import { writersBefore } from './hits.js';
 
 /** @typedef {import('../core/codes.js').Calls} Calls */
 /** @typedef {import('../core/patch.js').Outcome} Outcome */
-/** @typedef {import('./hits.js').Places} Places */
 /**
  * An edit: from a line on, which lines went and which came, and the script's names before and after it. One that was typed joins to the
  * one before it if that was typed in the same line and the same way; `saved` says that the text after it is in a file.
@@ -15,9 +14,6 @@ import { placesInScript } from './hits.js';
  */
 
 /** @typedef {{ text: string, saved: boolean, before: object }} LongScript whether it is in a file, and what stood there before it */
-
-/** More patches than this are a fault of the script. */
-export const MOST_PATCHES = 65535;
 
 /**
  * A line of the program without its number: 'line 4: applied' is 'applied'.
@@ -41,8 +37,8 @@ export class ScriptLines {
         this.faults = 0;
         /** @type {Map<number, Outcome>} by the number of the line, from 1 */
         this.outcomes = new Map();
-        /** Where the lines write whose patches were applied; null until somebody asks. */
-        this.written = /** @type {Places | null} */ (null);
+        /** The lines that have written what others ask for; null until somebody asks. */
+        this.writers = /** @type {Map<number, number> | null} */ (null);
         /** @type {Edit[]} */
         this.done = [];
         /** @type {Edit[]} */
@@ -219,29 +215,31 @@ export class ScriptLines {
     /** @param {Outcome[]} outcomes of Check */
     setOutcomes(outcomes) {
         this.outcomes = new Map(outcomes.map(outcome => [outcome.number, outcome]));
-        this.written = null;
+        this.writers = null;
     }
 
     /**
-     * The patch of a line, as patchFields has it, or null.
+     * What the patch of a line says, or null.
      * @param {number} i
      */
     patchAt(i) {
         if (this.contents[i] !== CONTENT.PATCH) return null;
         this.contentOf(this.lines[i]);
-        return patchFields(this.calls.patchRead().bytes);
+        return this.calls.patchRead();
     }
 
     /**
      * The last line before a refused one that has written the byte which differs there, or 0.
      * @param {Outcome} outcome
      */
-    writerBefore({ number, block, offset }) {
-        if (this.written === null) {
-            const isApplied = (/** @type {Outcome | undefined} */ it) => it !== undefined && it.result === RESULT.OK;
-            this.written = placesInScript(this.lines.map((line, i) => isApplied(this.outcomes.get(i + 1)) ? line : '').join('\n'));
+    writerBefore({ number }) {
+        if (this.writers === null) {
+            const outcomes = [...this.outcomes.values()];
+            const isApplied = (/** @type {number} */ line) => this.outcomes.get(line)?.result === RESULT.OK;
+            this.writers = writersBefore(this.lines.map((line, i) => isApplied(i + 1) ? line : ''),
+                outcomes.filter(({ result }) => result === RESULT.DIFFERS));
         }
-        return this.written.lineAt({ block, offset, size: 1 }, number);
+        return this.writers.get(number) || 0;
     }
 
     /**

@@ -47,6 +47,7 @@ class ScriptPanel {
         });
         this.strip = element('div', { class: 'explain', 'aria-live': 'off' });
         this.unshown = element('div');
+        this.undoing = element('div', { class: 'pad stack' });
         this.head = element('header', {});
         this.log = element('section', { class: 'card', 'aria-label': 'Log', hidden: true });
         this.side = element('div', { class: 'side' });
@@ -54,7 +55,7 @@ class ScriptPanel {
             change: () => this.open() });
         listenToEditor(this.editor);
         panel.append(element('div', { class: 'two' }, element('section', { class: 'card', 'aria-label': 'Script' }, this.head,
-            this.unshown, this.editor.box, this.strip),
+            this.undoing, this.unshown, this.editor.box, this.strip),
             this.side), this.opening);
         panel.addEventListener('keydown', event => this.pressed(event));
         this.lines.setText(NEW_SCRIPT);
@@ -163,7 +164,8 @@ class ScriptPanel {
         const fault = lines.faults > 0;
         const tag = fault ? countOf(lines.faults, 'fault') : lines.long ? countOf(lines.long.text.length, 'character')
             : `${countOf(lines.patches, 'patch', 'patches')}${lines.version ? `, version ${lines.version}` : ''}`;
-        const undo = button('slim bare', () => void makeUndo(app, undo, lines, this.check.carry.checked), 'Make the undo script…');
+        const undo = button('slim bare', () => void makeUndo(app, undo, this.undoing, lines, this.check.carry.checked),
+            'Make the undo script…');
         setDisabled(undo, fault || app.image === null || (lines.patches === 0 && !lines.long));
         fill(this.head, element('h2', { class: name ? 'mono' : '' }, name ? nameOf(name) : 'New script'),
             element('span', { class: `tag${fault ? ' bad' : ''}` }, tag),
@@ -178,7 +180,8 @@ class ScriptPanel {
     }
 
     drawSide() {
-        const none = this.lines.patches === 0 && this.lines.faults === 0 && !this.lines.long && !this.check.saving.shown();
+        const works = this.check.busy || this.check.saving.shown();
+        const none = this.lines.patches === 0 && this.lines.faults === 0 && !this.lines.long && !works;
         if (none) return fill(this.side, this.emptyCard());
         this.check.draw();
         return fill(this.side, this.check.card, this.log);

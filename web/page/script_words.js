@@ -3,7 +3,7 @@
 import { RESULT, VERB } from '../core/records.js';
 import { USER_SIZE, addressText } from '../core/sector.js';
 
-/** @typedef {ReturnType<typeof import('../core/records.js').patchFields>} PatchFields */
+/** @typedef {ReturnType<import('../core/codes.js').Calls['patchRead']>} PatchFields */
 /** A sentence, and perhaps what a button would put in place of the line, with what the button says. */
 /** @typedef {{ text: string, fix: { says: string, lines: string[] } | null }} Help */
 

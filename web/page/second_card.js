@@ -1,9 +1,11 @@
 // The card of a second image: repair from it, compare with it, or open it instead.
 
+import { isSameFile } from './chosen.js';
 import { button, countOf, element, fill, redraw } from './dom.js';
 import { oneStop } from './groups.js';
 import { nameOf } from './names.js';
-import { isCancelled, showFailure } from './say.js';
+import { fileOf } from './reading.js';
+import { isCancelled, notice, refuseWhileSaving, showFailure } from './say.js';
 import { SecondCompare } from './second_compare.js';
 import { SecondRepair } from './second_repair.js';
 import { readImage } from './survey_image.js';
@@ -30,13 +32,14 @@ export class SecondCard {
         this.title = element('h2', { id: 'second-title' });
         this.tag = element('span', { class: 'tag' });
         this.tabs = element('div', { class: 'seg', role: 'tablist', 'aria-label': 'What to do with the second image' });
+        this.note = element('div', { class: 'stack' });
         this.body = element('div', { class: 'stack', role: 'tabpanel', id: 'second-body' });
         this.table = element('div');
         this.jobs = { repair: new SecondRepair(app, changed), compare: new SecondCompare(app, changed) };
         oneStop(this.tabs, '[role=tab]', tab => this.choose(/** @type {SecondTab} */ (tab.dataset.tab)));
         const card = element('section', { class: 'card', 'aria-labelledby': 'second-title' },
             element('header', {}, this.title, this.tag, button('slim bare', () => this.close(), 'Close it')),
-            element('div', { class: 'pad stack' }, this.tabs, this.body));
+            element('div', { class: 'pad stack' }, this.note, this.tabs, this.body));
         this.part = element('div', { class: 'side', hidden: true }, card, this.table);
     }
 
@@ -46,6 +49,7 @@ export class SecondCard {
     }
 
     close() {
+        if (refuseWhileSaving(this.app)) return;
         this.app.second = null;
         this.app.emit('second');
     }
@@ -62,6 +66,9 @@ export class SecondCard {
             fill(this.title, 'Second image: ', element('span', { class: 'plain' }, nameOf(second.name)));
             fill(this.tag, same ? `same length: ${countOf(second.sectors, 'sector')}` : 'another length');
             this.tag.className = same ? 'tag good' : 'tag bad';
+            const [file, other] = [image, second].map(({ reader }) => fileOf(reader));
+            fill(this.note, file && other && isSameFile(file, other) && notice('warn', 'This is the open image itself.',
+                'Open another dump of the disc.'));
             const damaged = survey !== null && survey.marks.damaged() > 0;
             this.choose(!same ? 'open' : damaged || (survey !== null && !survey.over) ? 'repair' : 'compare');
         }

@@ -9,11 +9,12 @@ import { sha1Of } from './crew.js';
 import { askBeforeLeaving, button, counted, countOf, element, fill, hashParts, keepFocus, term } from './dom.js';
 import { nameOf, shownName } from './names.js';
 import { pieceReader } from './piece_reader.js';
-import { jobBar } from './progress.js';
+import { jobBar, runAt } from './progress.js';
 import { fileReader } from './reading.js';
 import { patchedName } from './save.js';
 import { failureOfSaving } from './save_card.js';
 import { savePieces } from './save_pieces.js';
+import { MARK } from './marks.js';
 import { messageOf, notice } from './say.js';
 import { repairMarks } from './second_marks.js';
 import { writeScript } from './second_script.js';
@@ -25,6 +26,7 @@ import { tableCard, tallyOf } from './tally.js';
 /** @typedef {import('../core/bytes.js').Piece} Piece */
 /** @typedef {import('./dom.js').Child} Child */
 /** @typedef {import('./second_marks.js').PairMarks} PairMarks */
+/** @typedef {{ repair: Repair, pieces: Piece[] }} Found the pieces are those of the repaired image */
 /** @typedef {{ block: number, here: string, there: string, file: string, same: boolean }} DamageRow */
 
 const MOST_ROWS = 200;
@@ -40,12 +42,16 @@ export class SecondRepair {
         this.changed = changed;
         this.body = element('div', { class: 'stack' });
         this.table = element('div');
+        this.place = element('div', { class: 'stack' });
         this.marks = /** @type {PairMarks | null} */ (null);
+        this.found = /** @type {Found | null} */ (null);
         this.begun = false;
-        this.tail = false;
+        this.drawn = 0;
         /** Whether a file is being saved, as far as this page can know. */
         this.saving = false;
         askBeforeLeaving(() => this.saving);
+        app.on('surveyed', () => this.draw());
+        app.on('files', () => void this.drawTable());
     }
 
     model() {
@@ -54,9 +60,8 @@ export class SecondRepair {
 
     forget() {
         this.begun = this.saving = false;
-        this.marks = null;
-        fill(this.body);
-        fill(this.table);
+        this.marks = this.found = null;
+        for (const part of [this.body, this.table, this.place]) fill(part);
     }
 
     async begin() {
@@ -72,14 +77,10 @@ export class SecondRepair {
                 fill(this.body, ...bar.parts);
                 return mergeImages(app.crew, image, [second], { signal, progress: bar.sectors }, piece => { pieces.push(piece); });
             });
-            if (app.second !== second || app.survey === null) return;
-            this.marks = repairMarks(app.survey.marks);
-            this.marks.setRuns(repair.taken, 0);
-            this.marks.setRuns(repair.damaged, 1);
-            this.tail = repair.tails[0];
-            this.draw(repair, pieces);
-            this.changed();
-            await this.drawTable(repair);
+            if (app.second !== second) return;
+            this.found = { repair, pieces };
+            this.draw();
+            await this.drawTable();
         } catch (error) {
             if (app.second !== second) return;
             this.begun = false;
@@ -87,20 +88,39 @@ export class SecondRepair {
         }
     }
 
+    /** The blocks that are not repaired: damaged ones, and those inside Mode 1 that are it in neither image. */
+    unrepaired() {
+        const { found, app: { survey } } = this;
+        if (found === null || survey === null) return [];
+        const lost = found.repair.others.filter(({ first }) => survey.marks.marks[first - survey.block] === MARK.LOST);
+        return [...found.repair.damaged, ...lost].sort((a, b) => a.first - b.first);
+    }
+
+    /** Shows what was found, on the map too. If the repair is refused nothing was found that is of use. */
+    draw() {
+        const { found, app: { survey } } = this;
+        if (found === null || survey === null) return;
+        const { repair, pieces } = found;
+        const unrepaired = this.unrepaired();
+        this.marks = repair.refused ? null : repairMarks(survey.marks);
+        if (this.marks) {
+            this.marks.setRuns(repair.taken, 0);
+            this.marks.setRuns(unrepaired, 1);
+        }
+        fill(this.body, ...repair.refused ? [refusal(repair)] : this.foundWords(repair, pieces, blocksIn(unrepaired)));
+        this.changed();
+    }
+
     /**
      * @param {Repair} repair
      * @param {Piece[]} pieces of the repaired image
+     * @param {number} damaged how many sectors are not repaired
+     * @returns {Child[]}
      */
-    draw(repair, pieces) {
-        const [taken, damaged, different] = [blocksIn(repair.taken), blocksIn(repair.damaged), repair.different[0]];
-        const tally = tallyOf([[taken, 'can be repaired', 'good-ink'], [damaged, 'cannot be repaired', damaged > 0 ? 'bad-ink' : ''],
-            [different, 'sound in both, but different', '']]);
-        if (repair.refused) {
-            fill(this.body, tally, notice('bad', 'This is no dump of the same disc, or it is shifted.',
-                `${countOf(different, 'sector is sound in both and differs', 'sectors are sound in both and differ')}: ` +
-                'more than one in a hundred. Nothing is taken.'));
-            return;
-        }
+    foundWords(repair, pieces, damaged) {
+        const [taken, different] = [blocksIn(repair.taken), repair.different[0]];
+        const tally = tallyOf([[taken, 'can be repaired', taken > 0 ? 'good-ink' : ''],
+            [damaged, 'cannot be repaired', damaged > 0 ? 'bad-ink' : ''], [different, 'sound in both, but different', '']]);
         const save = button('main', () => void this.save(pieces), 'Save repaired image…');
         const script = button('', () => void this.script(pieces), 'Write it as a script');
         const none = taken === 0 ? [notice('plain', 'There is nothing to repair from it.', damaged === 0 ? 'No sector here is damaged.'
@@ -111,22 +131,26 @@ export class SecondRepair {
         const doubt = repair.doubtful.length > 0 && notice('warn',
             `${countOf(blocksIn(repair.doubtful), 'sector has', 'sectors have')} other data here, and another EDC.`,
             `Perhaps the second image is another release of the disc: look at ${blocksText(repair.doubtful, MOST_RUNS_NAMED)} first.`);
-        const tail = this.tail && notice('warn', 'The bytes after the last sector differ.', 'They stay as they are here.');
-        this.place = element('div', { class: 'stack' });
-        fill(this.body, tally, ...none, doubt, ...warning, tail, element('p', { class: 'small quiet' },
+        const tail = repair.tails[0] && notice('warn', 'The bytes after the last sector differ.', 'They stay as they are here.');
+        return [tally, ...none, doubt, ...warning, tail, element('p', { class: 'small quiet' },
             'Whole sectors are copied, and only those that are damaged here and sound there. A sound sector is never changed. ' +
-            'Your file stays as it is.'), taken > 0 && element('div', { class: 'row' }, save, script), this.place);
+            'Your file stays as it is.'), taken > 0 && element('div', { class: 'row' }, save, script), this.place];
     }
 
     /** @param {Piece[]} pieces */
-    async save(pieces) {
+    save(pieces) {
+        return runAt(this.place, () => this.saveHere(pieces));
+    }
+
+    /** @param {Piece[]} pieces */
+    async saveHere(pieces) {
         const { app, place } = this;
         const { image, second } = app;
-        if (image === null || second === null || !place) return;
+        if (image === null || second === null) return;
         const show = (/** @type {Child[]} */ ...parts) => keepFocus(place, () => fill(place, ...parts));
         try {
-            const saved = await app.runPair((signal, cancel) => {
-                const bar = jobBar('Saving', cancel);
+            const saved = await app.runSave((signal, cancel) => {
+                const bar = jobBar('Saving', cancel, { saves: true });
                 show(...bar.parts);
                 this.saving = true;
                 const progress = (/** @type {number} */ done) => bar.at(done, image.reader.size);
@@ -166,15 +190,18 @@ export class SecondRepair {
     /** @param {Piece[]} pieces */
     async script(pieces) {
         const { image } = this.app;
-        if (image === null || !this.place) return;
+        if (image === null) return;
         await writeScript(this.app, this.place, image, pieceReader(image.reader, pieces), patchedName(image.name, 'repair', '.txt'));
     }
 
-    /** @param {Repair} repair */
-    async drawTable({ damaged }) {
-        const { second } = this.app;
+    /** Lists what is not repaired, again as soon as the files are known. */
+    async drawTable() {
+        const { found } = this;
+        if (found === null) return;
+        const number = ++this.drawn;
+        const damaged = found.repair.refused ? [] : this.unrepaired();
         const rows = await this.rows(blocksOf(damaged, MOST_ROWS));
-        if (this.app.second !== second) return;
+        if (this.found !== found || number !== this.drawn) return;
         if (rows.length === 0) {
             fill(this.table);
             return;
@@ -208,10 +235,18 @@ export class SecondRepair {
             });
             const [file] = files === null ? [] : filesAt(files.files, block, 0);
             const same = old.every((it, i) => it === other[i]);
-            rows.push({ block, here: said[0], there: said[1], file: file ? shownName(file.path) : 'in no file', same });
+            const where = file ? shownName(file.path) : files === null ? '–' : 'in no file';
+            rows.push({ block, here: said[0], there: said[1], file: where, same });
         }
         return rows;
     }
+}
+
+/** @param {Repair} repair that is refused */
+function refusal({ different: [different] }) {
+    return notice('bad', 'This is no dump of the same disc, or it is shifted.',
+        `${countOf(different, 'sector is sound in both and differs', 'sectors are sound in both and differ')}: ` +
+        'more than one in a hundred. Nothing is taken.');
 }
 
 /**

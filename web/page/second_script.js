@@ -5,7 +5,7 @@ import { leftText } from '../core/lines.js';
 import { blocksIn, blocksText } from '../core/runs.js';
 import { button, counted, countOf, element, fill, keepFocus } from './dom.js';
 import { download } from './files_out.js';
-import { jobBar } from './progress.js';
+import { jobBar, runAt } from './progress.js';
 import { isCancelled, notice, sentence } from './say.js';
 
 /** @typedef {import('./state.js').App} App */
@@ -28,7 +28,19 @@ const MOST_LEFT_NAMED = 8;
  * @param {string} name of the script's file
  * @param {boolean} [skipDamaged]
  */
-export async function writeScript(app, place, image, fresh, name, skipDamaged = false) {
+export function writeScript(app, place, image, fresh, name, skipDamaged = false) {
+    return runAt(place, () => writeScriptAt(app, place, image, fresh, name, skipDamaged));
+}
+
+/**
+ * @param {App} app
+ * @param {HTMLElement} place
+ * @param {Image} image
+ * @param {Reader} fresh
+ * @param {string} name
+ * @param {boolean} skipDamaged
+ */
+async function writeScriptAt(app, place, image, fresh, name, skipDamaged) {
     const { second } = app;
     const show = (/** @type {Node[]} */ ...parts) => {
         if (app.second === second) keepFocus(place, () => fill(place, ...parts));

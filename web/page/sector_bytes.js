@@ -8,7 +8,6 @@ import { SECTOR_SIZE } from '../core/sector.js';
 /** @typedef {import('./state.js').App} App */
 /** @typedef {import('./state.js').Image} Image */
 /** @typedef {import('../core/codes.js').Calls} Calls */
-/** @typedef {import('../core/script.js').Patch} Patch */
 
 /** A patch changes bytes of so many blocks at most. */
 const BLOCKS_OF_PATCH = 3;
@@ -17,14 +16,14 @@ const BLOCKS_OF_PATCH = 3;
 const HEADS_AND_BLOCKS = /^[ \t]*(?:cdpatch[ \t]|\w+[ \t]+(\d+)).*/gm;
 
 /**
- * The patches of a script that may change a block. Only lines that name a block near it are read, and those with a fault are left out.
+ * The script that has only the patches of a script that may change a block; '' if there are none. Only lines that name a block near it are
+ * read, and those with a fault are left out.
  * @param {Calls} calls
  * @param {string} text
  * @param {number} block
- * @returns {Patch[]}
  */
-export function patchesNear(calls, text, block) {
-    const patches = [];
+export function scriptNear(calls, text, block) {
+    const lines = [];
     let version = 0;
     for (const [line, named] of text.matchAll(HEADS_AND_BLOCKS)) {
         const isHead = named === undefined && version === 0;
@@ -33,9 +32,10 @@ export function patchesNear(calls, text, block) {
         calls.hold(bytes);
         const content = calls.readLine(version, 1, 0, 0, bytes.length);
         if (isHead && content < CONTENT.PATCH) version = content;
-        if (content === CONTENT.PATCH) patches.push({ number: 1, ...calls.patchRead() });
+        else if (content !== CONTENT.PATCH) continue;
+        lines.push(line);
     }
-    return patches.sort((a, b) => a.block - b.block);
+    return lines.length > 1 ? `${lines.join('\n')}\n` : '';
 }
 
 /**
@@ -47,9 +47,9 @@ export function patchesNear(calls, text, block) {
 export async function sectorBytes(app, { reader, base }, block) {
     const at = (block - base) * SECTOR_SIZE;
     const old = await readBytes(reader, at, SECTOR_SIZE);
-    const patches = patchesNear(app.calls, app.script.shown, block);
-    if (patches.length === 0) return { old, fresh: old };
-    const { pieces } = await applyPatches(app.calls, reader, patches, base, true);
+    const script = scriptNear(app.calls, app.script.shown, block);
+    if (script === '') return { old, fresh: old };
+    const { pieces } = await applyPatches(app.calls, reader, { text: new TextEncoder().encode(script), bases: [] }, { base, carry: true });
     for (const piece of pieces) {
         if (!('bytes' in piece) || at < piece.at || at >= piece.at + piece.bytes.length) continue;
         return { old, fresh: piece.bytes.subarray(at - piece.at, at - piece.at + SECTOR_SIZE) };

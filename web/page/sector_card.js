@@ -59,14 +59,14 @@ export class SectorCard {
         this.goTo = element('input', { type: 'text', id: 'go-to', class: 'num slim', inputmode: 'numeric', autocomplete: 'off' });
         const form = element('form', { submit: (/** @type {Event} */ event) => this.goToBlock(event) },
             element('label', { class: 'row small' }, 'Go to block', this.goTo));
+        this.noBlock = element('div');
         this.choice = element('select', { class: 'slim' });
         bindEncodings(app, this.choice, ['hex']);
-        const text = element('label', { class: 'row small' }, 'Text', this.choice);
         this.body = element('div', {}, this.said, this.fields, this.view.part, this.foot);
         this.empty = element('p', { class: 'pad quiet' }, 'Click the map, or a block in the findings. With the keyboard: ',
             element('kbd', {}, 'Tab'), ' to the map, then the arrows and ', element('kbd', {}, 'Enter'), '.');
-        this.part = element('section', { class: 'card', 'aria-labelledby': 'sector-title' }, element('header', {}, this.title, form, text),
-            this.empty, this.body);
+        this.part = element('section', { class: 'card', 'aria-labelledby': 'sector-title' }, element('header', {}, this.title, form,
+            element('label', { class: 'row small' }, 'Text', this.choice)), this.noBlock, this.empty, this.body);
         oneStop(this.fields, 'button');
         this.view.hex.addEventListener('moved', () => {
             this.digit = '';
@@ -84,6 +84,12 @@ export class SectorCard {
         if (!this.body.hidden && this.number === this.drawn) this.takeFocus();
     }
 
+    /** Takes the focus to the field for a block. */
+    ask() {
+        this.part.hidden = false;
+        this.goTo.focus();
+    }
+
     takeFocus() {
         this.wantsFocus = false;
         this.view.hex.focus();
@@ -91,6 +97,7 @@ export class SectorCard {
     }
 
     close() {
+        this.sayBlock('');
         fill(this.title, 'No sector is open');
         this.empty.hidden = false;
         this.body.hidden = true;
@@ -123,7 +130,7 @@ export class SectorCard {
     /**
      * @param {Uint8Array} old
      * @param {Uint8Array} fresh
-     * @param {Uint8Array | null} other that of the second image
+     * @param {Uint8Array | null} other
      * @param {boolean} moved
      */
     show(old, fresh, other, moved) {
@@ -136,13 +143,12 @@ export class SectorCard {
         this.body.hidden = false;
         fill(this.title, 'Sector of ', term('block', 'block'), ` ${block}`);
         this.goTo.value = String(block);
+        this.sayBlock('');
         fill(this.said, faultOf(app, block, old, found));
         const fields = fieldsOf(kind);
         if (moved) this.drawFields(fields);
-        this.view.show({
-            block, old, bytes: fresh, other, mode1, fields, crossings: new Set(found ? found.crossings : []), encoding: chosenEncoding(app),
-            label: encodingLabel(app.encoding),
-        });
+        this.view.show({ block, old, bytes: fresh, other, mode1, fields, crossings: new Set(found ? found.crossings : []),
+            encoding: chosenEncoding(app), label: encodingLabel(app.encoding) });
         if (moved) {
             const differs = other ? old.findIndex((byte, i) => byte !== other[i]) : -1;
             const first = differs >= 0 ? differs : found && found.crossings[0] || (mode1 ? USER_OFFSET : 0);
@@ -206,9 +212,14 @@ export class SectorCard {
         const { image } = this.app;
         const block = Number(this.goTo.value.trim().replace(/,/g, ''));
         const isIn = image !== null && Number.isInteger(block) && block >= image.base && block < image.base + image.sectors;
-        this.goTo.setAttribute('aria-invalid', String(!isIn));
+        this.sayBlock(isIn || image === null ? '' : `The blocks of this image are ${image.base} to ${image.base + image.sectors - 1}.`);
         if (isIn) this.app.goTo(block);
-        else if (image !== null) announce(`The blocks of this image are ${image.base} to ${image.base + image.sectors - 1}.`);
+    }
+
+    /** @param {string} fault of the block that was typed, or '' */
+    sayBlock(fault) {
+        this.goTo.setAttribute('aria-invalid', String(fault !== ''));
+        fill(this.noBlock, fault !== '' && element('p', { class: 'say bad thin', role: 'alert' }, fault));
     }
 
     /**

@@ -3,6 +3,7 @@
 import { button, byId, element, fill } from './dom.js';
 import { seenTitle, stemOf } from './names.js';
 import { Player } from './player.js';
+import { refuseWhileSaving } from './say.js';
 import { changeBase } from './survey_image.js';
 
 /** @typedef {import('./state.js').App} App */
@@ -24,6 +25,7 @@ export function showPlayer(app, data, how) {
     const player = new Player(app, data, how, place);
     app.open = files => player.open(files);
     const leave = async (/** @type {boolean} */ full) => {
+        if (refuseWhileSaving(app)) return undefined;
         player.stop();
         app.open = open;
         document.body.classList.remove('player');
@@ -31,8 +33,10 @@ export function showPlayer(app, data, how) {
         document.title = 'cdpatch';
         fill(place);
         if (!full && how.back) return how.back();
-        app.emit('patcher', data);
-        app.setScript(data.script, `${stemOf(data.title) || 'script'}.txt`, 'file');
+        if (how.back === null) {
+            app.emit('patcher', data);
+            app.setScript(data.script, `${stemOf(data.title) || 'script'}.txt`, 'file');
+        }
         app.showPanel('script');
         if (player.files.length === 0) return undefined;
         await app.open(player.files);

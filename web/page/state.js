@@ -31,10 +31,10 @@ import { USUAL_ENCODING } from '../core/text.js';
  */
 
 /**
- * What happens: an image was opened or closed (`image`); more of it was surveyed (`survey`), or all (`surveyed`); its hash or its files
- * are known (`hash`, `files`); there is a second image, or none any more (`second`); a place was chosen (`place`); the script has
- * changed (`script`); the encoding was chosen, or a table is new (`encoding`); another panel is shown (`panel`); the data of a patcher are
- * to be worked on (`patcher`).
+ * What happens: an image was opened or closed (`image`); more of it was surveyed (`survey`), or all (`surveyed`); more of it was hashed
+ * (`hash`, with how many bytes, or -1 if nobody goes on with it); its files are known (`files`); there is a second image, or none any more
+ * (`second`); a place was chosen (`place`); the script has changed (`script`); the encoding was chosen, or a table is new (`encoding`);
+ * another panel is shown (`panel`); the data of a patcher are to be worked on (`patcher`).
  * @typedef {'image' | 'survey' | 'surveyed' | 'hash' | 'files' | 'second' | 'place' | 'script' | 'encoding' | 'panel' |
  *     'patcher'} Happening
  */
@@ -68,10 +68,12 @@ export class App {
         this.panel = /** @type {PanelName} */ ('disc');
         /** @type {Map<string, ((detail: any) => void)[]>} */
         this.listeners = new Map();
-        /** @type {AbortController[]} the jobs that Escape cancels, the last one first */
-        this.jobs = [];
+        /** How many images are being saved. Until that has ended no image is opened or closed. */
+        this.saves = 0;
         /** Ends the reading of the open image. */
         this.reading = new AbortController();
+        /** Ends what is done with the open image, but for its reading. */
+        this.closing = new AbortController();
         /** Ends what is done with the second image. */
         this.pairing = new AbortController();
         /** @type {(files: File[]) => Promise<void>} opens files, as if they were dropped; open.js sets it */
@@ -101,18 +103,49 @@ export class App {
     }
 
     /**
-     * Runs a job that Escape and Cancel buttons can end. The job looks at the signal.
+     * Runs a job that its Cancel button can end. The job looks at the signal.
      * @template Result
      * @param {(signal: AbortSignal, cancel: () => void) => Promise<Result>} job
      */
     async run(job) {
         const controller = new AbortController();
-        this.jobs.push(controller);
+        return job(controller.signal, () => controller.abort());
+    }
+
+    /**
+     * Runs a job that saves an image: nothing but its Cancel button ends it.
+     * @template Result
+     * @param {(signal: AbortSignal, cancel: () => void) => Promise<Result>} job
+     */
+    async runSave(job) {
+        this.saves += 1;
         try {
-            return await job(controller.signal, () => controller.abort());
+            return await this.run(job);
         } finally {
-            this.jobs.splice(this.jobs.indexOf(controller), 1);
+            this.saves -= 1;
         }
+    }
+
+    /**
+     * Runs a job that another signal ends too.
+     * @template Result
+     * @param {AbortSignal} end
+     * @param {(signal: AbortSignal, cancel: () => void) => Promise<Result>} job
+     */
+    runUntil(end, job) {
+        return this.run((own, cancel) => {
+            end.addEventListener('abort', cancel);
+            return job(own, cancel);
+        });
+    }
+
+    /**
+     * Runs a job with the open image, which also ends when that is closed.
+     * @template Result
+     * @param {(signal: AbortSignal, cancel: () => void) => Promise<Result>} job
+     */
+    runOnImage(job) {
+        return this.runUntil(this.closing.signal, job);
     }
 
     /**
@@ -121,11 +154,7 @@ export class App {
      * @param {(signal: AbortSignal, cancel: () => void) => Promise<Result>} job
      */
     runPair(job) {
-        const { signal } = this.pairing;
-        return this.run((own, cancel) => {
-            signal.addEventListener('abort', cancel);
-            return job(own, cancel);
-        });
+        return this.runUntil(this.pairing.signal, job);
     }
 
     /** The files that are open: those of the disc with its cue sheet, and the second image. */
@@ -139,14 +168,6 @@ export class App {
     endPairing() {
         this.pairing.abort();
         this.pairing = new AbortController();
-    }
-
-    /** Cancels the job that began last, or the reading of the image, and says whether there was one. */
-    cancel() {
-        const reads = this.survey !== null && !this.survey.over;
-        const last = this.jobs[this.jobs.length - 1] || (reads ? this.reading : undefined);
-        if (last) last.abort();
-        return last !== undefined;
     }
 
     /**
@@ -192,9 +213,10 @@ export class App {
      * @param {boolean} [show]
      */
     goTo(block, offset = -1, show = false) {
+        const comes = show && this.panel !== 'disc';
         this.place = { block, offset };
         if (show) this.showPanel('disc');
-        this.emit('place', { show });
+        this.emit('place', { show, comes });
     }
 
     /** @param {PanelName} name */

@@ -5,7 +5,7 @@ import { JobAborted } from '../core/jobs.js';
 import { RECORD_SIZE } from '../core/records.js';
 import { sumsOf } from './crew.js';
 import { SurveyMarks } from './marks.js';
-import { isCancelled, showFailure } from './say.js';
+import { isCancelled, refuseWhileSaving, showFailure } from './say.js';
 
 /** @typedef {import('./state.js').App} App */
 /** @typedef {import('./state.js').Image} Image */
@@ -19,17 +19,18 @@ const SHOWN_EVERY = 150;
  * @param {Image | null} image
  */
 export async function readImage(app, image) {
+    if (refuseWhileSaving(app)) return;
     app.reading.abort();
-    app.reading = new AbortController();
+    app.closing.abort();
+    [app.reading, app.closing] = [new AbortController(), new AbortController()];
     const { signal } = app.reading;
     Object.assign(app, { image, second: null, survey: null, files: null, place: { block: -1, offset: -1 } });
     app.emit('image');
     app.emit('second');
     if (image === null) return;
     try {
-        await surveyImage(app, image);
-        await listFiles(app, image, signal);
-        await hashImage(app, image, signal);
+        const surveyed = surveyImage(app, image).then(() => listFiles(app, image, signal));
+        await Promise.all([surveyed, hashImage(app, image, signal)]);
     } catch (error) {
         if (!isCancelled(error) && app.image === image) showFailure(error);
     }
@@ -86,7 +87,12 @@ async function listFiles(app, { part }, signal) {
  * @param {AbortSignal} signal
  */
 async function hashImage(app, image, signal) {
-    Object.assign(image, await sumsOf(app.parts, image.reader, signal, done => app.emit('hash', done)));
+    try {
+        Object.assign(image, await sumsOf(app.parts, image.reader, signal, done => app.emit('hash', done)));
+    } catch (error) {
+        if (app.image === image) app.emit('hash', -1);
+        throw error;
+    }
     if (signal.aborted) throw new JobAborted();
     app.emit('hash', image.reader.size);
 }

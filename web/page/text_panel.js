@@ -1,15 +1,15 @@
 // The panel Text: find, the hits, and replacing them in the script.
 
 import { filledUp } from '../core/edit.js';
-import { searchText } from '../core/texts/search.js';
 import { AroundCard, readAround } from './around_card.js';
 import { announce, button, countOf, element, fill, hexOf, term } from './dom.js';
 import { bindEncodings, chosenEncoding, encodingLabel, takeTable } from './encodings.js';
 import { HitsCard } from './hits_card.js';
-import { MOST_HITS, linesForAll, linesReplacing, placesInScript } from './hits.js';
+import { linesForAll, linesReplacing, placesInScript } from './hits.js';
 import { jobBar } from './progress.js';
 import { ReplaceCard } from './replace_card.js';
 import { isCancelled, messageOf, notice, sentence } from './say.js';
+import { SearchJob } from './search_job.js';
 
 /** @typedef {import('./state.js').App} App */
 /** @typedef {import('./state.js').Image} Image */
@@ -28,9 +28,8 @@ class TextPanel {
         this.app = app;
         this.found = /** @type {Search | null} */ (null);
         this.chosen = -1;
-        this.number = 0;
         this.adding = false;
-        this.searching = false;
+        this.search = new SearchJob(app);
         /** @type {HTMLInputElement} */
         this.field = element('input', { type: 'text', id: 'find-text', autocomplete: 'off', spellcheck: 'false',
             input: () => this.drawAsked(),
@@ -57,11 +56,14 @@ class TextPanel {
 
     listen() {
         const { app } = this;
-        app.on('image', () => this.forget());
+        app.on('image', () => {
+            this.search.end();
+            this.forget();
+        });
         app.on('encoding', () => {
             this.drawAsked();
             this.replace.draw();
-            this.hits.contexts.clear();
+            this.hits.forgetContexts();
             this.drawHits();
         });
         for (const name of /** @type {const} */ (['script', 'files', 'panel'])) app.on(name, () => this.drawHits());
@@ -72,7 +74,8 @@ class TextPanel {
         return element('section', { class: 'card pad stack tight', 'aria-label': 'Find' }, element('div', { class: 'ask' },
             element('div', {}, label('find-text', 'Find this text'), this.field),
                 element('div', {}, label('find-encoding', 'In which encoding'), this.choice),
-            button('', () => this.table.click(), 'Load a table (.tbl)…'), button('main', () => this.find(), 'Find')), this.hint);
+            button('', () => this.table.click(), 'Load a table (.tbl)…'), button('main', () => this.find(), 'Find')),
+        this.hint, this.search.place);
     }
 
     /** The bytes of the text that is searched for, or why it has none. */
@@ -94,8 +97,12 @@ class TextPanel {
     /** Shows the hits only as long as they are those of the text and the encoding that are asked for. */
     drawAsked() {
         this.drawHint();
-        if (!this.searching && !this.adding) fill(this.state);
-        this.results.hidden = this.found === null || !this.isAsked(this.found);
+        if (!this.search.running && !this.adding) fill(this.state);
+        this.drawResults();
+    }
+
+    drawResults() {
+        this.results.hidden = this.found === null || !(this.adding || this.isAsked(this.found));
     }
 
     /**
@@ -120,25 +127,15 @@ class TextPanel {
         if (asked.text === '') return this.field.focus();
         if (image === null) return fill(this.state, notice('warn', 'No image is open.', 'Open the disc image first.'));
         if (this.field.getAttribute('aria-invalid') === 'true') return this.field.focus();
+        if (this.adding) return fill(this.state, notice('warn', 'Lines are still being made.',
+            'Search again when that has ended, or press Cancel there first.'));
         this.forget();
-        const number = ++this.number;
-        this.searching = true;
         try {
-            await app.run(async (signal, cancel) => {
-                const bar = jobBar('Searching', cancel);
-                fill(this.state, element('section', { class: 'card pad stack', 'aria-label': 'Searching' }, ...bar.parts));
-                const began = performance.now();
-                const [{ count, hits } = { count: 0, hits: [] }] = await searchText(app.crew, image, { text: asked.text,
-                    encodings: [asked.encoding], limit: MOST_HITS }, { signal, progress: bar.sectors });
-                const seconds = (performance.now() - began) / 1000;
-                if (app.image === image && number === this.number) await this.take({ ...asked, count, hits, seconds }, image);
-            });
+            const found = await this.search.find(image, asked);
+            if (found !== null) await this.take(found, image);
         } catch (error) {
-            if (number !== this.number) return undefined;
             fill(this.state, isCancelled(error) ? notice('plain', 'Cancelled.', 'The search has not come to its end.')
                 : notice('bad', messageOf(error)));
-        } finally {
-            if (number === this.number) this.searching = false;
         }
         return undefined;
     }
@@ -227,6 +224,7 @@ class TextPanel {
         if (this.adding) return;
         this.adding = true;
         await job().finally(() => { this.adding = false; });
+        this.drawResults();
     }
 
     /**
@@ -256,12 +254,12 @@ class TextPanel {
         const [{ app, found }, { image }] = [this, this.app];
         if (found === null || image === null) return;
         try {
-            const { lines, left } = await app.run((signal, cancel) => {
-                const bar = jobBar('Making the lines', cancel);
-                fill(this.state, element('section', { class: 'card pad stack', 'aria-label': 'Making the lines' }, ...bar.parts));
+            const { lines, left } = await app.runOnImage((signal, cancel) => {
+                const bar = jobBar('Making the lines', cancel, { noun: 'hits' });
+                fill(this.replace.job, ...bar.parts);
                 const places = placesInScript(app.script.shown);
                 return linesForAll(app.calls, image, chosenEncoding(app), found.hits.filter(hit => places.lineAt(hit) === 0),
-                    size => filledUp(fresh, size, filling), { signal, progress: bar.sectors });
+                    size => filledUp(fresh, size, filling), { signal, progress: bar.things });
             });
             if (app.image !== image || this.found !== found) return;
             if (lines.length > 0) app.addLines(lines);
@@ -270,7 +268,10 @@ class TextPanel {
                 : `${countOf(left.length, 'hit')} left: ${left.slice(0, 5).join('; ')}${left.length > 5 ? '; …' : '.'}`;
             fill(this.state, notice(left.length > 0 ? 'warn' : 'good', `${countOf(lines.length, 'line')} added to the script.`, rest));
         } catch (error) {
-            fill(this.state, notice(isCancelled(error) ? 'plain' : 'bad', 'Nothing was added to the script.', sentence(error)));
+            if (app.image === image) fill(this.state, notice(isCancelled(error) ? 'plain' : 'bad', 'Nothing was added to the script.',
+                sentence(error)));
+        } finally {
+            fill(this.replace.job);
         }
     }
 

@@ -3,43 +3,59 @@
 import { blocksText } from '../core/runs.js';
 import { Refusal } from '../core/script.js';
 import { undoScript } from '../core/undo.js';
-import { isDisabled } from './dom.js';
+import { element, fill, isDisabled } from './dom.js';
 import { downloadBytes } from './files_out.js';
+import { nameOf } from './names.js';
 import { watched } from './patch_job.js';
-import { jobBar } from './progress.js';
+import { jobBar, runAt } from './progress.js';
 import { isCancelled, showFailure, showNotice } from './say.js';
 
 /** @typedef {import('./state.js').App} App */
+/** @typedef {import('./state.js').Image} Image */
 /** @typedef {import('./script_lines.js').ScriptLines} ScriptLines */
 
 /**
  * Saves the script that takes this one back.
  * @param {App} app
  * @param {Element} from the button
+ * @param {HTMLElement} place where the bar stands
  * @param {ScriptLines} lines
  * @param {boolean} carry
  */
-export async function makeUndo(app, from, lines, carry) {
+export async function makeUndo(app, from, place, lines, carry) {
     const { image } = app;
     if (isDisabled(from) || image === null) return;
+    await runAt(place, () => makeUndoAt(app, image, place, lines, carry));
+}
+
+/**
+ * @param {App} app
+ * @param {Image} image
+ * @param {HTMLElement} place
+ * @param {ScriptLines} lines which may be those of another script before the job ends
+ * @param {boolean} carry
+ */
+async function makeUndoAt(app, image, place, lines, carry) {
+    const name = `${(app.script.name || 'script').replace(/\.[^.]*$/, '')} (undo).txt`;
     try {
         const made = await app.run((signal, cancel) => {
             const bar = jobBar('Making the undo script', cancel);
-            showNotice('plain', 'Making the undo script', ...bar.parts);
+            fill(place, element('h3', {}, 'Making ', nameOf(name)), ...bar.parts);
             const script = [new TextEncoder().encode(lines.text())];
             return undoScript(app.calls, watched(image.reader, { signal, progress: bar.at }), script, { base: image.base, carry });
         });
         if (made instanceof Refusal) throw new Error('The script has a fault.');
-        const stem = (app.script.name || 'script').replace(/\.[^.]*$/, '');
-        downloadBytes(made.script.pieces, `${stem} (undo).txt`);
+        downloadBytes(made.script.pieces, name);
         const left = made.left.length > 0
             && `, but for the damage of ${blocksText(made.left, 8)}: their address and user data come back`;
         const how = carry && ' Apply it with carry, as this script.';
         const long = made.script.long && ' It is longer than cdpatch and this page take: cdscript applies it with --long.';
-        showNotice(left || long ? 'warn' : 'good', 'The undo script is saved.', 'On the patched image it makes the old one again',
+        showNotice(left || long ? 'warn' : 'good', ['Saved: ', nameOf(name)], 'On the patched image it makes the old one again',
             left, '.', how, long);
     } catch (error) {
         if (isCancelled(error)) showNotice('plain', 'Cancelled.', 'No undo script was made.');
         else showFailure(error, 'No undo script was made.');
+    } finally {
+        fill(place);
     }
 }

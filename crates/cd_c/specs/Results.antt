@@ -2,7 +2,6 @@
 use Rattle.std.specs.Prelude.{ℕ, ◌+◌, nat_lt, Bool, not, if◌then◌else◌, List}
 use Rattle.cd_sector.specs.Consistent.{consistent, is_mode1}
 use Rattle.cd_sector.specs.Kind.{kind_of}
-use Rattle.cd_sector.specs.declared.sector.TheConstants.{USER_SIZE}
 
 -- the sector is changed
 abbrev pub done : ℕ
@@ -24,9 +23,9 @@ out_of_range = 3
 abbrev pub as_byte : Bool → ℕ
 as_byte b = if b then 1 else 0
 
--- whether a number of bytes from an offset on lie in the user data
+-- whether a number of bytes from an offset on lie in the 2048 of user data
 abbrev pub is_inside : ℕ → ℕ → Bool
-is_inside offset count = nat_lt (offset + count) (USER_SIZE + 1)
+is_inside offset count = nat_lt (offset + count) 2049
 
 -- what a change that carries damage returns, by the sector and whether what it writes lies inside
 abbrev pub carry_result : List ℕ → Bool → ℕ

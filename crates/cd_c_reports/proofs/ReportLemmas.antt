@@ -1,5 +1,5 @@
 -- The clauses of a call that reports: the plain ones follow from the whole one.
-use Rattle.std.proofs.Common.{◌≡◌, ◌≢◌, ℕ, ◌<◌, ◌⊎◌, List, [], length, Result, Ok, Err, inl, inr}
+use Rattle.std.proofs.Common.{◌≡◌, ◌≢◌, ℕ, ◌<◌, ◌≤◌, ◌⊎◌, List, [], length, Result, Ok, Err, inl, inr}
 use Rattle.std.proofs.Common.{refl, sym, ap, ◌∙◌, Some, arith, length-append}
 use Rattle.std.specs.Borrow.{MutBor}
 use Rattle.std.proofs.lemmas.Bool.{cases_lt}
@@ -8,7 +8,7 @@ use Rattle.cd_memory.proofs.KnownLemmas.{Appends-Some, Some-injective}
 use Rattle.cd_memory.specs.Memory.{fresh_incoming}
 use Rattle.cd_program.specs.Commands.{Ends}
 use Rattle.cd_program.specs.Running.{IsTooLong}
-use Rattle.cd_sector.specs.Image.{image_limit}
+use Rattle.cd_sector.specs.Image.{base_limit, image_limit}
 use Rattle.cd_read.specs.declared.fault.Fault.{Fault}
 use Rattle.cd_read.specs.declared.fault.Fault.TheVariants.{Log, Read, TooLong, Write}
 use Rattle.cd_report.specs.Report.{Reports, ReportSpec}
@@ -16,6 +16,7 @@ use Rattle.cd_rooms.proofs.ReportLemmas.{may-be, too-long}
 use Rattle.cd_rooms.proofs.RoomLemmas.{holds-text, same-text}
 use Rattle.cd_rooms.specs.Reports.{ReportFails, ReportsInMemory, WritesReport}
 use Rattle.cd_rooms.specs.Rooms.{FillsCounted, FillsFront, fresh_over}
+use Rattle.cd_c_reports.specs.EnoughRoom.{HasEnoughRoom, text_room}
 use Rattle.cd_stream.specs.Adapters.{slice_incoming}
 use Rattle.cd_stream.specs.Stream.{Outgoing}
 use Rattle.cd_stream.specs.declared.adapters.slice_source.SliceSource.{SliceSource}
@@ -103,10 +104,29 @@ module _ {T : Type 0} {spec : ReportSpec T} {status_of : T → ℕ} {base : ℕ}
               full)
           why (inr (inr long)) = inr (inl (too-long image left long))
 
-  pub report-clauses : record {
-    report : FillsCounted (λ out out'. ReportsInMemory spec status_of base image out out' status) room
-        room' size;
-    text : status ≢ failed_status → WritesReport spec status_of image room room' size status;
-    failed : status ≡ failed_status → ReportFails spec base image room size;
+  -- room for the whole text is enough
+  enough-room : length (spec.text image) ≤ text_room image → HasEnoughRoom base image room
+      → status ≢ failed_status
+  enough-room short enough failed = elim (report-fails failed) [
+    | inl above ↦ omega (arith, above, enough.0)
+    | inr other ↦ elim other [
+      | inl long ↦ omega (arith, long, enough.1)
+      | inr full ↦ omega (arith, full.1, short, enough.2)
+    ]
+  ]
+
+  pub report-clauses : (base ≤ base_limit → length image ≤ image_limit
+      → length (spec.text image) ≤ text_room image)
+      → record {
+        report : FillsCounted (λ out out'. ReportsInMemory spec status_of base image out out' status) room
+            room' size;
+        text : status ≢ failed_status → WritesReport spec status_of image room room' size status;
+        failed : status ≡ failed_status → ReportFails spec base image room size;
+        enough : HasEnoughRoom base image room → status ≢ failed_status;
+      }
+  report-clauses short = record {
+    report = all;
+    text = writes-report;
+    failed = report-fails;
+    enough = λ enough. enough-room (short enough.0 enough.1) enough;
   }
-  report-clauses = record { report = all; text = writes-report; failed = report-fails }

@@ -6,5 +6,6 @@
 //! that.
 #![tactic(auto)]
 
+mod laws;
 mod log_lines;
 mod reports;

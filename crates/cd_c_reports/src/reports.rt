@@ -7,6 +7,7 @@ ghost use Rattle.cd_report.specs.AuditText.{audit_report};
 ghost use Rattle.cd_report.specs.ListText.{list_report};
 ghost use Rattle.cd_rooms.specs.Reports.{ReportFails, ReportsInMemory, WritesReport};
 ghost use Rattle.cd_rooms.specs.Rooms.{FillsCounted};
+ghost use Rattle.cd_c_reports.specs.EnoughRoom.{HasEnoughRoom};
 
 use cd_rooms::{audit_image, list_image};
 use cd_stream::SliceSink;
@@ -23,6 +24,7 @@ pub extern "C" fn cdpatch_list(image: &[u8], base: u32, text: &mut [u8], length:
         image.now text.old text.new length.new result }
     ensures failed { result ≡ failed_status → ReportFails (list_report base) base image.now
         text.old length.new }
+    ensures enough { HasEnoughRoom base image.now text.old → result ≢ failed_status }
 {
     let mut listing = SliceSink::new(text);
     let status = list_image(image, base, &mut listing);
@@ -43,6 +45,7 @@ pub extern "C" fn cdpatch_audit(image: &[u8], base: u32, text: &mut [u8], length
         image.now text.old text.new length.new result }
     ensures failed { result ≡ failed_status → ReportFails (audit_report base) base image.now
         text.old length.new }
+    ensures enough { HasEnoughRoom base image.now text.old → result ≢ failed_status }
 {
     let mut findings = SliceSink::new(text);
     let status = audit_image(image, base, &mut findings);

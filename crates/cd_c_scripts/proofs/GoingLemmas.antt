@@ -1,12 +1,12 @@
 -- How far a run of C's has come, step by step.
-use Rattle.std.proofs.Common.{◌≡◌, ℕ, zero, suc, ◌+◌, ◌*◌, ◌<◌, ◌≤◌, Bool, true, false, ◌⊎◌, inl, inr, List, [], ◌∷◌, ◌++◌, length, take, drop, Option, None, Some, refl, sym, ap, ◌∙◌, subst, arith, length-append, append-nil, append_assoc, add-one}
-use Rattle.std.specs.Prelude.{All, IsSome, ◌-◌}
+use Rattle.std.proofs.Common.{◌≡◌, ℕ, suc, ◌+◌, ◌*◌, ◌<◌, ◌≤◌, Bool, true, ◌⊎◌, inl, inr, List, [], ◌∷◌, ◌++◌, length, take, drop, Some, refl, sym, ap, ◌∙◌, subst, arith, length-append, append-nil, add-one}
+use Rattle.std.specs.Prelude.{All, ◌-◌}
 use Rattle.std.specs.List.{slice_get, slice_index_or}
 use Rattle.std.proofs.lemmas.Bool.{cases_lt}
-use Rattle.std.proofs.lemmas.List.{length-take-le, take_all}
+use Rattle.std.proofs.lemmas.List.{length-take-le}
 use Rattle.std.proofs.Math.ListN.{length-take}
 use Rattle.cd_script.specs.PatchForm.{Patch}
-use Rattle.cd_sector.specs.Image.{base_limit, bytes_of, image_limit, sector_limit, sectors, tail}
+use Rattle.cd_sector.specs.Image.{base_limit, bytes_of, sectors, tail}
 use Rattle.cd_sector.specs.declared.sector.TheConstants.{SECTOR_SIZE}
 use Rattle.cd_sector.proofs.ImageLemmas.{IsCut-sectors}
 use Rattle.cd_patch.specs.declared.outcome.Outcome.{Outcome}
@@ -17,12 +17,12 @@ use Rattle.cd_run.specs.PatchLog.{counts_line, log_line, log_lines, refused_coun
 use Rattle.cd_run.specs.Running.{Holds, IsRun, Reached, closed_at, sent_bytes, tail_at, tail_bytes, tail_of, window_of}
 use Rattle.cd_run.specs.Underway.{Underway}
 use Rattle.cd_run.specs.declared.run.PatchRun.{PatchRun}
-use Rattle.cd_run.proofs.BytesLemmas.{AreSized, bytes_of-append, bytes_of-more, length-bytes_of}
+use Rattle.cd_run.proofs.BytesLemmas.{AreSized, length-bytes_of}
 use Rattle.cd_run.proofs.LeftLemmas.{all_taken, next_taken, none_left}
 use Rattle.cd_run.proofs.PatchLogLemmas.{counts-all, log_lines-append}
 use Rattle.cd_run.proofs.RunningLemmas.{Reached-ends, none_open, tail_none, unclosed_at}
 use Rattle.cd_run.proofs.UnderwayLemmas.{Underway-copied, Underway-end, Underway-sector, Underway-sent, Underway-start, tail_some}
-use Rattle.cd_c_scripts.specs.Runs.{Going, IsDone, SameInHand, Steps, status_of}
+use Rattle.cd_c_scripts.specs.Runs.{Going, IsDone, SameInHand, status_of}
 
 -- ---- the tail
 

@@ -30,8 +30,6 @@ use Rattle.cd_c_scripts.specs.Indexing.{IndexesBy}
 use Rattle.std.specs.List.{slice_set}
 use Rattle.cd_c_scripts.specs.Entries.{AllBelow, AreEntries, IsEntry, IsIndexed, LinesRise}
 use Rattle.cd_script.specs.Order.{order}
-use Rattle.cd_script.proofs.OrderLemmas.{order-permutes}
-use Rattle.std.proofs.lemmas.List.Sorted.{length_permutation}
 
 -- ---- how far it has come: `front` was read, and `rest` is left
 

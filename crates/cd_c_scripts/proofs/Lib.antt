@@ -1,6 +1,7 @@
 mod BeyondLemmas
 mod EntryLemmas
 mod GoingLemmas
+mod InOrderLemmas
 mod IndexLemmas
 mod MovedLemmas
 pub mod NumberLemmas

@@ -1,5 +1,5 @@
 -- What a client may have moved, by what was asked for.
-use Rattle.std.proofs.Common.{◌≡◌, ℕ, ◌*◌, ◌<◌, ◌≤◌, ◌⊎◌, ◌++◌, Bool, List, [], length, take, inr, ap, arith}
+use Rattle.std.proofs.Common.{◌≡◌, ℕ, ◌*◌, ◌<◌, ◌≤◌, ◌⊎◌, ◌++◌, Bool, List, [], length, take, inr, arith}
 use Rattle.std.specs.List.{slice_index_or}
 use Rattle.cd_script.specs.PatchForm.{Patch}
 use Rattle.cd_sector.specs.Image.{sector_limit}

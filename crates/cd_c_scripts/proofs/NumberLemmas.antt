@@ -1,14 +1,10 @@
 -- The numbers of outcomes and faults, case by case.
-use Rattle.std.proofs.Common.{◌≡◌, ℕ, Bool, true, false, refl, sym, ◌∙◌, arith}
+use Rattle.std.proofs.Common.{◌≡◌, ℕ, Bool, true, false, refl, sym, ◌∙◌}
 use Rattle.std.specs.Prelude.{IfSome, None}
 use Rattle.std.specs.Bool.{◌==◌, if◌then◌else◌}
 use Rattle.std.specs.Prelude.{Option, Some}
 use Rattle.std.proofs.lemmas.Bool.{eqb-true}
-use Rattle.cd_patch.specs.OutcomeNumbers.{outcome_of}
-use Rattle.cd_patch.specs.declared.outcome.Outcome.{Outcome}
 use Rattle.cd_patch.specs.declared.outcome.Outcome.TheVariants.{Applied, Damaged, Differs, NoBlock, NotMode1}
-use Rattle.cd_script.specs.FaultNumbers.{fault_of, line_of}
-use Rattle.cd_script.specs.declared.fault.ScriptFault.{ScriptFault}
 use Rattle.cd_script.specs.declared.fault.ScriptFault.TheVariants as fault
 use Rattle.cd_c_scripts.specs.Lines.{fault_number}
 use Rattle.cd_c_scripts.specs.NumberLaws.{FaultsAreRead, FaultsHaveNumbers, OutcomesAreRead, OutcomesHaveNumbers}

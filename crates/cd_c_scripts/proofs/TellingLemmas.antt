@@ -1,31 +1,36 @@
 -- The relation, kept by what a run asks for and tells.
-use Rattle.std.proofs.Common.{◌≡◌, ℕ, zero, suc, ◌+◌, ◌*◌, ◌<◌, ◌≤◌, ◌⊎◌, inl, inr, Bool, true, false, List, [], ◌∷◌, ◌++◌, length, take, drop, Some, refl, sym, ap, ◌∙◌, subst, arith, append-nil}
-use Rattle.std.specs.Prelude.{All, ◌-◌, cond, nat_eq}
+use Rattle.std.proofs.Common.{◌≡◌, ℕ, ◌+◌, ◌*◌, ◌<◌, ◌≤◌, ◌⊎◌, inl, inr, Bool, true, false, List, [], ◌++◌, length, take, drop, refl, sym, ap, ◌∙◌, subst, arith, append-nil}
+use Rattle.std.specs.Prelude.{◌-◌, cond, nat_eq}
 use Rattle.std.specs.List.{slice_get}
 use Rattle.cd_script.specs.PatchForm.{Patch}
-use Rattle.cd_sector.specs.Image.{image_limit, sector_limit}
+use Rattle.cd_sector.specs.Image.{sector_limit}
 use Rattle.cd_sector.specs.declared.sector.TheConstants.{SECTOR_SIZE}
 use Rattle.cd_patch.specs.declared.outcome.Outcome.{Outcome}
-use Rattle.cd_run.specs.PatchLog.{counts_line, log_line, outcome_line, refused_count}
+use Rattle.cd_run.specs.PatchLog.{counts_line, log_when_out_fails, outcome_line, refused_count}
 use Rattle.cd_run.specs.Messages.{long_image}
 use Rattle.cd_run.specs.declared.run.PatchRun.{PatchRun}
-use Rattle.cd_run.specs.declared.run.Step.TheVariants.{Copy, End, Read, Send, SendTail}
+use Rattle.cd_run.specs.declared.run.Step.TheVariants.{Copy, Decide, End, Read, Send, SendTail}
+use Rattle.cd_run.specs.Running.{tail_at}
 use Rattle.cd_run.proofs.LeftLemmas.{copies_none}
+use Rattle.cd_run.proofs.UnderwayLemmas.{first_left}
 use Rattle.cd_c_scripts.specs.Flags.{carries, copies}
+use Rattle.cd_c_scripts.specs.InOrder.{EachComing, IsInOrder, MayCome, logged_by}
 use Rattle.cd_c_scripts.specs.Outcomes.{outcome_block, outcome_number, outcome_offset}
-use Rattle.cd_c_scripts.specs.Runs.{About, Asks, Comes, Going, Goes, IsBeyond, IsDone, IsLineOf, IsLog, IsLookedAt, IsRunning, IsTooLong, MeetsMore, Steps, Tells, logged_by, status_of}
+use Rattle.cd_c_scripts.specs.Runs.{About, Asks, Going, Goes, IsBeyond, IsDone, IsLineOf, IsLog, IsLookedAt, IsRunning, IsTooLong, MeetsMore, Steps, Tells, status_of}
+use Rattle.cd_c_scripts.specs.StepKinds.{copy_kind, end_kind, log_kind, read_kind, write_kind}
 use Rattle.cd_c_scripts.specs.declared.entries.Entry.{Entry}
 use Rattle.cd_c_scripts.specs.declared.run_state.RunStep.{RunStep}
 use Rattle.cd_c_scripts.specs.declared.run_state.ScriptRun.{ScriptRun}
-use Rattle.cd_c_scripts.specs.declared.run_state.TheConstants.{COPY, COPYING, END, LOG, NOTHING, OVER, READ, READING, STOPPED, WRITE, WRITING, WRITING_TAIL}
+use Rattle.cd_c_scripts.specs.declared.run_state.TheConstants.{COPYING, NOTHING, OVER, READING, STOPPED, WRITING, WRITING_TAIL}
 use Rattle.cd_c_scripts.proofs.GoingLemmas.{Going-done, Going-read, Going-sent-size}
+use Rattle.cd_c_scripts.proofs.InOrderLemmas.{Extends, beyond-in-order, copy-in-order, done-in-order, extends, last-in-order, line-in-order, log-begins, sector-in-order, sent-begins, tail-in-order, told-size}
 use Rattle.cd_c_scripts.proofs.MovedLemmas.{about_as}
 
 -- a step that is no line
-pub not_logged : (step : RunStep) (kind : ℕ) → step.kind ≡ kind → kind < LOG → logged_by step ≡ []
+pub not_logged : (step : RunStep) (kind : ℕ) → step.kind ≡ kind → kind < log_kind → logged_by step ≡ []
 not_logged step kind is few = grind arith
 
-pub is_logged : (step : RunStep) → step.kind ≡ LOG → logged_by step ≡ take step.size step.text
+pub is_logged : (step : RunStep) → step.kind ≡ log_kind → logged_by step ≡ take step.size step.text
 is_logged step is = rw is refl
 
 -- two states of one machine that differ in what they ask for
@@ -44,35 +49,76 @@ same_run old new asked most size is = record {
   flags = ap (λ r. r.flags) is;
 }
 
+same_stage : (old new : ScriptRun) → SameRun old new → new.machine.stage ≡ old.machine.stage
+same_stage old new same = ap (λ m. m.stage) same.machine
+
+-- ---- in order
+
+-- what has to stand in the log before each byte of a step that sends some
+abbrev LinesBefore : Bool → List Patch → ℕ → List ℕ → List ℕ → List ℕ → ScriptRun → RunStep → Type 0
+LinesBefore carry patches base read sent log_bytes run step =
+    (step.kind ≡ write_kind) ⊎ (step.kind ≡ copy_kind)
+    → EachComing carry patches base run read (λ image outcomes last. (k : ℕ) → k < step.size
+    → length sent + k < length image
+    → log_bytes ≡ log_when_out_fails patches outcomes base (length image) (length sent + k))
+
+-- an image that may be coming, to a state of a run that goes on
+module _ {carry : Bool} {patches : List Patch} {base : ℕ} {read sent log_bytes : List ℕ}
+    {machine : PatchRun} {hand : List (List ℕ)}
+    (h : Going carry patches base read sent log_bytes machine hand) (run : ScriptRun)
+    (same : run.machine.stage ≡ machine.stage) where
+  ended_as : {image : List ℕ} → MayCome run read image → 0 < machine.stage → image ≡ read
+  ended_as may some = may.ended (inr (omega (arith, same, some)))
+
+  comes_as : {image : List ℕ} → MayCome run read image
+      → Extends h.seen (tail_at machine.stage h.tail) image
+  comes_as {image} may = extends h image may.begins (ended_as may)
+
 module _ {text : List ℕ} {es : List Entry} {patches : List Patch} {base : ℕ}
     {read sent log_bytes : List ℕ} {old new : ScriptRun} {hand : List (List ℕ)} {step : RunStep}
     (about : About text es patches base old)
     (h : Going (carries old.flags) patches base read sent log_bytes old.machine hand)
     (same : SameRun old new) where
   -- a step that moves bytes
-  pub Goes-asked : Asks patches new → Tells patches read sent new step → logged_by step ≡ []
+  pub Goes-asked : Asks patches new → Tells patches read sent new step → step.kind < log_kind
+      → LinesBefore (carries old.flags) patches base read sent log_bytes new step
       → Goes text es patches base read sent log_bytes new hand step
-  Goes-asked asks tells none = record {
-    running =
-        IsRunning.going (about_as new about same.version same.count same.flags)
-        (rw (same.flags, same.machine, none, append-nil log_bytes) h) asks;
-    tells = tells;
-  }
+  Goes-asked asks tells moves lines =
+      let none = not_logged step step.kind refl moves in
+      record {
+        running =
+            IsRunning.going (about_as new about same.version same.count same.flags)
+            (rw (same.flags, same.machine, none, append-nil log_bytes) h) asks;
+        tells = tells;
+        in_order =
+            subst (λ c. IsInOrder c patches base read sent log_bytes new step)
+            (sym (ap carries same.flags)) (record {
+              sent_begins = λ image may os last patched.
+                  sent-begins h (comes_as h new (same_stage old new same) may) (ended_as h new (same_stage old new same) may) patched;
+              log_begins = λ image may os last patched.
+                  rw (none, append-nil log_bytes) (log-begins h (comes_as h new (same_stage old new same) may) patched);
+              lines_before = lines;
+              bytes_before = λ is. absurd (omega (arith, is, moves));
+            });
+      }
 
   -- COPY
   pub Goes-copy : (most : ℕ) → Steps patches old.machine (Copy most) → new.asked ≡ COPYING
-      → new.most ≡ most → new.size ≤ SECTOR_SIZE * most → step.kind ≡ COPY
+      → new.most ≡ most → new.size ≤ SECTOR_SIZE * most → step.kind ≡ copy_kind
       → step.at ≡ SECTOR_SIZE * old.machine.sectors → step.size ≡ new.size → 0 < step.size
       → copies old.flags ≡ true → Goes text es patches base read sent log_bytes new hand step
   Goes-copy most steps asked is_most few kind at size some may =
       Goes-asked
       (Asks.copying asked (rw (same.machine, is_most) steps) (omega (arith, few, is_most)))
       (Tells.to_copy kind asked (at ∙ sym (Going-read h steps.0.1)) size some (rw same.flags may))
-      (not_logged step COPY kind (omega arith))
+      (omega (arith, kind))
+      (λ sends image comes os last patched k here inside.
+      copy-in-order h (comes_as h new (same_stage old new same) comes) patched most k steps.0.0 steps.0.1 steps.1
+      (omega (arith, here, size, few)) inside)
 
   -- READ
   pub Goes-read : Steps patches old.machine Read → new.asked ≡ READING → new.size ≤ SECTOR_SIZE
-      → (old.machine.sectors < sector_limit) ⊎ (new.size ≡ 1) → step.kind ≡ READ
+      → (old.machine.sectors < sector_limit) ⊎ (new.size ≡ 1) → step.kind ≡ read_kind
       → step.at ≡ SECTOR_SIZE * old.machine.sectors → step.place ≡ SECTOR_SIZE * old.machine.held
       → step.size ≡ new.size → 0 < step.size
       → (old.machine.sectors ≡ sector_limit) ⊎ (MeetsMore (drop old.machine.decided patches) old.machine
@@ -92,11 +138,12 @@ module _ {text : List ℕ} {es : List Entry} {patches : List Patch} {base : ℕ}
           | inr no_copy ↦ IsLookedAt.no_copy (rw same.flags no_copy)
         ]
       ]))
-      (not_logged step READ kind (omega arith))
+      (omega (arith, kind))
+      (λ sends. absurd (elim sends [ inl w ↦ omega (arith, w, kind) | inr c ↦ omega (arith, c, kind) ]))
 
   -- WRITE
   pub Goes-write : Steps patches old.machine Send → new.asked ≡ WRITING → new.size ≡ SECTOR_SIZE
-      → step.kind ≡ WRITE
+      → step.kind ≡ write_kind
       → step.at ≡ SECTOR_SIZE * (old.machine.sectors - old.machine.held) → step.place ≡ 0
       → step.size ≡ SECTOR_SIZE → old.machine.held ≤ length hand
       → Goes text es patches base read sent log_bytes new hand step
@@ -105,10 +152,13 @@ module _ {text : List ℕ} {es : List Entry} {patches : List Patch} {base : ℕ}
       (Tells.to_write kind (inl asked)
       (at ∙ sym (Going-sent-size h (omega (arith, h.sound.closed, steps.0)) room)) place
       (step_size ∙ sym size) (omega (arith, step_size)))
-      (not_logged step WRITE kind (omega arith))
+      (omega (arith, kind))
+      (λ sends image comes os last patched k here inside.
+      sector-in-order h (comes_as h new (same_stage old new same) comes) patched k room steps.0 steps.1
+      (omega (arith, here, step_size)) inside)
 
   pub Goes-write_tail : Steps patches old.machine SendTail → new.asked ≡ WRITING_TAIL
-      → new.size ≡ old.machine.tail → step.kind ≡ WRITE
+      → new.size ≡ old.machine.tail → step.kind ≡ write_kind
       → step.at ≡ SECTOR_SIZE * (old.machine.sectors - old.machine.held) → step.place ≡ 0
       → step.size ≡ old.machine.tail → 0 < old.machine.tail → old.machine.held ≤ length hand
       → Goes text es patches base read sent log_bytes new hand step
@@ -117,7 +167,10 @@ module _ {text : List ℕ} {es : List Entry} {patches : List Patch} {base : ℕ}
       (Tells.to_write kind (inr asked)
       (at ∙ sym (Going-sent-size h (omega (arith, steps.0.1)) room)) place
       (step_size ∙ sym size) (omega (arith, step_size, some)))
-      (not_logged step WRITE kind (omega arith))
+      (omega (arith, kind))
+      (λ sends image comes os last patched k here inside.
+      tail-in-order h (comes_as h new (same_stage old new same) comes) patched k steps.0.0 steps.0.1
+      (omega (arith, here, step_size, h.sound.tail)) inside)
 
 -- a sector is read where it could be copied
 pub read_for_copy : (patches : List Patch) (machine : PatchRun) (most : ℕ)
@@ -132,19 +185,22 @@ read_for_copy patches machine most steps = (
 
 -- the line of a patch
 pub Goes-decided : {text : List ℕ} {es : List Entry} {patches : List Patch} {base : ℕ}
-    {read sent log_bytes : List ℕ} {old mid new : ScriptRun} {hand : List (List ℕ)} {step : RunStep}
-    (number : ℕ) (o : Outcome) → About text es patches base old
+    {read sent log_bytes : List ℕ} {old mid new : ScriptRun} {before hand : List (List ℕ)}
+    {step : RunStep} (number : ℕ) (o : Outcome) → About text es patches base old
+    → Going (carries old.flags) patches base read sent log_bytes old.machine before
+    → Steps patches old.machine Decide → old.machine.held ≤ length before
     → Going (carries old.flags) patches base read sent (log_bytes ++ outcome_line number o)
     mid.machine hand
-    → IsLineOf patches old.machine.decided number
+    → IsLineOf patches old.machine.decided number → mid.machine.stage ≡ old.machine.stage
     → mid ≡ record old { machine = mid.machine } → mid.machine.decided ≡ old.machine.decided + 1
     → SameRun mid new → new.asked ≡ NOTHING → IsLog new step
-    → take step.size step.text ≡ outcome_line number o → step.number ≡ number
-    → step.result ≡ outcome_number o → step.block ≡ outcome_block o
-    → step.offset ≡ outcome_offset o
+    → take step.size step.text ≡ outcome_line number o → step.size ≡ length (outcome_line number o)
+    → step.number ≡ number → step.result ≡ outcome_number o
+    → step.block ≡ outcome_block o → step.offset ≡ outcome_offset o
     → Goes text es patches base read sent log_bytes new hand step
-Goes-decided {patches = patches} {old = old} {mid = mid} {new = new} {step = step} number o about h line others more same asked log text step_number step_result step_block step_offset =
+Goes-decided {patches = patches} {base = base} {read = read} {sent = sent} {log_bytes = log_bytes} {old = old} {mid = mid} {new = new} {step = step} number o about was steps room h line stage others more same asked log text size step_number step_result step_block step_offset =
     let flags : new.flags ≡ old.flags = same.flags ∙ ap (λ r. r.flags) others in
+    let same_stage : new.machine.stage ≡ mid.machine.stage = ap (λ m. m.stage) same.machine in
     record {
       running =
           IsRunning.going
@@ -162,6 +218,27 @@ Goes-decided {patches = patches} {old = old} {mid = mid} {new = new} {step = ste
             block = step_block;
             offset = step_offset;
           });
+      in_order =
+          subst (λ c. IsInOrder c patches base read sent log_bytes new step) (sym (ap carries flags))
+          (record {
+            sent_begins = λ image may os last patched.
+                sent-begins h (comes_as h new same_stage may) (ended_as h new same_stage may) patched;
+            log_begins = λ image may os last patched.
+                rw (is_logged step log.kind, text) (log-begins h (comes_as h new same_stage may) patched);
+            lines_before = λ sends. absurd (elim sends [
+              | inl w ↦ omega (arith, w, log.kind)
+              | inr c ↦ omega (arith, c, log.kind)
+            ]);
+            bytes_before = λ is within image may os last patched k inside.
+                line-in-order was (comes_as was new (same_stage ∙ stage) may) patched steps.1.0 steps.1.1
+                steps.1.2 steps.1.3 room (ended_as was new (same_stage ∙ stage) may) step.size k
+                (λ u back all.
+                size
+                ∙ told-size (outcome_line number o) was h steps.1.0
+                (first_left patches old.machine.decided steps.1.0 steps.1.1 steps.1.2).0 more
+                (comes_as h new same_stage may) patched u back all)
+                inside;
+          });
     }
 
 -- the last line
@@ -175,13 +252,29 @@ pub Goes-last : {text : List ℕ} {es : List Entry} {patches : List Patch} {base
     → step.number ≡ 0
     → new.most ≡ status_of (old.machine.decided - old.machine.applied)
     → Goes text es patches base read sent log_bytes new hand step
-Goes-last {step = step} old steps h asked flags log line number status = record {
-  running =
-      IsRunning.over asked
-      (rw (flags, is_logged step log.kind)
-      (Going-done (take step.size step.text) _ h steps.1 steps.0.0 steps.0.1 line status));
-  tells = Tells.to_log_last log (inl asked) number;
-}
+Goes-last {patches = patches} {base = base} {read = read} {sent = sent} {log_bytes = log_bytes} {new = new} {step = step} old steps h asked flags log line number status =
+    let done = Going-done (take step.size step.text) _ h steps.1 steps.0.0 steps.0.1 line status in
+    let is_log = is_logged step log.kind in
+    record {
+      running = IsRunning.over asked (rw (flags, is_log) done);
+      tells = Tells.to_log_last log (inl asked) number;
+      in_order =
+          subst (λ c. IsInOrder c patches base read sent log_bytes new step) (sym (ap carries flags))
+          (record {
+            sent_begins = λ image may os last patched.
+                (done-in-order done may.within (may.ended (inl asked)) patched).0;
+            log_begins = λ image may os last patched.
+                rw is_log (done-in-order done may.within (may.ended (inl asked)) patched).1;
+            lines_before = λ sends. absurd (elim sends [
+              | inl w ↦ omega (arith, w, log.kind)
+              | inr c ↦ omega (arith, c, log.kind)
+            ]);
+            bytes_before = λ is within image may os last patched k inside.
+                let same = may.ended (inl asked) in
+                last-in-order h (extends h image may.begins (λ some. same)) patched steps.1 steps.0.1
+                same k;
+          });
+    }
 
 -- the line of an image that is too long
 pub Goes-long : {text : List ℕ} {es : List Entry} {patches : List Patch} {base : ℕ}
@@ -190,15 +283,34 @@ pub Goes-long : {text : List ℕ} {es : List Entry} {patches : List Patch} {base
     → new.asked ≡ STOPPED → new.flags ≡ old.flags → IsLog new step
     → take step.size step.text ≡ long_image → step.number ≡ 0
     → Goes text es patches base read sent log_bytes new hand step
-Goes-long {log_bytes = log_bytes} {step = step} old beyond asked flags log line number = record {
-  running =
-      IsRunning.long asked (record {
-        before = log_bytes;
-        ends = ap (λ l. log_bytes ++ l) (is_logged step log.kind ∙ line);
-        goes_beyond = rw flags beyond;
-      });
-  tells = Tells.to_log_last log (inr asked) number;
-}
+Goes-long {patches = patches} {base = base} {read = read} {sent = sent} {log_bytes = log_bytes} {new = new} {step = step} old beyond asked flags log line number =
+    let told : logged_by step ≡ long_image = is_logged step log.kind ∙ line in
+    record {
+      running =
+          IsRunning.long asked (record {
+            before = log_bytes;
+            ends = ap (λ l. log_bytes ++ l) told;
+            goes_beyond = rw flags beyond;
+          });
+      tells = Tells.to_log_last log (inr asked) number;
+      in_order =
+          subst (λ c. IsInOrder c patches base read sent log_bytes new step) (sym (ap carries flags))
+          (record {
+            sent_begins = λ image may os last patched.
+                (beyond-in-order beyond may.within may.begins patched).0;
+            log_begins = λ image may os last patched. (
+              [],
+              (beyond-in-order beyond may.within may.begins patched).1
+                  ∙ ap (λ l. log_bytes ++ l) (sym told)
+                  ∙ sym (append-nil (log_bytes ++ logged_by step)),
+            );
+            lines_before = λ sends. absurd (elim sends [
+              | inl w ↦ omega (arith, w, log.kind)
+              | inr c ↦ omega (arith, c, log.kind)
+            ]);
+            bytes_before = λ is within. absurd (omega (arith, within, beyond.beyond));
+          });
+    }
 
 -- a status is 0 or 1
 pub status_few : {carry : Bool} {patches : List Patch} {base : ℕ} {read sent log_bytes : List ℕ}
@@ -213,25 +325,60 @@ status_few done = by_test (nat_eq (refused_count done.outcomes) 0) done.status_r
 pub Goes-over : {text : List ℕ} {es : List Entry} {patches : List Patch} {base : ℕ}
     {read sent log_bytes : List ℕ} {new : ScriptRun} {hand : List (List ℕ)} {step : RunStep}
     (old : ScriptRun) → IsDone (carries old.flags) patches base read sent log_bytes old.most → old.asked ≡ OVER
-    → new ≡ record old { size = 0 } → step.kind ≡ END → step.status ≡ old.most
+    → new ≡ record old { size = 0 } → step.kind ≡ end_kind → step.status ≡ old.most
     → Goes text es patches base read sent log_bytes new hand step
-Goes-over {log_bytes = log_bytes} {step = step} old done asked is kind status = record {
-  running =
-      IsRunning.over (ap (λ r. r.asked) is ∙ asked)
-      (rw (ap (λ r. r.flags) is, ap (λ r. r.most) is, not_logged step END kind (omega arith), append-nil log_bytes)
-      done);
-  tells = Tells.to_end kind (ap (λ r. r.asked) is ∙ asked) (status ∙ sym (ap (λ r. r.most) is));
-}
+Goes-over {patches = patches} {base = base} {read = read} {sent = sent} {log_bytes = log_bytes} {new = new} {step = step} old done asked is kind status =
+    let over : new.asked ≡ OVER = ap (λ r. r.asked) is ∙ asked in
+    let none = not_logged step end_kind kind (omega arith) in
+    record {
+      running =
+          IsRunning.over over
+          (rw (ap (λ r. r.flags) is, ap (λ r. r.most) is, none, append-nil log_bytes) done);
+      tells = Tells.to_end kind over (status ∙ sym (ap (λ r. r.most) is));
+      in_order =
+          subst (λ c. IsInOrder c patches base read sent log_bytes new step)
+          (sym (ap (λ r. carries r.flags) is)) (record {
+            sent_begins = λ image may os last patched.
+                (done-in-order done may.within (may.ended (inl over)) patched).0;
+            log_begins = λ image may os last patched.
+                rw (none, append-nil log_bytes)
+                (done-in-order done may.within (may.ended (inl over)) patched).1;
+            lines_before = λ sends. absurd (elim sends [
+              | inl w ↦ omega (arith, w, kind)
+              | inr c ↦ omega (arith, c, kind)
+            ]);
+            bytes_before = λ log. absurd (omega (arith, log, kind));
+          });
+    }
 
 -- the end of an image that is too long
 pub Goes-stopped : {text : List ℕ} {es : List Entry} {patches : List Patch} {base : ℕ}
     {read sent log_bytes : List ℕ} {new : ScriptRun} {hand : List (List ℕ)} {step : RunStep}
     (old : ScriptRun) → IsTooLong (carries old.flags) patches base read sent log_bytes
-    → new ≡ record old { asked = STOPPED; size = 0 } → step.kind ≡ END → step.status ≡ 2
+    → new ≡ record old { asked = STOPPED; size = 0 } → step.kind ≡ end_kind → step.status ≡ 2
     → Goes text es patches base read sent log_bytes new hand step
-Goes-stopped {log_bytes = log_bytes} {step = step} old long is kind status = record {
-  running =
-      IsRunning.long (ap (λ r. r.asked) is)
-      (rw (ap (λ r. r.flags) is, not_logged step END kind (omega arith), append-nil log_bytes) long);
-  tells = Tells.to_stop kind (omega (arith, long.goes_beyond.beyond)) status;
-}
+Goes-stopped {patches = patches} {base = base} {read = read} {sent = sent} {log_bytes = log_bytes} {new = new} {step = step} old long is kind status =
+    let none = not_logged step end_kind kind (omega arith) in
+    record {
+      running =
+          IsRunning.long (ap (λ r. r.asked) is)
+          (rw (ap (λ r. r.flags) is, none, append-nil log_bytes) long);
+      tells = Tells.to_stop kind (omega (arith, long.goes_beyond.beyond)) status;
+      in_order =
+          subst (λ c. IsInOrder c patches base read sent log_bytes new step)
+          (sym (ap (λ r. carries r.flags) is)) (record {
+            sent_begins = λ image may os last patched.
+                (beyond-in-order long.goes_beyond may.within may.begins patched).0;
+            log_begins = λ image may os last patched. (
+              [],
+              (beyond-in-order long.goes_beyond may.within may.begins patched).1 ∙ sym long.ends
+                  ∙ sym (append-nil log_bytes) ∙ ap (λ l. log_bytes ++ l) (sym none)
+                  ∙ sym (append-nil (log_bytes ++ logged_by step)),
+            );
+            lines_before = λ sends. absurd (elim sends [
+              | inl w ↦ omega (arith, w, kind)
+              | inr c ↦ omega (arith, c, kind)
+            ]);
+            bytes_before = λ log. absurd (omega (arith, log, kind));
+          });
+    }

@@ -1,5 +1,5 @@
 -- The patches of a script in entries, one for each, in the order of application.
-use Rattle.std.specs.Prelude.{◌≡◌, ℕ, ◌+◌, ◌*◌, ◌<◌, ◌≤◌, List, [], ◌∷◌, All, Option, Some, Ok, drop, take, length}
+use Rattle.std.specs.Prelude.{◌≡◌, ℕ, ◌+◌, ◌*◌, ◌<◌, ◌≤◌, List, [], ◌∷◌, All, Some, Ok, drop, take, length}
 use Rattle.std.specs.List.{slice_get, slice_index_or}
 use Rattle.cd_script.specs.ByLine.{meaning_at}
 use Rattle.cd_script.specs.Order.{order}

@@ -1,21 +1,24 @@
 -- What the flags of a run mean: 1 that damage is carried, 2 that COPY is not asked for, 4 that old
--- bytes are not compared.
+-- bytes are not compared. The numbers are those of `cdpatch.h`.
 use Rattle.std.specs.Prelude.{ℕ, ◌/◌, ◌%◌, ◌==◌, Bool, List, None, map, if◌then◌else◌}
 use Rattle.cd_script.specs.PatchForm.{Edit, Patch}
 use Rattle.cd_script.specs.declared.patch.Edit.TheVariants.{Put, Fill, Rebuild, Address}
-use Rattle.cd_c_scripts.specs.declared.run_state.TheConstants.{CARRY, NO_COPY, WITHOUT_OLD}
+
+-- flags are below this number
+abbrev pub flag_limit : ℕ
+flag_limit = 8
 
 -- whether damage is carried
 abbrev pub carries : ℕ → Bool
-carries flags = flags / CARRY % 2 == 1
+carries flags = flags / 1 % 2 == 1
 
 -- whether COPY may be asked for
 abbrev pub copies : ℕ → Bool
-copies flags = flags / NO_COPY % 2 == 0
+copies flags = flags / 2 % 2 == 0
 
 -- whether old bytes are compared
 abbrev pub compares : ℕ → Bool
-compares flags = flags / WITHOUT_OLD % 2 == 0
+compares flags = flags / 4 % 2 == 0
 
 -- an edit that names no old bytes
 abbrev pub edit_without_old : Edit → Edit

@@ -1,8 +1,11 @@
 pub mod Entries
 pub mod Flags
 pub mod FlatPatch
+pub mod InOrder
 pub mod Indexing
 pub mod Lines
 pub mod NumberLaws
 pub mod Outcomes
 pub mod Runs
+pub mod StepKinds
+pub mod StepRooms

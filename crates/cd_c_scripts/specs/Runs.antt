@@ -10,7 +10,6 @@ use Rattle.cd_sector.specs.Image.{base_limit, bytes_of, image_limit, sector_limi
 use Rattle.cd_sector.specs.declared.sector.TheConstants.{SECTOR_SIZE}
 use Rattle.cd_patch.specs.Blocks.{blocks_met}
 use Rattle.cd_patch.specs.declared.outcome.Outcome.{Outcome}
-use Rattle.cd_line.specs.declared.line.TheConstants.{LINE_SIZE}
 use Rattle.cd_run.specs.Messages.{long_image, long_script, script_fault_line}
 use Rattle.cd_run.specs.PatchLog.{log_line, log_lines, log_text, log_when_too_long, refused_count, sent_when_too_long}
 use Rattle.cd_run.specs.Patched.{EachPatching, IsPatched}
@@ -21,12 +20,15 @@ use Rattle.cd_run.specs.declared.run.Step.{Step}
 use Rattle.cd_run.specs.declared.run.Step.TheVariants.{Copy, Read, Decide, Send, SendTail, End}
 use Rattle.cd_c_scripts.specs.Entries.{AreEntries}
 use Rattle.cd_c_scripts.specs.Flags.{carries, copies}
+use Rattle.cd_c_scripts.specs.InOrder.{Begins, IsInOrder, logged_by}
 use Rattle.cd_c_scripts.specs.Lines.{fault_of, version_of}
 use Rattle.cd_c_scripts.specs.Outcomes.{outcome_block, outcome_number, outcome_offset}
+use Rattle.cd_c_scripts.specs.StepKinds.{copy_kind, end_kind, log_kind, read_kind, write_kind}
+use Rattle.cd_c_scripts.specs.StepRooms.{line_room}
 use Rattle.cd_c_scripts.specs.declared.entries.Entry.{Entry}
 use Rattle.cd_c_scripts.specs.declared.run_state.RunStep.{RunStep}
 use Rattle.cd_c_scripts.specs.declared.run_state.ScriptRun.{ScriptRun}
-use Rattle.cd_c_scripts.specs.declared.run_state.TheConstants.{COPY, COPYING, END, FAULTY, LOG, NOTHING, OVER, READ, READING, STOPPED, TOO_LONG, WRITE, WRITING, WRITING_TAIL}
+use Rattle.cd_c_scripts.specs.declared.run_state.TheConstants.{COPYING, FAULTY, NOTHING, OVER, READING, STOPPED, TOO_LONG, WRITING, WRITING_TAIL}
 
 -- ---- how far a run has come
 
@@ -97,10 +99,6 @@ pub record IsDone (carry : Bool) (patches : List Patch) (base : ℕ) (read sent 
   pub log_right : log_bytes ≡ log_text patches outcomes
   pub status_right : status ≡ status_of (refused_count outcomes)
 
--- one list begins another
-abbrev pub Begins : List ℕ → List ℕ → Type 0
-Begins front whole = (rest : List ℕ) × (whole ≡ front ++ rest)
-
 -- one byte has come after the millionth sector: what was sent begins the patched image of what came
 -- before it, and the log has the lines that `apply` prints then
 pub record IsBeyond (carry : Bool) (patches : List Patch) (base : ℕ) (read sent log_bytes : List ℕ)
@@ -147,10 +145,6 @@ pub data Moved (run : ScriptRun) (hand : List (List ℕ)) (done : ℕ)
 
 -- ---- what is told
 
--- the line of a step, if it has one
-abbrev pub logged_by : RunStep → List ℕ
-logged_by step = if step.kind == LOG then take step.size step.text else []
-
 -- a sector is read only if a patch looks at it, or a byte to see whether the image goes on after its
 -- largest size; without COPY each sector is read
 pub data IsLookedAt (patches : List Patch) (run : ScriptRun) : Type 0 where
@@ -161,10 +155,10 @@ pub data IsLookedAt (patches : List Patch) (run : ScriptRun) : Type 0 where
 
 -- a line is told
 pub record IsLog (run : ScriptRun) (step : RunStep) : Type 0 where
-  pub kind : step.kind ≡ LOG
+  pub kind : step.kind ≡ log_kind
   pub size : step.size ≡ run.size
   pub some : 0 < step.size
-  pub few : step.size ≤ LINE_SIZE
+  pub few : step.size ≤ line_room
 
 -- the patch at a place has this line in the script
 abbrev pub IsLineOf : List Patch → ℕ → ℕ → Type 0
@@ -185,17 +179,17 @@ pub record TellsPatch (patches : List Patch) (run : ScriptRun) (step : RunStep) 
 -- the step tells what the state asks for
 pub data Tells (patches : List Patch) (read sent : List ℕ) (run : ScriptRun) (step : RunStep)
     : Type 0 where
-  to_end : step.kind ≡ END → run.asked ≡ OVER → step.status ≡ run.most
+  to_end : step.kind ≡ end_kind → run.asked ≡ OVER → step.status ≡ run.most
       → Tells patches read sent run step
-  to_stop : step.kind ≡ END → image_limit < length read → step.status ≡ 2
+  to_stop : step.kind ≡ end_kind → image_limit < length read → step.status ≡ 2
       → Tells patches read sent run step
-  to_read : step.kind ≡ READ → run.asked ≡ READING → step.at ≡ length read
+  to_read : step.kind ≡ read_kind → run.asked ≡ READING → step.at ≡ length read
       → step.place ≡ SECTOR_SIZE * run.machine.held → step.size ≡ run.size → 0 < step.size
       → IsLookedAt patches run → Tells patches read sent run step
-  to_copy : step.kind ≡ COPY → run.asked ≡ COPYING → step.at ≡ length read
+  to_copy : step.kind ≡ copy_kind → run.asked ≡ COPYING → step.at ≡ length read
       → step.size ≡ run.size → 0 < step.size → copies run.flags ≡ true
       → Tells patches read sent run step
-  to_write : step.kind ≡ WRITE → (run.asked ≡ WRITING) ⊎ (run.asked ≡ WRITING_TAIL)
+  to_write : step.kind ≡ write_kind → (run.asked ≡ WRITING) ⊎ (run.asked ≡ WRITING_TAIL)
       → step.at ≡ length sent → step.place ≡ 0 → step.size ≡ run.size → 0 < step.size
       → Tells patches read sent run step
   to_log : IsLog run step → run.asked ≡ NOTHING → TellsPatch patches run step
@@ -203,14 +197,19 @@ pub data Tells (patches : List Patch) (read sent : List ℕ) (run : ScriptRun) (
   to_log_last : IsLog run step → (run.asked ≡ OVER) ⊎ (run.asked ≡ STOPPED) → step.number ≡ 0
       → Tells patches read sent run step
 
--- what a call leaves: the run goes on, with the step that it tells
+-- what a call leaves: the run goes on, with the step that it tells, and in the order of `apply`
 pub record Goes (text : List ℕ) (es : List Entry) (patches : List Patch) (base : ℕ)
     (read sent log_bytes : List ℕ) (run : ScriptRun) (hand : List (List ℕ)) (step : RunStep)
     : Type 0 where
   pub running : IsRunning text es patches base read sent (log_bytes ++ logged_by step) run hand
   pub tells : Tells patches read sent run step
+  pub in_order : IsInOrder (carries run.flags) patches base read sent log_bytes run step
 
 -- ---- a run that is not begun
+
+-- what is returned in place of a number of entries: `CDPATCH_REFUSED`, which is `SIZE_MAX`
+abbrev pub refusal : ℕ
+refusal = 18446744073709551615
 
 -- the line of an error, by its number and the script's line
 abbrev pub some_line : Option ScriptFault → List ℕ
@@ -303,14 +302,14 @@ pub data MayEnd (before now : ScriptRun) (done : ℕ) : Type 0 where
 
 -- the run ends with 2
 pub record Stops (run : ScriptRun) (step : RunStep) : Type 0 where
-  pub kind : step.kind ≡ END
+  pub kind : step.kind ≡ end_kind
   pub status : step.status ≡ 2
   pub asked : run.asked ≡ STOPPED
 
 -- no more is asked for than the image has
 abbrev pub KeepsToSize : ScriptRun → RunStep → Type 0
 KeepsToSize run step =
-    (step.kind ≡ READ) ⊎ (step.kind ≡ COPY) → step.at + step.size ≤ run.image_size
+    (step.kind ≡ read_kind) ⊎ (step.kind ≡ copy_kind) → step.at + step.size ≤ run.image_size
 
 -- a run over patches has begun: nothing has come, gone out or been logged, whatever hand it is lent
 abbrev pub IsBegun : List ℕ → List Entry → List Patch → ℕ → ScriptRun → Type 0

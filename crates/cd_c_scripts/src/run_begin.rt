@@ -1,14 +1,14 @@
 //! The call of C that begins a run: it reads the script.
 
 ghost use Rattle.std.specs.Prelude.{◌≡◌, ℕ, ◌<◌, ◌≤◌, ◌⊎◌, [], Err, IfOk, List, length};
-ghost use Rattle.cd_script.specs.Limits.{text_limit};
+ghost use Rattle.cd_script.specs.Limits.{patch_limit, text_limit};
 ghost use Rattle.cd_script.specs.Order.{order};
 ghost use Rattle.cd_script.specs.Script.{script as patches_in};
 ghost use Rattle.cd_script.specs.declared.fault.ScriptFault.{ScriptFault as TheFault};
 ghost use Rattle.cd_sector.specs.Image.{base_limit};
 ghost use Rattle.cd_run.specs.Messages.{long_script, script_fault_line};
-ghost use Rattle.cd_c_scripts.specs.Flags.{all_as_asked};
-ghost use Rattle.cd_c_scripts.specs.Runs.{IsBegun, IsFaulty};
+ghost use Rattle.cd_c_scripts.specs.Flags.{all_as_asked, flag_limit};
+ghost use Rattle.cd_c_scripts.specs.Runs.{IsBegun, IsFaulty, refusal};
 
 use crate::entries::{Entry, index_script, version_number};
 use crate::lines::{fault_number, line_of};
@@ -34,18 +34,19 @@ pub extern "C" fn cdpatch_run_begin(
     flags: u32,
     entries: &mut [Entry],
 ) -> usize
-    ensures refused { (base_limit < base) ⊎ (FLAGS ≤ flags)
-        → (result ≡ REFUSED) × (run.new.asked ≡ STOPPED) × (entries.new ≡ entries.old) }
-    ensures too_long { base ≤ base_limit → flags < FLAGS → text_limit < length script.now
+    ensures refused { (base_limit < base) ⊎ (flag_limit ≤ flags)
+        → (result ≡ refusal) × (run.new.asked ≡ STOPPED) × (entries.new ≡ entries.old) }
+    ensures too_long { base ≤ base_limit → flags < flag_limit → text_limit < length script.now
         → (result ≡ 0) × IsFaulty long_script run.new }
-    ensures fault { base ≤ base_limit → flags < FLAGS → length script.now ≤ text_limit
+    ensures fault { base ≤ base_limit → flags < flag_limit → length script.now ≤ text_limit
         → (e : TheFault) → patches_in script.now ≡ Err e
         → (result ≡ 0) × IsFaulty (script_fault_line e) run.new }
-    ensures count { base ≤ base_limit → flags < FLAGS → length script.now ≤ text_limit
+    ensures count { base ≤ base_limit → flags < flag_limit → length script.now ≤ text_limit
         → IfOk (patches_in script.now) (λ ps. result ≡ length ps) }
-    ensures room { base ≤ base_limit → flags < FLAGS → length script.now ≤ text_limit
+    ensures most { (result ≡ refusal) ⊎ (result ≤ patch_limit) }
+    ensures room { base ≤ base_limit → flags < flag_limit → length script.now ≤ text_limit
         → length entries.old < result → run.new.asked ≡ STOPPED }
-    ensures begins { base ≤ base_limit → flags < FLAGS → length script.now ≤ text_limit
+    ensures begins { base ≤ base_limit → flags < flag_limit → length script.now ≤ text_limit
         → result ≤ length entries.old → IfOk (patches_in script.now)
         (λ ps. IsBegun script.now entries.new (all_as_asked flags (order ps)) base run.new) }
     ensures flags { run.new.flags ≡ flags }

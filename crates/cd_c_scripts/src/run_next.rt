@@ -12,6 +12,8 @@ ghost use Rattle.cd_run.specs.declared.run.Step.TheVariants.{Decide, End, SendTa
 ghost use Rattle.cd_c_scripts.specs.Entries.{Rereads};
 ghost use Rattle.cd_c_scripts.specs.Flags.{carries};
 ghost use Rattle.cd_c_scripts.specs.Runs.{About, Comes, Going, Goes, IsFaulty, IsRunning, KeepsToSize, MayEnd, EndsOr, Moved, SameInHand, Stops, error_line, is_coming, machine_steps, steps_left, told_steps};
+ghost use Rattle.cd_c_scripts.specs.StepKinds.{end_kind, log_kind};
+ghost use Rattle.cd_c_scripts.specs.StepRooms.{KeepsToRooms};
 ghost use Rattle.cd_c_scripts.specs.declared.entries.Entry.{Entry as TheEntry};
 
 use crate::asking::some_step;
@@ -58,6 +60,7 @@ fn tell_decided(
     ensures sectors { run.new.machine.sectors ≡ run.old.machine.sectors }
     ensures log { (step.new.kind ≡ END) ⊎ (step.new.kind ≡ LOG) }
     ensures status { step.new.status ≤ 2 }
+    ensures rooms { KeepsToRooms step.new }
     ensures ends { step.new.kind ≡ END → (step.new.status ≡ 2) × (run.new.asked ≡ STOPPED) }
     ensures asked { step.new.kind ≡ LOG → run.new.asked ≡ NOTHING }
     ensures rereads { step.new.kind ≡ LOG → Rereads script.now run.old.version entries.now
@@ -88,6 +91,7 @@ fn tell_last_line(run: &mut ScriptRun, step: &mut RunStep)
     ensures count { run.new.count ≡ run.old.count }
     ensures log { (step.new.kind ≡ END) ⊎ (step.new.kind ≡ LOG) }
     ensures status { step.new.status ≤ 2 }
+    ensures rooms { KeepsToRooms step.new }
     ensures ends { step.new.kind ≡ END → (step.new.status ≡ 2) × (run.new.asked ≡ STOPPED) }
     ensures asked { step.new.kind ≡ LOG → run.new.asked ≡ OVER }
     ensures number { step.new.number ≡ 0 }
@@ -111,6 +115,7 @@ fn tell_too_long(run: &mut ScriptRun, step: &mut RunStep)
     ensures others { run.new ≡ record run.old { asked = STOPPED; most = 0; size = step.new.size } }
     ensures kind { step.new.kind ≡ LOG }
     ensures status { step.new.status ≡ 0 }
+    ensures rooms { KeepsToRooms step.new }
     ensures number { step.new.number ≡ 0 }
     ensures some { 0 < step.new.size }
     ensures few { step.new.size ≤ LINE_SIZE }
@@ -127,6 +132,7 @@ fn tell_error(run: &mut ScriptRun, done: usize, step: &mut RunStep)
     ensures count { run.new.count ≡ run.old.count }
     ensures log { (step.new.kind ≡ END) ⊎ (step.new.kind ≡ LOG) }
     ensures status { step.new.status ≤ 2 }
+    ensures rooms { KeepsToRooms step.new }
     ensures ends { step.new.kind ≡ END → step.new.status ≡ 2 }
     ensures number { step.new.number ≡ 0 }
     ensures wrong { done ≢ run.old.size → Stops run.new step.new }
@@ -153,6 +159,7 @@ fn tell_over(run: &mut ScriptRun, done: usize, step: &mut RunStep)
     ensures machine { run.new.machine ≡ run.old.machine }
     ensures kind { step.new.kind ≡ END }
     ensures status { step.new.status ≤ 2 }
+    ensures rooms { KeepsToRooms step.new }
     ensures ends { done ≡ run.old.size → run.old.most ≤ 1
         → (step.new.status ≡ run.old.most) × (run.new ≡ record run.old { size = 0 }) }
     ensures wrong { done ≢ run.old.size → (step.new.status ≡ 2) × (run.new.asked ≡ STOPPED) }
@@ -190,6 +197,7 @@ fn tell_step(
     ensures stage { run.new.machine.stage ≡ run.old.machine.stage }
     ensures sectors { run.new.machine.sectors ≡ run.old.machine.sectors }
     ensures status { step.new.status ≤ 2 }
+    ensures rooms { KeepsToRooms step.new }
     ensures known { KeepsToSize run.new step.new }
     ensures falls { step.new.kind ≢ END
         → machine_steps run.new.count run.new.machine + told_steps run.new.asked
@@ -235,6 +243,7 @@ fn tell_next(
     ensures stage { run.old.machine.stage ≤ run.new.machine.stage }
     ensures sectors { run.new.machine.sectors ≡ run.old.machine.sectors }
     ensures status { step.new.status ≤ 2 }
+    ensures rooms { KeepsToRooms step.new }
     ensures known { KeepsToSize run.new step.new }
     ensures ended { run.old.machine.stage ≡ 0 → 0 < run.new.machine.stage
         → run.old.image_size ≤ SECTOR_SIZE * run.old.machine.sectors }
@@ -278,7 +287,6 @@ pub extern "C" fn cdpatch_run_next(
         → SameInHand run.old.machine before hand.old
         → Moved run.old hand.old done read sent read' sent'
         → Goes script.now entries.now patches base read' sent' log_bytes run.new hand.new step.new }
-
     // The image ends where less came than was asked for, or nothing is left of its size, and only
     // there.
     ensures ends { run.old.asked ≡ READING → done < SECTOR_SIZE → EndsOr run.new 1 }
@@ -287,17 +295,17 @@ pub extern "C" fn cdpatch_run_next(
     ensures closes { run.old.asked ≡ WRITING_TAIL → EndsOr run.new 2 }
     ensures ends_only { run.old.machine.stage ≡ 0 → 0 < run.new.machine.stage
         → MayEnd run.old run.new done }
-
     // What each state, hand and count of bytes gives.
     ensures goes_on { run.old.machine.stage ≤ run.new.machine.stage }
-    ensures falls { step.new.kind ≢ END → steps_left run.new < steps_left run.old }
+    ensures falls { step.new.kind ≢ end_kind → steps_left run.new < steps_left run.old }
     ensures status { step.new.status ≤ 2 }
     ensures known { KeepsToSize run.new step.new }
-    ensures rereads { step.new.kind ≡ LOG → step.new.number ≢ 0
+    ensures rooms { KeepsToRooms step.new }
+    ensures rereads { step.new.kind ≡ log_kind → step.new.number ≢ 0
         → Rereads script.now run.old.version entries.now run.old.machine.decided step.new.number }
     ensures faulty { (line : List ℕ) → IsFaulty line run.old → 0 < length line → done ≡ 0
         → block_limit ≤ length hand.old
-        → (step.new.kind ≡ LOG) × (take step.new.size step.new.text ≡ line)
+        → (step.new.kind ≡ log_kind) × (take step.new.size step.new.text ≡ line)
         × (run.new.asked ≡ STOPPED) }
     ensures stopped { run.old.asked ≡ STOPPED → Stops run.new step.new }
     ensures small_hand { length hand.old < block_limit → Stops run.new step.new }

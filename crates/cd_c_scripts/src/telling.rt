@@ -193,6 +193,7 @@ pub(crate) fn tell_outcome(step: &mut RunStep, number: u32, outcome: Outcome)
     ensures some { 0 < step.new.size }
     ensures few { step.new.size ≤ LINE_SIZE }
     ensures line { take step.new.size step.new.text ≡ outcome_line number outcome }
+    ensures size { step.new.size ≡ length (outcome_line number outcome) }
     ensures number { step.new.number ≡ number }
     ensures result { step.new.result ≡ outcome_number outcome }
     ensures block { step.new.block ≡ outcome_block outcome }

@@ -1,4 +1,5 @@
--- What is found of sectors, as records of six bytes.
+-- What is found of sectors, as records of six bytes. The numbers of kinds are those of `enum
+-- cdpatch_sector_kind`.
 use Rattle.std.specs.Prelude.{ℕ, ◌==◌, ◌+◌, Bool, if◌then◌else◌, List, [], ◌∷◌, ◌++◌, Option, Some, None}
 use Rattle.cd_sector.specs.Kind.{kind_number, kind_of}
 use Rattle.cd_sector.specs.declared.kinds.SectorKind.{SectorKind}
@@ -7,7 +8,6 @@ use Rattle.cd_sector.specs.declared.kinds.SectorKind.TheVariants.{Other}
 use Rattle.cd_report.specs.AuditText.{findings_of, line_of}
 use Rattle.cd_report.specs.declared.findings.Findings.{Findings}
 use Rattle.cd_c_survey.specs.declared.surveying.SectorRecord.{SectorRecord}
-use Rattle.cd_c_survey.specs.declared.surveying.TheConstants.{MODE1}
 
 -- a truth as a byte
 abbrev pub as_byte : Bool → ℕ
@@ -37,13 +37,13 @@ survey block (sector ∷ others) = record_of block sector ∷ survey (block + 1)
 -- the kind that a record's number stands for
 abbrev pub kind_in : SectorRecord → SectorKind
 kind_in r =
-    if r.kind == 0 then NoSync else if r.kind == 1 then Mode0 else if r.kind == MODE1 then Mode1
+    if r.kind == 0 then NoSync else if r.kind == 1 then Mode0 else if r.kind == 2 then Mode1
     else if r.kind == 3 then Mode2 else Other
 
 -- what a record says was found
 abbrev pub found_in : SectorRecord → Option Findings
 found_in r =
-    if r.kind == MODE1 then Some (record {
+    if r.kind == 2 then Some (record {
       address = r.address == 1;
       defect = record { zeros = r.zeros == 1; edc = r.edc == 1; p = r.p; q = r.q };
     }) else None

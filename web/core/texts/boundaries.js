@@ -19,7 +19,7 @@ export function bytesInside(encoding, bytes, at) {
     let from = at;
     while (from > 0 && at - from < LOOKED_BACK && encoding.goesOn(bytes[from - 1])) from -= 1;
     if (at - from === LOOKED_BACK) return 0;
-    while (from < at) from += encoding.lengthAt(bytes, from);
+    while (from < at) from += encoding.characterAt(bytes, from).size;
     return from - at;
 }
 
@@ -31,8 +31,8 @@ export function bytesInside(encoding, bytes, at) {
  */
 export function* charactersFrom(encoding, bytes, from = 0) {
     for (let at = from; at < bytes.length;) {
-        const size = Math.min(encoding.lengthAt(bytes, at), bytes.length - at);
-        yield { at, size, text: encoding.text(bytes.subarray(at, at + size)) };
+        const { size, text } = encoding.characterAt(bytes, at);
+        yield { at, size, text };
         at += size;
     }
 }

@@ -1,7 +1,7 @@
 // Places of bytes that may be texts, each in one encoding, with a score.
 
 import { PathFinder, codeOfThree } from './best_path.js';
-import { BAD, allScores, seedBits } from './scores.js';
+import { ASCII, BAD, seedBits, strengthOf } from './scores.js';
 
 /** @typedef {import('./scores.js').Scores} Scores */
 /**
@@ -16,9 +16,6 @@ const LESS = 10;
 /** What a text in UTF-16 at an odd place has to have more: there the one byte order reads most characters of the other one. */
 const ODD = 8;
 
-/** Two neighbours of a text have so many quarter bits together. */
-const PAIR_OF_SEEDS = 36;
-
 /** A text is extended to a 00 over so many bytes. */
 const EXTENDED = 40;
 const ZERO_AFTER = 4;
@@ -30,14 +27,20 @@ const DISTINCT = 0.55;
 const MOST_COMPARED = 24;
 const LEAST_COMPARED = 5;
 
+/** The bits of encodings whose strong characters have two bytes, and three. */
+const OF_TWO = 15;
+const OF_THREE = 16;
+
 /** Unlisted characters that a text is not extended over. */
 const RAREST = -28;
 
 /** Finds the candidates in bytes. The tables take a while to make. */
 export class CandidateFinder {
-    constructor() {
-        this.all = allScores();
-        this.seeds = seedBits(this.all);
+    /** @param {Scores[]} all the encodings */
+    constructor(all) {
+        this.all = all;
+        this.bits = all.reduce((bits, { bit }) => bits | bit, 0);
+        this.seeds = seedBits(all);
         this.paths = new PathFinder();
     }
 
@@ -68,10 +71,10 @@ export class CandidateFinder {
      */
     bitsAt(bytes, at) {
         const { seeds } = this;
-        const last = seeds[bytes[at - 1] << 8 | bytes[at]];
+        const last = seeds[bytes[at] << 8 | bytes[at - 1]];
         if (last === 0) return 0;
-        const two = last & seeds[bytes[at - 3] << 8 | bytes[at - 2]] & 15;
-        return at < 4 ? two : two | last & seeds[bytes[at - 4] << 8 | bytes[at - 3]] & 16;
+        const two = last & seeds[bytes[at - 2] << 8 | bytes[at - 3]] & OF_TWO;
+        return at < 4 ? two : two | last & seeds[bytes[at - 3] << 8 | bytes[at - 4]] & OF_THREE;
     }
 
     /**
@@ -81,21 +84,41 @@ export class CandidateFinder {
      * @param {number} wanted
      */
     nextSeed(bytes, from, wanted) {
-        const { seeds } = this;
-        const [pairs, threes, end] = [wanted & 15, wanted & 16, bytes.length];
-        let at = Math.max(from, 4);
-        let byte = bytes[at - 1];
-        let [one, two, three] = [1, 2, 3].map(back => seeds[bytes[at - back - 1] << 8 | bytes[at - back]]);
-        for (; at < end; at++) {
-            const next = bytes[at];
-            const bits = seeds[byte << 8 | next];
-            if (bits !== 0 && (bits & (two & pairs | three & threes)) !== 0) return at;
-            three = two;
-            two = one;
-            one = bits;
-            byte = next;
+        const skipped = -bytes.byteOffset & 3;
+        const words = new Int32Array(bytes.buffer, bytes.byteOffset + skipped, Math.max(bytes.length - skipped, 0) >> 2);
+        for (let at = Math.max(from, 3); at < bytes.length;) {
+            const word = (at - skipped) >> 2;
+            if (word > 0 && (at - skipped) % 4 === 0) at = skipped + 4 * this.nextWord(words, word, wanted);
+            for (const end = Math.min(at + 4 - (at - skipped & 3), bytes.length); at < end; at++) {
+                if ((this.bitsAt(bytes, at) & wanted) !== 0) return at;
+            }
         }
-        return end;
+        return bytes.length;
+    }
+
+    /**
+     * The first word from another one on in which two strong characters end, or the number of words.
+     * @param {Int32Array} words
+     * @param {number} from
+     * @param {number} wanted
+     */
+    nextWord(words, from, wanted) {
+        const { seeds } = this;
+        const [pairs, threes] = [wanted & OF_TWO, wanted & OF_THREE];
+        let last = words[from - 1];
+        let [two, three, four] = [seeds[last & 0xFFFF], seeds[last >>> 8 & 0xFFFF], seeds[last >>> 16]];
+        for (let i = from; i < words.length; i++) {
+            const word = words[i];
+            const first = seeds[(last >>> 24 | word << 8) & 0xFFFF];
+            const [second, third, fourth] = [seeds[word & 0xFFFF], seeds[word >>> 8 & 0xFFFF], seeds[word >>> 16]];
+            const both = first & three | second & four | third & first | fourth & second;
+            if ((both & pairs | (first & two | second & three | third & four | fourth & first) & threes) !== 0) return i;
+            last = word;
+            two = second;
+            three = third;
+            four = fourth;
+        }
+        return words.length;
     }
 
     /**
@@ -106,15 +129,16 @@ export class CandidateFinder {
      * @returns {Candidate | null}
      */
     candidateAt(scores, bytes, at, known) {
-        const { pair, three } = scores;
+        const { three, own, least: both } = scores;
         const [last, first] = [bytes[at - 1] << 8 | bytes[at], bytes[at - 3] << 8 | bytes[at - 2]];
-        if (!three && pair[last] + pair[first] < PAIR_OF_SEEDS) return null;
+        // One character twice counts once.
+        if (!three && (last === first || strengthOf(scores, last) + strengthOf(scores, first) < both)) return null;
         const place = Math.max(at - (three ? 4 : 3), 0);
         const { start, end, score } = this.paths.find(scores, bytes, Math.min(known.end, place), bytes.length, place);
         known.covered = Math.max(end, at + 1);
         const least = 4 * (SURE - LESS);
         if (score < least - 4 * (ZERO_AFTER + ZERO_BEFORE)) return null;
-        if (!three && (isSmooth(bytes, start, end) || isMonotonous(bytes, start, end))) return null;
+        if (!three && ((!own && isSmooth(bytes, start, end)) || isMonotonous(bytes, start, end))) return null;
         const reached = extended(scores, bytes, start, end, known.end);
         const after = isZero(scores, bytes, reached.end);
         const before = reached.start === 0 || isZero(scores, bytes, reached.start - (scores.wide ? 2 : 1));
@@ -132,8 +156,8 @@ export class CandidateFinder {
  * @param {Uint8Array} bytes
  * @param {number} at
  */
-export function isZero({ wide }, bytes, at) {
-    return at >= bytes.length || (at >= 0 && bytes[at] === 0 && (!wide || bytes[at + 1] === 0));
+export function isZero({ wide, encoding: { end = 0 } }, bytes, at) {
+    return at >= bytes.length || (at >= 0 && bytes[at] === end && (!wide || bytes[at + 1] === 0));
 }
 
 /**
@@ -188,14 +212,14 @@ function extended(scores, bytes, start, end, low) {
  * @param {number} limit
  */
 function readTo(scores, bytes, from, limit) {
-    const { wide, three, one, pair } = scores;
+    const { wide, three, one, oneKind, pair } = scores;
     let at = from;
     while (at < limit) {
         const byte = bytes[at];
         const code = three ? codeOfThree(bytes, at, limit) : at + 1 < limit ? byte << 8 | bytes[at + 1] : 0;
         const isWide = three ? code > 0 : code > 0 && pair[code] !== BAD && pair[code] > RAREST;
         if (isWide) at += three ? 3 : 2;
-        else if (!wide && byte < 0x80 && one[byte] !== BAD) at += 1;
+        else if (!wide && one[byte] !== BAD && (byte < 0x80 || oneKind[byte] < ASCII)) at += 1;
         else return at;
     }
     return at;

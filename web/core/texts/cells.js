@@ -1,5 +1,11 @@
 // Tables as spreadsheets save them, with tabs, commas or semicolons between cells.
 
+import { Fault } from '../faults.js';
+
+/** A row has no more cells. A cell of more characters is no text that is taken: two quotes stay two. */
+const MOST_CELLS = 1 << 18;
+const LONGEST_CELL = 1 << 20;
+
 /**
  * The end of a cell in quotes, after its last quote, or -1 if it is none: then its quotes are part of it.
  * @param {string} text
@@ -28,8 +34,9 @@ export function* rowsOf(text) {
     for (let at = 0; at < text.length;) {
         const quoted = text[at] === '"' ? endOfQuoted(text, at, mark) : -1;
         plain.lastIndex = at;
-        const cell = quoted < 0 ? (plain.exec(text) || [''])[0] : text.slice(at + 1, quoted - 1).replace(/""/g, '"');
-        cells.push(cell);
+        const cell = quoted < 0 ? (plain.exec(text) || [''])[0] : text.slice(at + 1, quoted - 1);
+        cells.push(quoted < 0 || cell.length > LONGEST_CELL ? cell : cell.replace(/""/g, '"'));
+        if (cells.length > MOST_CELLS) throw new Fault(`row ${number} of the table has more than ${MOST_CELLS} cells`);
         at = quoted < 0 ? at + cell.length : quoted;
         if (text[at] === mark) {
             at += 1;

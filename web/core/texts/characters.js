@@ -5,7 +5,16 @@ import { Fault } from '../faults.js';
 const NO_CHARACTER = '\uFFFD';
 
 /** Why a text has no bytes, or a table can't be read. */
-export class TextFault extends Fault {}
+export class TextFault extends Fault {
+    /**
+     * @param {string} message
+     * @param {number} [at] where a character stands in the text that has no bytes, if that is why
+     */
+    constructor(message, at = -1) {
+        super(message);
+        this.at = at;
+    }
+}
 
 /**
  * A character as a message shows it.
@@ -24,8 +33,16 @@ function shownCharacter(character) {
 export function lacks(name, text, at) {
     const place = [...text.slice(0, at)].length + 1;
     const character = String.fromCodePoint(text.codePointAt(at) || 0);
-    return new TextFault(`${name} has no ${shownCharacter(character)}, character ${place} of the text`);
+    return new TextFault(`${name} has no ${shownCharacter(character)}, character ${place} of the text`, at);
 }
+
+/**
+ * What is known of some bytes: the text that they mean, '' if they mean none, and what is known of them and one more.
+ * @typedef {{ text: string, next: Map<number, Branch> | null }} Branch
+ */
+
+/** @returns {Branch} */
+const newBranch = () => ({ text: '', next: null });
 
 /** Characters and their bytes, as a character set or a game's table has them. The longest match is taken, both ways. */
 export class CharacterTable {
@@ -34,12 +51,11 @@ export class CharacterTable {
         this.name = name;
         /** @type {Map<string, Uint8Array[]>} */
         this.spellings = new Map();
-        /** @type {Map<string, string>} by the bytes, one character each */
-        this.texts = new Map();
-        /** @type {Set<number>} the bytes after which a spelling has more */
-        this.inner = new Set();
+        /** What bytes mean, a byte after the other. */
+        this.root = newBranch();
+        /** 1 for each byte after which a spelling has more. */
+        this.inner = new Uint8Array(256);
         this.longestText = 0;
-        this.longestBytes = 0;
     }
 
     /**
@@ -48,16 +64,41 @@ export class CharacterTable {
      * @param {string} text
      */
     add(bytes, text) {
-        const key = String.fromCharCode(...bytes);
-        if (this.texts.has(key)) return false;
-        this.texts.set(key, text);
-        bytes.subarray(0, -1).forEach(byte => this.inner.add(byte));
+        const branch = this.branchOf(bytes);
+        if (branch.text !== '') return false;
+        branch.text = text;
+        bytes.subarray(0, -1).forEach(byte => { this.inner[byte] = 1; });
         const spellings = this.spellings.get(text);
         if (spellings) spellings.push(bytes);
         else this.spellings.set(text, [bytes]);
         this.longestText = Math.max(this.longestText, text.length);
-        this.longestBytes = Math.max(this.longestBytes, bytes.length);
         return true;
+    }
+
+    /**
+     * What is known of bytes, which is there then.
+     * @param {Uint8Array} bytes
+     */
+    branchOf(bytes) {
+        let branch = this.root;
+        for (const byte of bytes) {
+            if (branch.next === null) branch.next = new Map();
+            const next = branch.next.get(byte) || newBranch();
+            branch.next.set(byte, next);
+            branch = next;
+        }
+        return branch;
+    }
+
+    /**
+     * All bytes that mean a text, with it.
+     * @param {Branch} branch
+     * @param {number[]} bytes before it
+     * @returns {Generator<{ bytes: number[], text: string }>}
+     */
+    * meanings(branch = this.root, bytes = []) {
+        if (branch.text !== '') yield { bytes, text: branch.text };
+        for (const [byte, next] of branch.next || []) yield* this.meanings(next, [...bytes, byte]);
     }
 
     /**
@@ -90,17 +131,25 @@ export class CharacterTable {
      * @param {number} byte
      */
     goesOn(byte) {
-        return this.inner.has(byte);
+        return this.inner[byte] === 1;
     }
 
     /**
-     * How many bytes the character at a place has, 1 if none begins there.
+     * The character at a place, of the longest bytes that are one; of one byte if none begins there.
      * @param {Uint8Array} bytes
      * @param {number} at
      */
-    lengthAt(bytes, at) {
-        const keys = String.fromCharCode(...bytes.subarray(at, at + this.longestBytes));
-        return Math.max(longestIn(this.texts, keys, 0, keys.length), 1);
+    characterAt(bytes, at) {
+        let [size, text] = [1, NO_CHARACTER];
+        let branch = this.root;
+        for (let end = at; end < bytes.length && branch.next !== null;) {
+            const next = branch.next.get(bytes[end]);
+            if (next === undefined) break;
+            end += 1;
+            branch = next;
+            if (branch.text !== '') [size, text] = [end - at, branch.text];
+        }
+        return { size, text };
     }
 
     /**
@@ -108,14 +157,13 @@ export class CharacterTable {
      * @param {Uint8Array} bytes
      */
     text(bytes) {
-        const keys = Array.from(bytes, byte => String.fromCharCode(byte)).join('');
-        const parts = [];
-        for (let at = 0; at < keys.length;) {
-            const length = longestIn(this.texts, keys, at, this.longestBytes);
-            parts.push(length === 0 ? NO_CHARACTER : this.texts.get(keys.substr(at, length)));
-            at += Math.max(length, 1);
+        let text = '';
+        for (let at = 0; at < bytes.length;) {
+            const character = this.characterAt(bytes, at);
+            text += character.text;
+            at += character.size;
         }
-        return parts.join('');
+        return text;
     }
 }
 

@@ -1,5 +1,6 @@
 // Texts in the cells of a table, in which bytes that are no plain character stand as codes, as {00}.
 
+import { unitsAlike } from './alike.js';
 import { charactersFrom } from './boundaries.js';
 import { bytesOfHex, hexText } from './hex.js';
 
@@ -13,7 +14,7 @@ const CODE = /\{((?:[0-9A-Fa-f]{2})+)\}/;
  * @param {string} cell
  */
 export function unitsOfCell(encoding, cell) {
-    return cell.split(CODE).flatMap((part, i) => i % 2 === 1 ? [[bytesOfHex(part)]] : encoding.units(part));
+    return cell.split(CODE).flatMap((part, i) => i % 2 === 1 ? [[bytesOfHex(part)]] : unitsAlike(encoding, part));
 }
 
 /**

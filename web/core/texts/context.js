@@ -20,44 +20,51 @@ import { hexText } from './hex.js';
 /** So many bytes around a hit are read as text, before it and after it. */
 const AROUND = 24;
 
+/** So many bytes before a hit and after it are read for its context. */
+const BEFORE = LOOKED_BACK + AROUND;
+const AFTER = AROUND + LONGEST_CHARACTER;
+
+/** Hits that begin in so many bytes are read for together. */
+const READ_TOGETHER = 1 << 19;
+
 /**
- * User bytes from a place on: so many, or those up to the end of the image.
- * @param {DiscImage} image
+ * How many user bytes come before a place, in the order of files if the image has one.
+ * @param {Pick<DiscImage, 'base' | 'order'>} image
  * @param {Place} place
- * @param {number} size
  */
-async function userBytes({ reader, base, sectors }, { block, offset }, size) {
-    const first = block - base;
-    const count = Math.min(Math.ceil((offset + size) / USER_SIZE), sectors - first);
-    const bytes = await readBytes(reader, first * SECTOR_SIZE, count * SECTOR_SIZE);
-    return joinedUser(bytes).subarray(offset, offset + size);
+export function bytesBefore({ base, order }, { block, offset }) {
+    return (order ? order.indexOf(block) : block - base) * USER_SIZE + offset;
 }
 
 /**
- * User bytes around a place, as many before it and from it on, or as many as there are; and the place in them.
+ * User bytes around a place, as many before it and from it on, or as many as there are, in that order; and the place in them.
  * @param {DiscImage} image
  * @param {Place} place
  * @param {number} before
  * @param {number} after
  */
-export async function bytesAround(image, { block, offset }, before, after) {
-    const at = Math.min(before, (block - image.base) * USER_SIZE + offset);
-    const from = block * USER_SIZE + offset - at;
-    const first = { block: Math.floor(from / USER_SIZE), offset: from % USER_SIZE };
-    return { at, bytes: await userBytes(image, first, at + after) };
+export async function bytesAround(image, place, before, after) {
+    const { reader, sectors, order } = image;
+    const end = bytesBefore(image, place);
+    const at = Math.min(before, end);
+    const first = Math.floor((end - at) / USER_SIZE);
+    const count = Math.min(Math.ceil((end + after) / USER_SIZE), sectors) - first;
+    const bytes = await readBytes(order ? order.reader : reader, first * SECTOR_SIZE, count * SECTOR_SIZE);
+    const from = end - at - first * USER_SIZE;
+    return { at, bytes: joinedUser(bytes).subarray(from, from + at + after) };
 }
 
 /**
- * The text around a hit, and whether it may begin in the middle of a character.
- * @param {DiscImage} image
+ * The text around a hit in user bytes, and whether it may begin in the middle of a character.
  * @param {Encoding} encoding
- * @param {Hit} hit
- * @param {number} [around] how many bytes after it are read as text
- * @returns {Promise<Context>}
+ * @param {Uint8Array} bytes from BEFORE bytes before the hit on, or from the image's beginning
+ * @param {number} at where the hit begins in them
+ * @param {number} size
+ * @param {number} around how many bytes after it are read as text
+ * @returns {Context}
  */
-export async function contextOf(image, encoding, hit, around = AROUND) {
-    const { at, bytes } = await bytesAround(image, hit, LOOKED_BACK + AROUND, hit.size + around + LONGEST_CHARACTER);
-    const end = at + hit.size;
+function contextIn(encoding, bytes, at, size, around) {
+    const end = at + size;
     const near = Math.max(at - AROUND, 0);
     const before = [];
     for (const it of charactersFrom(encoding, bytes, near + bytesInside(encoding, bytes, near))) {
@@ -75,16 +82,88 @@ export async function contextOf(image, encoding, hit, around = AROUND) {
 }
 
 /**
+ * The same of a hit in an image.
+ * @param {DiscImage} image
+ * @param {Encoding} encoding
+ * @param {Hit} hit
+ * @param {number} [around]
+ */
+export async function contextOf(image, encoding, hit, around = AROUND) {
+    const { at, bytes } = await bytesAround(image, hit, BEFORE, hit.size + around + LONGEST_CHARACTER);
+    return contextIn(encoding, bytes, at, hit.size, around);
+}
+
+/**
+ * The contexts of many hits in their order, by groups of those that lie near one another, for which is read at once.
+ * @param {DiscImage} image
+ * @param {Encoding} encoding
+ * @param {Hit[]} hits
+ * @returns {AsyncGenerator<Iterable<{ hit: Hit, context: Context }>>}
+ */
+export async function* contextsOf(image, encoding, hits) {
+    for (let from = 0, to = 0; from < hits.length; from = to) {
+        const start = bytesBefore(image, hits[from]);
+        let end = start;
+        for (; to < hits.length && bytesBefore(image, hits[to]) < start + READ_TOGETHER; to++) {
+            end = Math.max(end, bytesBefore(image, hits[to]) + hits[to].size);
+        }
+        const { at, bytes } = await bytesAround(image, hits[from], BEFORE, end - start + AFTER);
+        yield contextsIn(image, encoding, { start: start - at, bytes }, hits.slice(from, to));
+    }
+}
+
+/**
+ * The contexts of hits, each read from as many bytes as if it were the only one.
+ * @param {DiscImage} image
+ * @param {Encoding} encoding
+ * @param {{ start: number, bytes: Uint8Array }} read user bytes, and how many come before them
+ * @param {Hit[]} hits
+ */
+function* contextsIn(image, encoding, { start, bytes }, hits) {
+    for (const hit of hits) {
+        const at = bytesBefore(image, hit) - start;
+        const from = Math.max(at - BEFORE, 0);
+        yield { hit, context: contextIn(encoding, bytes.subarray(from, at + hit.size + AFTER), at - from, hit.size, AROUND) };
+    }
+}
+
+/**
  * Whether one of several hits is not in the middle of a character.
  * @param {DiscImage} image
  * @param {Encoding} encoding
  * @param {Hit[]} hits
  */
 export async function anyBegins(image, encoding, hits) {
-    for (const hit of hits) {
-        if ((await contextOf(image, encoding, hit, 0)).doubt === '') return true;
+    for await (const near of contextsOf(image, encoding, hits)) {
+        for (const { context } of near) {
+            if (context.doubt === '') return true;
+        }
     }
     return false;
+}
+
+/** The files in which places lie that come one after the other: most of the files need not be looked at again. */
+export class FilesAlong {
+    /** @param {FileEntry[]} files by their blocks */
+    constructor(files) {
+        this.files = files;
+        this.begin = -1;
+        this.next = 0;
+        /** @type {FileEntry[]} that have begun and not ended */
+        this.open = [];
+    }
+
+    /**
+     * What filesWith says of a place.
+     * @param {Place} place
+     */
+    with(place) {
+        if (place.block < this.begin) [this.next, this.open] = [0, []];
+        this.begin = place.block;
+        while (this.next < this.files.length && this.files[this.next].block <= place.block) this.open.push(this.files[this.next++]);
+        this.open = this.open.filter(({ block, size }) => place.block < block + Math.ceil(size / USER_SIZE));
+        return filesWith(this.open, place);
+    }
 }
 
 /**
@@ -93,5 +172,5 @@ export async function anyBegins(image, encoding, hits) {
  * @param {Place} place
  */
 export function filesWith(files, { block, offset }) {
-    return filesAt(files, block, offset).map(({ path, block: first }) => ({ path, at: (block - first) * USER_SIZE + offset }));
+    return filesAt(files, block, offset).map(it => ({ path: it.path, at: it.before + (block - it.block) * USER_SIZE + offset }));
 }

@@ -7,12 +7,13 @@ import { CharacterTable, TextFault } from './characters.js';
  * One way to write texts. Options take `name` and `aliases`, in capitals or not; lists show `label`; and `find` tries it by itself if it
  * is `searched`. `space` and `wideSpace` are the texts that may fill up a shorter one, '' if it has none. `units` cuts texts into parts and
  * gives the bytes of each, first as they are usually written, then in other ways that are read as the same; `text` reads bytes, with
- * U+FFFD for a byte that begins no character. `lengthAt` says how many bytes the character at a place has, and `goesOn` whether a
- * character may have bytes after one like this.
+ * U+FFFD for a byte that begins no character. `characterAt` reads the one at a place, and how many bytes it has; `goesOn` says whether a
+ * character may have bytes after one like this. `end` is the byte that ends a text, if it is not 00.
  * @typedef {{ name: string, label: string, aliases: string[], searched: boolean, space: string, wideSpace: string,
  *     units: (text: string) => Uint8Array[][], text: (bytes: Uint8Array) => string,
- *     lengthAt: (bytes: Uint8Array, at: number) => number, goesOn: (byte: number) => boolean }} Encoding
+ *     characterAt: (bytes: Uint8Array, at: number) => Character, goesOn: (byte: number) => boolean, end?: number }} Encoding
  */
+/** @typedef {{ size: number, text: string }} Character how many bytes it has, and what they mean */
 /** @typedef {{ name: string, label?: string, aliases?: string[], searched?: boolean }} Names what an encoding is called */
 
 export const SPACES = { space: ' ', wideSpace: '\u3000' };
@@ -31,6 +32,7 @@ export class TableEncoding {
         this.space = SPACES.space;
         this.wideSpace = SPACES.wideSpace;
         this.fill = fill;
+        this.end = 0;
         this.made = /** @type {CharacterTable | null} */ (null);
     }
 
@@ -56,8 +58,8 @@ export class TableEncoding {
      * @param {Uint8Array} bytes
      * @param {number} at
      */
-    lengthAt(bytes, at) {
-        return this.table.lengthAt(bytes, at);
+    characterAt(bytes, at) {
+        return this.table.characterAt(bytes, at);
     }
 
     /** @param {number} byte */
@@ -67,12 +69,20 @@ export class TableEncoding {
 }
 
 /**
+ * The bytes of parts of a text, each in its usual spelling.
+ * @param {Uint8Array[][]} units
+ */
+export function usualBytes(units) {
+    return joinedBytes(units.map(([usual]) => usual));
+}
+
+/**
  * The bytes of a text, each part in its usual spelling. Throws a TextFault that names the first character without bytes.
  * @param {Encoding} encoding
  * @param {string} text
  */
 export function encodeText(encoding, text) {
-    return joinedBytes(encoding.units(text).map(([usual]) => usual));
+    return usualBytes(encoding.units(text));
 }
 
 /**

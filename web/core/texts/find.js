@@ -25,11 +25,19 @@ let room = new Uint8Array(0);
 /** @typedef {{ count: number, limit: number }} Limits in how many sectors hits begin, and how many hits are kept */
 
 /**
+ * The most bytes of a hit.
+ * @param {Wanted} wanted
+ */
+export function longestOf(wanted) {
+    return wanted.reduce((sum, unit) => sum + Math.max(...unit.map(bytes => bytes.length)), 0);
+}
+
+/**
  * How many sectors after a range the search has to see, so that no hit that begins in the range is missed.
  * @param {Wanted} wanted
  */
 export function sectorsBeyond(wanted) {
-    const longest = wanted.reduce((sum, unit) => sum + Math.max(...unit.map(bytes => bytes.length)), 0);
+    const longest = longestOf(wanted);
     return Math.ceil(Math.max(longest - 1, 0) / USER_SIZE);
 }
 
@@ -61,7 +69,7 @@ function findInUser(user, firstBlock, parts, { count, limit }) {
     /** @type {Found} */
     const found = { count: 0, hits: [] };
     for (let at = nextStart(anchor, user, 0); at < end; at = nextStart(anchor, user, at + 1)) {
-        const stop = matching.end(0, at);
+        const stop = matching.end(at);
         if (stop < 0) continue;
         found.count += 1;
         if (found.hits.length < limit) found.hits.push(hitAt(firstBlock, at, stop));
@@ -193,7 +201,7 @@ function zeroByte(word) {
  * @param {number} at
  */
 export function endOfMatch(parts, bytes, at) {
-    return new Matching(parts, bytes).end(0, at);
+    return new Matching(parts, bytes).end(at);
 }
 
 /** Where parts end that stand at places. A try that failed is not made again, so that spellings of several lengths take no longer. */
@@ -212,25 +220,42 @@ class Matching {
     }
 
     /**
-     * Where the parts from part `i` on end if they stand at a place, or -1.
+     * Where the parts end if they stand at a place, or -1.
+     * @param {number} from
+     */
+    end(from) {
+        const { parts, user, failed } = this;
+        const [first = []] = parts;
+        if (first.length === 1 && !standsAt(first[0], user, from)) return -1;
+        /** @type {Uint8Array[][]} of each part so far the spellings that stand there; the last one is tried */
+        const tried = [];
+        let at = from;
+        while (tried.length < parts.length) {
+            let left = this.standingAt(tried.length, at);
+            while (left.length === 0) {
+                const [last] = tried.splice(-1);
+                if (last === undefined) return -1;
+                at -= /** @type {Uint8Array} */ (last.pop()).length;
+                const attempt = at * parts.length + tried.length + 1;
+                if (last.length === 0) failed[attempt % KEPT_TRIES] = attempt;
+                left = last;
+            }
+            tried.push(left);
+            at += left[left.length - 1].length;
+        }
+        return at;
+    }
+
+    /**
+     * The spellings of a part that stand at a place, the first one last; none if all were tried there.
      * @param {number} i
      * @param {number} at
-     * @returns {number}
      */
-    end(i, at) {
-        const { parts, user, failed } = this;
-        if (i === parts.length) return at;
-        const [first] = parts[i];
-        if (parts[i].length === 1) return standsAt(first, user, at) ? this.end(i + 1, at + first.length) : -1;
+    standingAt(i, at) {
+        const { parts, user, failed, indexes: { [i]: index } } = this;
         const attempt = at * parts.length + i + 1;
-        if (failed[attempt % KEPT_TRIES] === attempt) return -1;
-        const index = this.indexes[i];
-        for (const bytes of index === null ? parts[i] : lookedUp(index, user, at)) {
-            const stop = standsAt(bytes, user, at) ? this.end(i + 1, at + bytes.length) : -1;
-            if (stop >= 0) return stop;
-        }
-        failed[attempt % KEPT_TRIES] = attempt;
-        return -1;
+        if (failed[attempt % KEPT_TRIES] === attempt) return [];
+        return index === null ? parts[i].filter(bytes => standsAt(bytes, user, at)).reverse() : lookedUp(index, user, at).reverse();
     }
 }
 

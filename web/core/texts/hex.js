@@ -48,6 +48,6 @@ export const HEX = {
         return units;
     },
     text: bytes => hexText(bytes),
-    lengthAt: () => 1,
+    characterAt: (bytes, at) => ({ size: 1, text: hexText(bytes.subarray(at, at + 1)) }),
     goesOn: () => false,
 };

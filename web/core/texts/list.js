@@ -1,14 +1,13 @@
 // A list of texts with the new ones, as translators keep it, and the lines that replace them.
 
-import { joinedBytes } from '../bytes.js';
 import { filledUp, replaceEach } from '../edit.js';
 import { Fault } from '../faults.js';
 import { USER_SIZE } from '../sector.js';
 import { rowsOf } from './cells.js';
 import { TextFault } from './characters.js';
 import { unitsOfCell } from './codes.js';
-import { bytesAround } from './context.js';
-import { encodeText, spaceIn } from './encoding.js';
+import { bytesAround, bytesBefore } from './context.js';
+import { spaceIn, usualBytes } from './encoding.js';
 import { endOfMatch } from './find.js';
 
 /** @typedef {import('../bytes.js').Reader} Reader */
@@ -26,8 +25,9 @@ import { endOfMatch } from './find.js';
 
 const NEEDED = ['block', 'offset', 'text', 'new'];
 
-/** The most bytes of a text that is read at its place. */
+/** The most bytes of a text that is read at its place, and characters of a cell; and how many rows have new texts. */
 const LONGEST_TEXT = 1 << 16;
+const MOST_ROWS = 1000000;
 
 /** What may stand after a text to fill up its room. */
 const FILLING = [0x00, 0x20, 0xFF];
@@ -42,6 +42,7 @@ const WINDOW = 1 << 20;
 export function* listRows(list) {
     /** @type {Record<string, number> | null} */
     let columns = null;
+    let count = 0;
     for (const { number, cells } of rowsOf(list)) {
         if (columns === null) {
             columns = Object.fromEntries(cells.map((name, i) => [name.trim().toLowerCase(), i]));
@@ -51,7 +52,10 @@ export function* listRows(list) {
         }
         const at = /** @type {Record<string, number>} */ (columns);
         const cell = (/** @type {string} */ name) => cells[at[name]] || '';
-        if (cell('new') !== '') yield rowOf(number, cell);
+        if (cell('new') === '') continue;
+        count += 1;
+        if (count > MOST_ROWS) throw new Fault(`more than ${MOST_ROWS} rows of the list have a new text`);
+        yield rowOf(number, cell);
     }
 }
 
@@ -69,18 +73,18 @@ function rowOf(number, cell) {
 }
 
 /**
- * How many bytes after a text only fill up its room. The last 00 ends the text.
+ * How many bytes after a text only fill up its room. The last 00, or what else ends texts, ends this one.
  * @param {Encoding} encoding
  * @param {Uint8Array} bytes
  * @param {number} from where the text ends in them
  */
 export function fillingAfter(encoding, bytes, from) {
     const value = bytes[from];
-    const unit = encodeText(encoding, encoding.space || '\n').length;
+    const { length: unit } = spaceIn(encoding) || [0];
     if (!FILLING.includes(value)) return 0;
     let end = from;
     while (end < bytes.length && bytes[end] === value) end += 1;
-    const count = end - from - (value === 0 ? unit : 0);
+    const count = end - from - (value === (encoding.end || 0) ? unit : 0);
     return Math.max(count - count % unit, 0);
 }
 
@@ -117,14 +121,14 @@ export async function* replacedRows(calls, image, rows, encodingsFor, fill) {
     /** @type {Fitted[]} those in one block */
     const group = [];
     let [last, end] = [0, 0];
-    for (const row of [...rows].sort((a, b) => a.block - b.block || a.offset - b.offset)) {
+    for (const row of [...rows].sort((a, b) => bytesBefore(image, a) - bytesBefore(image, b))) {
         try {
             if (row.block < 0 || row.offset < 0) throw new Fault('block and offset are no numbers');
-            if (row.block * USER_SIZE + row.offset < end) throw new Fault(`it overlaps the text of row ${last}`);
+            if (bytesBefore(image, row) < end) throw new Fault(`it overlaps the text of row ${last}`);
             const fitted = { row, change: await fittedRow(read, row, encodingsFor(row.encoding), fill) };
             if (group.length > 0 && !isOneBlock([...group.slice(0, 1), fitted])) yield* madeOf(calls, read, group.splice(0));
             group.push(fitted);
-            [last, end] = [row.number, row.block * USER_SIZE + row.offset + fitted.change.old.length];
+            [last, end] = [row.number, bytesBefore(image, row) + fitted.change.old.length];
         } catch (error) {
             if (!(error instanceof Fault)) throw error;
             yield { number: row.number, lines: null, why: error.message };
@@ -169,10 +173,11 @@ async function* madeOf(calls, image, fitted) {
  */
 async function fittedRow(image, row, encodings, fill) {
     const first = row.block - image.base;
+    if (Math.max(row.text.length, row.fresh.length) > LONGEST_TEXT) throw new Fault(`a text has more than ${LONGEST_TEXT} characters`);
     if (first < 0 || first >= image.sectors) throw new Fault(`the image has the blocks ${image.base} to ${image.base + image.sectors - 1}`);
     const { bytes, at } = await bytesAround(image, row, 0, Math.min(4 * row.text.length + Math.max(row.room, 0) + 4, LONGEST_TEXT));
     const { encoding, size } = encodingAt(encodings, row.text, bytes, at);
-    const fresh = joinedBytes(unitsOfCell(encoding, row.fresh).map(([usual]) => usual));
+    const fresh = usualBytes(unitsOfCell(encoding, row.fresh));
     const room = Math.max(Math.min(size + fillingAfter(encoding, bytes, at + size), row.room), size);
     if (fresh.length > room) {
         const more = `${fresh.length - room} more than the ${room} that are there`;

@@ -3,8 +3,7 @@
 import { replaceBytes } from '../edit.js';
 import { Fault } from '../faults.js';
 import { JobAborted } from '../jobs.js';
-import { USER_SIZE } from '../sector.js';
-import { contextOf } from './context.js';
+import { bytesBefore, contextOf } from './context.js';
 
 /** @typedef {import('../codes.js').Calls} Calls */
 /** @typedef {import('../disc.js').DiscImage} DiscImage */
@@ -38,7 +37,7 @@ export async function* replacedHits(calls, image, encoding, hits, freshFor, { in
     for (const [i, hit] of hits.entries()) {
         if (signal && signal.aborted) throw new JobAborted();
         if (progress) progress(i, hits.length);
-        const at = hit.block * USER_SIZE + hit.offset;
+        const at = bytesBefore(image, hit);
         try {
             const { bytes, doubt } = await contextOf(image, encoding, hit, 0);
             if (at < end) throw new Fault('it overlaps the one before it');

@@ -7,11 +7,13 @@ import { UTF16BE, UTF16LE } from './utf16.js';
 import { UTF8 } from './utf8.js';
 
 /** @typedef {import('./encoding.js').Encoding} Encoding */
+/** @typedef {import('./encoding.js').TableEncoding} TableEncoding */
 /**
  * An encoding whose texts can be told from other bytes: by each byte and each pair what it scores as a character, and its kind; whether
- * characters have two bytes always, or three beside those of one; and its bit in a set of them.
- * @typedef {{ encoding: Encoding, wide: boolean, three: boolean, one: Int8Array, oneKind: Uint8Array, pair: Int8Array,
- *     pairKind: Uint8Array, bit: number }} Scores
+ * characters have two bytes always, or three beside those of one; whether it is a game's own table; how much two neighbours have together;
+ * and its bit in a set of them.
+ * @typedef {{ encoding: Encoding, wide: boolean, three: boolean, own: boolean, one: Int8Array, oneKind: Uint8Array, pair: Int8Array,
+ *     pairKind: Uint8Array, least: number, bit: number }} Scores
  */
 
 /** What is no character. */
@@ -19,7 +21,7 @@ export const BAD = -128;
 
 /** Kinds of characters: those of AFTER_KINDS, and ASCII, line ends, control codes, half-width kana. */
 export const KANJI = 3;
-const ASCII = 6;
+export const ASCII = 6;
 const LINE_END = 7;
 const CONTROL = 8;
 const HALF_WIDTH = 9;
@@ -28,8 +30,9 @@ const ALL_KINDS = 10;
 /** A character of the table without its place in it, by the rows of CP932: signs, the usual kanji, the others, Windows' own. */
 const RARE = [[0x8900, -24], [0x9873, -4], [0xED00, -20], [0x10000, -28]];
 
-/** Two neighbours of a text have this score each at least. */
+/** Two neighbours of a text have this score each at least, and so much together. */
 const STRONG = 8;
+const STRONG_PAIR = 36;
 
 /** @param {number} code */
 function kindOf(code) {
@@ -102,7 +105,7 @@ function pairScores(encoding, number, characterOf, scores) {
     if (encoding === CP932) {
         for (let byte = 0xA1; byte < 0xE0; byte++) [one[byte], oneKind[byte]] = [-1, HALF_WIDTH];
     }
-    return { encoding, wide, three: false, one, oneKind, pair, pairKind, bit: 1 << number };
+    return { encoding, wide, three: false, own: false, one, oneKind, pair, pairKind, least: STRONG_PAIR, bit: 1 << number };
 }
 
 /**
@@ -115,16 +118,23 @@ function utf8Scores(number, scores) {
     const { score: one, kind: oneKind } = singleScores();
     const pair = scores.map(score => score === BAD ? BAD : score + 24);
     const pairKind = Uint8Array.from(pair, (_, code) => kindOf(code));
-    return { encoding: UTF8, wide: false, three: true, one, oneKind, pair, pairKind, bit: 1 << number };
+    return { encoding: UTF8, wide: false, three: true, own: false, one, oneKind, pair, pairKind, least: STRONG_PAIR, bit: 1 << number };
+}
+
+/**
+ * What a pair of bytes is in Unicode, 0 for none.
+ * @param {TableEncoding} encoding
+ */
+function inTable({ table }) {
+    return (/** @type {number} */ code) => {
+        const { size, text } = table.characterAt(Uint8Array.of(code >> 8, code & 0xFF), 0);
+        return size < 2 || code >> 8 < 0x81 ? 0 : text.charCodeAt(0);
+    };
 }
 
 /** The encodings whose texts can be told from other bytes. */
 export function allScores() {
     const scores = characterScores();
-    const inTable = (/** @type {{ table: import('./characters.js').CharacterTable }} */ { table }) => (/** @type {number} */ code) => {
-        const text = table.texts.get(String.fromCharCode(code >> 8, code & 0xFF));
-        return text === undefined || code >> 8 < 0x81 ? 0 : text.charCodeAt(0);
-    };
     return [
         pairScores(CP932, 0, inTable(CP932), scores),
         pairScores(EUC_JP, 1, inTable(EUC_JP), scores),
@@ -135,17 +145,95 @@ export function allScores() {
 }
 
 /**
- * By each pair of bytes the bits of the encodings in which it is a character that stands often in texts, or begins one.
+ * What the sets of characters of other languages score, of which no table is made here: from a pair of bytes to another one their usual
+ * characters, as if all were as frequent; and the others.
+ * @type {Record<string, [number, number, number]>}
+ */
+const USUAL_PAIRS = { 'Big5': [0xA440, 0xC67E, 14], 'GBK': [0xB0A1, 0xD7F9, 16], 'EUC-KR': [0xB0A1, 0xC8FE, 19] };
+const OTHER_PAIR = -16;
+
+/** What the small Latin letters and the space of a game's own table score, as texts in English have them, and what is in no table. */
+const LATIN = 45;
+const OTHER = 16;
+
+/** One of 256 bytes scores less than one of 65536 pairs, but no less than this; and two neighbours together have so much. */
+const ONE_BYTE = -32;
+const LEAST_ONE = -8;
+const STRONG_BYTES = 20;
+
+/**
+ * What the texts of a game's own table score as pairs of bytes, and their kinds.
+ * @param {TableEncoding} encoding
+ */
+function ownScores({ table, end }) {
+    const scores = characterScores();
+    return [...table.meanings()].map(({ bytes, text }) => {
+        const [code, score] = [text.charCodeAt(0), scores[text.charCodeAt(0)]];
+        const own = /^[a-z ]/.test(text) ? LATIN : score === BAD ? OTHER : score;
+        return { bytes, score: own, kind: text.length > 1 || code < 0x80 ? 0 : kindOf(code) };
+    }).filter(({ bytes }) => bytes.length > 1 || bytes[0] !== end);
+}
+
+/**
+ * The scores of a game's own table: of its characters of two bytes, and of one, which are as frequent as if there were no others.
+ * @param {TableEncoding} encoding
+ * @returns {Scores}
+ */
+function ownTableScores(encoding) {
+    const made = pairScores(encoding, 0, () => 0, new Int8Array(0));
+    const own = ownScores(encoding);
+    const singles = own.filter(({ bytes }) => bytes.length === 1);
+    const share = singles.reduce((sum, { score }) => sum + 2 ** (score / 4 - 16), 0);
+    made.one.fill(BAD);
+    for (const { bytes: [byte], score, kind } of singles) {
+        made.one[byte] = Math.max(score + ONE_BYTE - 4 * Math.log2(share), LEAST_ONE);
+        made.oneKind[byte] = kind;
+    }
+    for (const { bytes: [first, second, more], score, kind } of own) {
+        if (second === undefined || more !== undefined) continue;
+        made.pair[first << 8 | second] = score;
+        made.pairKind[first << 8 | second] = kind;
+    }
+    return { ...made, own: true, least: STRONG_BYTES };
+}
+
+/**
+ * The scores of a game's own table, or of a set of characters of another language.
+ * @param {TableEncoding} encoding
+ */
+export function tableScores(encoding) {
+    if (!(encoding.name in USUAL_PAIRS)) return ownTableScores(encoding);
+    const [first, last, usual] = USUAL_PAIRS[encoding.name];
+    const made = pairScores(encoding, 0, inTable(encoding), new Int8Array(0));
+    made.pair.forEach((score, code) => {
+        if (score !== BAD) [made.pair[code], made.pairKind[code]] = [code >= first && code <= last ? usual : OTHER_PAIR, 0];
+    });
+    return { ...made, least: 2 * usual };
+}
+
+/**
+ * What two bytes score as a character, or as two.
+ * @param {Scores} scores
+ * @param {number} code
+ */
+export function strengthOf({ one, pair }, code) {
+    return Math.max(pair[code], one[code >> 8] + one[code & 0xFF]);
+}
+
+/**
+ * By each pair of bytes, the second one first, the bits of the encodings in which it is a character that stands often in texts, or
+ * begins one.
  * @param {Scores[]} all
  */
 export function seedBits(all) {
     const bits = new Uint8Array(65536);
     for (let code = 0; code < 65536; code++) {
         const [first, second] = [code >> 8, code & 0xFF];
-        for (const { three, pair, bit } of all) {
+        for (const scores of all) {
+            const { three, bit } = scores;
             const kana = first === 0xE3 && second >= 0x80 && second <= 0x83;
             const other = (first >= 0xE4 && first <= 0xE9 && second >= 0x80 && second < 0xC0) || (first === 0xEF && (second | 1) === 0xBD);
-            if (three ? kana || other : pair[code] >= STRONG) bits[code] |= bit;
+            if (three ? kana || other : strengthOf(scores, code) >= STRONG) bits[second << 8 | first] |= bit;
         }
     }
     return bits;

@@ -1,8 +1,8 @@
 // A text searched in the user data of a data track, in one encoding or in several.
 
+import { unitsAlike } from './alike.js';
 import { TextFault } from './characters.js';
 import { anyBegins } from './context.js';
-import { encodeText } from './encoding.js';
 import { joinFound, sectorsBeyond } from './find.js';
 
 /** @typedef {import('../disc.js').DiscImage} DiscImage */
@@ -13,19 +13,20 @@ import { joinFound, sectorsBeyond } from './find.js';
 /** @typedef {Found & { encoding: Encoding, begins: boolean }} Hits whether one of them is not in the middle of a character */
 
 /**
- * The encodings that have a text, the first of those in which it is the same bytes; and the names of all that have it. Throws a TextFault
- * if none has it.
+ * The encodings that have a text, the first of those in which it is the same bytes; the names of all that have it; and why others have
+ * it not. Throws a TextFault if none has it.
  * @param {Encoding[]} encodings
  * @param {string} text
+ * @param {boolean} [loose] as `unitsAlike` takes it
  */
-export function encodingsWith(encodings, text) {
+export function encodingsWith(encodings, text, loose) {
     /** @type {Map<string, Encoding>} by the bytes of the text */
     const spelled = new Map();
     const names = [];
     const faults = [];
     for (const encoding of encodings) {
         try {
-            const bytes = encodeText(encoding, text).join();
+            const bytes = unitsAlike(encoding, text, loose).map(unit => unit.join('|')).join();
             names.push(encoding.name);
             if (!spelled.has(bytes)) spelled.set(bytes, encoding);
         } catch (error) {
@@ -34,7 +35,7 @@ export function encodingsWith(encodings, text) {
         }
     }
     if (names.length === 0) throw faults[0];
-    return { encodings: [...spelled.values()], names };
+    return { encodings: [...spelled.values()], names, faults };
 }
 
 /**
@@ -42,16 +43,18 @@ export function encodingsWith(encodings, text) {
  * bytes of another one, comes last.
  * @param {Sharer} crew
  * @param {DiscImage} image
- * @param {{ text: string, encodings: Encoding[], limit: number }} asked how many hits are kept in each encoding
+ * @param {{ text: string, encodings: Encoding[], limit: number, loose?: boolean }} asked how many hits are kept in each encoding
  * @param {Sharing} [watch]
  */
-export async function searchText(crew, image, { text, encodings, limit }, watch) {
-    const texts = encodings.map(encoding => encoding.units(text));
+export async function searchText(crew, image, { text, encodings, limit, loose }, watch) {
+    const texts = encodings.map(encoding => unitsAlike(encoding, text, loose));
     /** @type {Found[][]} by the encodings */
     const parts = texts.map(() => []);
     const how = { base: image.base, beyond: Math.max(...texts.map(sectorsBeyond)), ...watch };
-    await crew.share('find', [image.reader], { texts, limit }, how, (/** @type {Found[]} */ answer) => {
+    const { order } = image;
+    await crew.share('find', [order ? order.reader : image.reader], { texts, limit }, how, (/** @type {Found[]} */ answer) => {
         answer.forEach((found, i) => addFound(parts[i], found, limit));
+        if (order) answer.forEach(({ hits }) => hits.forEach(hit => { hit.block = order.blockOf(hit.block - image.base); }));
     });
     /** @type {Hits[]} */
     const all = [];

@@ -1,6 +1,6 @@
 // Which bytes of a stretch of a disc are texts, told from code, pictures and sound by how likely they are Japanese.
 
-import { BAD } from './scores.js';
+import { ASCII, BAD, allScores } from './scores.js';
 import { CandidateFinder, SURE, isZero } from './candidates.js';
 import { codeOfThree } from './best_path.js';
 
@@ -11,7 +11,7 @@ import { codeOfThree } from './best_path.js';
 const REACH = 64;
 const REACH_WITHOUT_ZERO = 4;
 
-/** Beside a text, over so many bytes of filling, others up to 00 are accepted from so many bits on. */
+/** Beside a text, over so many bytes of filling, others up to 00 are accepted from so many bits on, by a game's own table from 0 on. */
 const BETWEEN = 8;
 const LEAST_BESIDE = 4;
 const LONGEST_BESIDE = 256;
@@ -22,8 +22,9 @@ const MAIN_SHARE = 0.8;
 
 /** The texts of a stretch, in their order. */
 export class TextTeller {
-    constructor() {
-        this.finder = new CandidateFinder();
+    /** @param {Scores[]} [all] the encodings */
+    constructor(all = allScores()) {
+        this.finder = new CandidateFinder(all);
     }
 
     /** The encodings that can be told. */
@@ -33,9 +34,9 @@ export class TextTeller {
 
     /**
      * @param {Uint8Array} bytes
-     * @param {number} wanted the bits of the encodings
+     * @param {number} [wanted] the bits of the encodings
      */
-    tell(bytes, wanted) {
+    tell(bytes, wanted = this.finder.bits) {
         const sure = acceptedOf(withoutOverlaps(this.finder.find(bytes, wanted)));
         return this.withNeighbours(bytes, sure).flatMap(it => chainOf(bytes, it));
     }
@@ -105,10 +106,12 @@ function bitsOf({ wide, three, one, oneKind, pair, pairKind }, bytes, start, end
         const code = three ? codeOfThree(bytes, at, end) : at + 1 < end ? bytes[at] << 8 | bytes[at + 1] : 0;
         if (code > 0 && pair[code] !== BAD) {
             sum += pair[code];
-            count += Number(pairKind[code] < 6);
+            count += Number(pairKind[code] < ASCII);
             at += three ? 3 : 2;
         } else if (!wide && one[bytes[at]] !== BAD) {
-            sum += oneKind[bytes[at]] === 6 ? -1 : -4;
+            const kind = oneKind[bytes[at]];
+            sum += kind < ASCII ? one[bytes[at]] : kind === ASCII ? -1 : -4;
+            count += Number(kind < ASCII);
             at += 1;
         } else return -1;
     }
@@ -125,7 +128,7 @@ function bitsOf({ wide, three, one, oneKind, pair, pairKind }, bytes, start, end
  */
 function neighbour(bytes, { scores }, start, end) {
     const score = bitsOf(scores, bytes, start, end);
-    return score < LEAST_BESIDE ? null : { start, end, score, scores, before: true, after: true, near: true };
+    return score < (scores.own ? 0 : LEAST_BESIDE) ? null : { start, end, score, scores, before: true, after: true, near: true };
 }
 
 /**
@@ -193,11 +196,12 @@ function chainOf(bytes, text) {
 
 /**
  * The texts of a file that are kept: those in the encoding of most of it, and others only if they are surer.
- * @param {Candidate[]} texts
+ * @template {{ score: number, scores: unknown, near: boolean }} T
+ * @param {T[]} texts
  */
 export function keptOf(texts) {
     const strong = texts.filter(it => it.score >= SURE + FOREIGN);
-    /** @type {Map<Scores, number>} */
+    /** @type {Map<unknown, number>} */
     const shares = new Map();
     for (const it of strong) shares.set(it.scores, (shares.get(it.scores) || 0) + it.score);
     const whole = strong.reduce((sum, it) => sum + it.score, 0);

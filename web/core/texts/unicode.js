@@ -15,11 +15,11 @@ import { SPACES } from './encoding.js';
 export function unicodeEncoding(name, bytesOf, goesOn, sizeAt) {
     const [loose, strict] = [false, true].map(fatal => new TextDecoder(name, { fatal, ignoreBOM: true }));
     const least = bytesOf('a').length;
-    const isWhole = (/** @type {Uint8Array} */ bytes) => {
+    const textIfWhole = (/** @type {Uint8Array} */ bytes) => {
         try {
-            return strict.decode(bytes).length > 0;
+            return strict.decode(bytes);
         } catch {
-            return false;
+            return '';
         }
     };
     return {
@@ -37,9 +37,11 @@ export function unicodeEncoding(name, bytesOf, goesOn, sizeAt) {
             });
         },
         text: bytes => loose.decode(bytes),
-        lengthAt(bytes, at) {
-            const size = sizeAt(bytes, at);
-            return size > least && !isWhole(bytes.subarray(at, at + size)) ? least : size;
+        characterAt(bytes, at) {
+            const wanted = sizeAt(bytes, at);
+            const whole = wanted > least ? textIfWhole(bytes.subarray(at, at + wanted)) : '';
+            const size = whole === '' ? Math.min(least, bytes.length - at) : wanted;
+            return { size, text: whole || loose.decode(bytes.subarray(at, at + size)) };
         },
         goesOn,
     };

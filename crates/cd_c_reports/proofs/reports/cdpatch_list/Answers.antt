@@ -1,6 +1,7 @@
 use Rattle.std.proofs.Common.{ap, rules}
 use Rattle.cd_rooms.proofs.RoomLemmas.{fills-counted}
 use Rattle.cd_c_reports.proofs.ReportLemmas.{report-clauses}
+use Rattle.cd_c_reports.proofs.TextSizeLemmas.{texts-short}
 use Rattle.cd_c_reports.proofs.reports.cdpatch_list.Goals as goal
 
 pub returns : goal.returns
@@ -9,4 +10,5 @@ returns c =
     let start = c.new-listing.ensures in
     rw c.from.ensures
     (report-clauses (fills-counted _ c.new-listing.result c.list_image-status.new.out _ _ start.seen
-    (ap (λ l. l.now) start.lent) did.same_bytes (search rules) did.report))
+    (ap (λ l. l.now) start.lent) did.same_bytes (search rules) did.report)
+    (λ low within. (texts-short c.args.base c.args.image.now low within).0))

@@ -1,4 +1,4 @@
-use Rattle.std.proofs.Common.{◌≡◌, ◌∷◌, [], ◌++◌, suc, Some, arith, sym, ap, ◌∙◌, take, drop, subst, length, ◌<◌, true}
+use Rattle.std.proofs.Common.{◌≡◌, ◌∷◌, [], ◌++◌, suc, arith, sym, ap, ◌∙◌, take, drop, subst, length, ◌<◌, true}
 use Rattle.std.specs.List.{slice_index_or}
 use Rattle.cd_script.specs.PatchForm.{Patch as ThePatch}
 use Rattle.cd_patch.specs.Blocks.{blocks_met}

@@ -1,4 +1,4 @@
-use Rattle.std.proofs.Common.{Err, refl, arith, ap, ◌∙◌}
+use Rattle.std.proofs.Common.{refl, arith, ◌∙◌}
 use Rattle.cd_c_scripts.proofs.IndexLemmas.{Index-entries, Index-headless, Index-step, Index-stop, Indexing-start, inside_is, size_is}
 use Rattle.cd_c_scripts.proofs.entries.index_script.Goals as goal
 

@@ -1,12 +1,10 @@
-use Rattle.std.proofs.Common.{◌≡◌, ◌+◌, ◌<◌, ◌≤◌, ◌⊎◌, ◌++◌, [], length, take, inl, inr, refl, arith, sym, ap, ◌∙◌, subst}
+use Rattle.std.proofs.Common.{◌≡◌, ◌++◌, [], take, inl, refl, arith, ap, ◌∙◌}
 use Rattle.std.specs.List.{slice_index_or}
 use Rattle.std.proofs.lemmas.List.{length-take-le}
-use Rattle.cd_sector.specs.Image.{sector_limit}
 use Rattle.cd_c_scripts.specs.Flags.{carries}
-use Rattle.cd_c_scripts.specs.Runs.{Going}
 use Rattle.cd_c_scripts.proofs.BeyondLemmas.{Going-beyond}
 use Rattle.cd_c_scripts.proofs.GoingLemmas.{Going-small}
-use Rattle.cd_c_scripts.proofs.MovedLemmas.{about_as, beyond_as, going_as, asks_copy, asks_read, asks_tail, asks_write, found, was_copied, was_given, was_told, was_written}
+use Rattle.cd_c_scripts.proofs.MovedLemmas.{about_as, beyond_as, going_as, asks_copy, asks_read, asks_write, found, was_copied, was_given, was_told, was_written}
 use Rattle.cd_c_scripts.proofs.moving.note.Goals as goal
 
 pub returns-then-run-eq-COPYING-clause-goes : goal.returns-then-run-eq-COPYING-clause-goes

@@ -1,4 +1,4 @@
-use Rattle.std.proofs.Common.{◌≡◌, [], ◌++◌, length, take, arith, take_all, sym, subst}
+use Rattle.std.proofs.Common.{◌≡◌, [], ◌++◌, length, arith, take_all, sym, subst}
 use Rattle.std.specs.List.{slice_index_or}
 use Rattle.cd_sector.specs.declared.sector.TheConstants.{SECTOR_SIZE}
 use Rattle.cd_c_scripts.specs.Runs.{Going}

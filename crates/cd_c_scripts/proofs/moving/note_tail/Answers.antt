@@ -1,4 +1,4 @@
-use Rattle.std.proofs.Common.{◌≡◌, [], ◌++◌, take, arith, sym, ap, ◌∙◌, subst, refl}
+use Rattle.std.proofs.Common.{◌≡◌, [], ◌++◌, take, arith, ap, ◌∙◌, subst, refl}
 use Rattle.std.specs.List.{slice_index_or}
 use Rattle.cd_c_scripts.specs.Runs.{Going}
 use Rattle.cd_c_scripts.proofs.GoingLemmas.{Going-sent_tail}

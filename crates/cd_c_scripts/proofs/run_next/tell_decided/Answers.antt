@@ -18,9 +18,10 @@ returns-clause-goes c =
     (subst (λ l. AreEntries c.args.script.now about.named c.args.run.now.flags l patches) (sym used) about.entries)
     comes.0 h in
     let told = c.tell_outcome.ensures in
-    Goes-decided c.in-Some.decided.number c.in-Some.decided.outcome about made.0 made.1
+    Goes-decided c.in-Some.decided.number c.in-Some.decided.outcome about h comes.0
+    (omega (arith, h.sound.held, c.requires.hand)) made.0 made.1 c.decide.ensures.stage
     c.decide.ensures.others c.in-Some.ensures.decided
     (same_run c.decide.new.run c.ask.new.run _ _ _ c.ask.ensures)
     (ap (λ r. r.asked) c.ask.ensures)
     (record { kind = told.kind; size = sym (ap (λ r. r.size) c.ask.ensures); some = told.some; few = told.few })
-    told.line told.number told.result told.block told.offset
+    told.line told.size told.number told.result told.block told.offset

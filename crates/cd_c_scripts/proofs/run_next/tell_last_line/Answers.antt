@@ -1,7 +1,5 @@
-use Rattle.std.proofs.Common.{arith, inl, refl, sym, ap, ◌∙◌, subst, ◌++◌}
-use Rattle.cd_c_scripts.specs.Flags.{carries}
-use Rattle.cd_c_scripts.specs.Runs.{IsDone, IsRunning, Tells}
-use Rattle.cd_c_scripts.proofs.GoingLemmas.{Going-applied, Going-done}
+use Rattle.std.proofs.Common.{arith, sym, ap, ◌∙◌}
+use Rattle.cd_c_scripts.proofs.GoingLemmas.{Going-applied}
 use Rattle.cd_c_scripts.proofs.TellingLemmas.{Goes-last}
 use Rattle.cd_c_scripts.proofs.run_next.tell_last_line.Goals as goal
 

@@ -1,4 +1,4 @@
-use Rattle.std.proofs.Common.{◌≡◌, false, true, inl, inr, arith, sym, ap, ◌∙◌, subst}
+use Rattle.std.proofs.Common.{inl, inr, arith, sym, ap, ◌∙◌, subst}
 use Rattle.cd_c_scripts.specs.Runs.{Comes}
 use Rattle.cd_c_scripts.proofs.TellingLemmas.{Goes-copy, Goes-read, Goes-write, Goes-write_tail, read_for_copy, same_run}
 use Rattle.cd_c_scripts.proofs.run_next.tell_step.Goals as goal

@@ -1,0 +1,22 @@
+-- How much room is enough for the text of `list` and of `audit`. The numbers are those of `cdpatch.h`;
+-- the law is a contract of `laws.rt`.
+use Rattle.std.specs.Prelude.{ℕ, ◌+◌, ◌*◌, ◌/◌, ◌≤◌, List, length}
+use Rattle.cd_sector.specs.Image.{base_limit, image_limit}
+use Rattle.cd_report.specs.AuditText.{audit_text}
+use Rattle.cd_report.specs.ListText.{list_text}
+
+-- 100 bytes, and 40 for each whole sector of an image
+abbrev pub text_room : List ℕ → ℕ
+text_room image = 100 + 40 * (length image / 2352)
+
+-- a call takes this image, and the room has as many bytes
+abbrev pub HasEnoughRoom : ℕ → List ℕ → List ℕ → Type 0
+HasEnoughRoom base image room =
+    (base ≤ base_limit) × (length image ≤ image_limit) × (text_room image ≤ length room)
+
+-- neither text of an image is longer
+abbrev pub TextsAreShort : Type 0
+TextsAreShort =
+    (base : ℕ) (image : List ℕ) → base ≤ base_limit → length image ≤ image_limit
+    → (length (list_text base image) ≤ text_room image)
+    × (length (audit_text base image) ≤ text_room image)

@@ -1,0 +1,25 @@
+"""What the commands on an image take and answer."""
+
+from __future__ import annotations
+
+from operator import index
+from typing import NamedTuple
+
+from ._errors import Failed
+
+LAST_BASE = 449849
+FOUND, FAILED = 1, 2
+
+
+class Report(NamedTuple):
+    """What a command prints, and whether `audit` has a finding, or a patch was refused."""
+    text: str
+    found: bool
+
+
+def checked_base(base: int) -> int:
+    """The base of an image. Raises Failed if no image has it, and TypeError if it is no whole number."""
+    base = index(base)
+    if not 0 <= base <= LAST_BASE:
+        raise Failed(f'base {base} is not 0 to {LAST_BASE}')
+    return base

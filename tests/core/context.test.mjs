@@ -1,0 +1,85 @@
+// The text around hits, and the files in which they lie: of many at once what each has by itself, with less work.
+import assert from 'node:assert';
+import { test } from 'node:test';
+import { core, diceOf, encoded, readerOf } from './common.mjs';
+import { rawOf } from './discs.mjs';
+
+const { FilesAlong, contextOf, contextsOf, filesWith } = await core('texts/context.js');
+const { encodingOf, tableOf } = await core('text.js');
+
+const USER = 2048;
+const BASE = 225;
+
+/** An image of so many sectors of few characters and other bytes, and hits in it, near one another and far apart. */
+function hitsOf(seed, sectors, count) {
+    const dice = diceOf(seed);
+    const bytes = [0x82, 0xA0, 0x83, 0x41, 0xE3, 0x81, 0x82, 0x00, 0x30, 0xFF, 0x8F, 0xA1];
+    const user = Uint8Array.from({ length: sectors * USER }, () => bytes[dice(bytes.length)]);
+    user.fill(0x83, 3 * USER, 5 * USER);
+    const reader = readerOf(rawOf(user));
+    const places = Array.from({ length: count }, () => dice(sectors * USER - 40)).concat(0, 1, sectors * USER - 4).sort((a, b) => a - b);
+    const hits = places.map(at => ({ block: BASE + Math.floor(at / USER), offset: at % USER, size: 1 + dice(4) }));
+    return { image: { reader, base: BASE, sectors }, hits, reader };
+}
+
+/** @param {AsyncIterable<Iterable<any>>} groups */
+async function listed(groups) {
+    const found = [];
+    for await (const group of groups) found.push(...group);
+    return found;
+}
+
+for (const name of ['CP932', 'EUC-JP', 'UTF-8', 'UTF-16LE', 'hex', 'a table']) {
+    test(`many hits have the contexts that each has by itself: ${name}`, async () => {
+        const own = tableOf(encoded('82A083=a\n82=b\n83418281E38282A0=c\n00=d\n41=e\n'));
+        const encoding = name === 'a table' ? own : encodingOf(name);
+        const { image, hits } = hitsOf(7, 900, 700);
+        const found = await listed(contextsOf(image, encoding, hits));
+        assert.deepStrictEqual(found.map(it => it.hit), hits);
+        for (const { hit, context } of found) assert.deepStrictEqual(context, await contextOf(image, encoding, hit));
+        if (name === 'CP932') assert.ok(found.some(({ context }) => context.doubt !== ''));
+    });
+}
+
+test('what lies near one another is read at once, and not what lies between hits that are far apart', async () => {
+    const near = hitsOf(9, 200, 20000);
+    assert.strictEqual((await listed(contextsOf(near.image, encodingOf('CP932'), near.hits))).length, 20003);
+    assert.ok(near.reader.reads.length <= 3, `${near.reader.reads.length} reads`);
+    const far = hitsOf(9, 9000, 5);
+    await listed(contextsOf(far.image, encodingOf('CP932'), far.hits));
+    const sum = far.reader.reads.reduce((all, { length }) => all + length, 0);
+    assert.ok(sum < 3 * 1024 * 2352, `${sum} bytes`);
+});
+
+test('more hits in a few sectors than a call takes arguments have their contexts', async () => {
+    const image = { reader: readerOf(rawOf(new Uint8Array(200 * USER))), base: 0, sectors: 200 };
+    const hits = Array.from({ length: 200000 }, (_, at) => ({ block: Math.floor(at / USER), offset: at % USER, size: 1 }));
+    let count = 0;
+    for await (const group of contextsOf(image, encodingOf('hex'), hits)) for (const { context } of group) count += Number(context.hit === '00');
+    assert.strictEqual(count, hits.length);
+});
+
+/** Files at random, some of which share sectors, by their blocks. */
+function filesOf(seed, count) {
+    const dice = diceOf(seed);
+    const files = Array.from({ length: count }, (_, i) => ({ path: `/${i}`, block: dice(4 * count), size: dice(6) * 1500, fault: '' }));
+    return files.sort((a, b) => a.block - b.block);
+}
+
+test('the files of places in their order, and in any order, are those of each place', () => {
+    const dice = diceOf(3);
+    const files = filesOf(4, 300);
+    const places = Array.from({ length: 3000 }, () => ({ block: dice(1300), offset: dice(USER) }));
+    for (const some of [places, [...places].sort((a, b) => a.block - b.block)]) {
+        const along = new FilesAlong(files);
+        for (const place of some) assert.deepStrictEqual(along.with(place), filesWith(files, place));
+    }
+});
+
+test('of many files few are looked at for each of places in their order', () => {
+    let looks = 0;
+    const files = filesOf(5, 4000).map(file => Object.defineProperty({ ...file }, 'block', { get() { looks += 1; return file.block; } }));
+    const along = new FilesAlong(files);
+    for (let block = 0; block < 16000; block++) along.with({ block, offset: 7 });
+    assert.ok(looks < 10 * 16000, `${looks} looks at files for 16000 places`);
+});

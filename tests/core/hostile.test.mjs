@@ -1,0 +1,135 @@
+// Lists and tables of characters that mean harm: what is read of them, and what is refused, by how much work they make.
+
+import assert from 'node:assert/strict';
+import { test } from 'node:test';
+import { calls, core, diceOf, encoded } from './common.mjs';
+
+const { rowsOf } = await core('texts/cells.js');
+const { listRows, replacedRows } = await core('texts/list.js');
+const { encodingOf, tableOf } = await core('text.js');
+const { endOfMatch } = await core('texts/find.js');
+
+/** How many characters `indexOf` and expressions have looked at while something was done. */
+function lookedAt(use) {
+    const [indexOf, exec] = [String.prototype.indexOf, RegExp.prototype.exec];
+    let count = 0;
+    String.prototype.indexOf = function (text, from = 0) {
+        const found = indexOf.call(this, text, from);
+        count += (found < 0 ? this.length : found) - from + 1;
+        return found;
+    };
+    RegExp.prototype.exec = function (text) {
+        const found = exec.call(this, text);
+        count += found ? found[0].length + 1 : 1;
+        return found;
+    };
+    try {
+        use();
+    } finally {
+        Object.assign(String.prototype, { indexOf });
+        Object.assign(RegExp.prototype, { exec });
+    }
+    return count;
+}
+
+const cellsIn = text => [...rowsOf(text)].reduce((sum, { cells }) => sum + cells.length, 0);
+
+test('no quotes, nested or without an end, are looked at more than a few times', () => {
+    const size = 1 << 16;
+    const dice = diceOf(4);
+    const random = Array.from({ length: size }, () => '"""\ta\n,'[dice(7)]).join('');
+    const texts = ['"'.repeat(size), '"\t'.repeat(size), '""\t'.repeat(size), '"a\t'.repeat(size), '"""\t'.repeat(size), '"a""\t'.repeat(size),
+        '""a\t'.repeat(size), `"${'""'.repeat(size)}`, '"\n'.repeat(size), '"a\n""b\n'.repeat(size), '\0"\0\t'.repeat(size), random];
+    for (const text of texts) {
+        const whole = `a\tb\n${text}`;
+        const count = lookedAt(() => {
+            try {
+                cellsIn(whole);
+            } catch (error) {
+                assert.match(error.message, /^row \d+ of the table has more than 262144 cells$/);
+            }
+        });
+        assert.ok(count < 4 * whole.length, `${JSON.stringify(text.slice(0, 9))}: ${count} for ${whole.length}`);
+    }
+});
+
+test('a row of too many cells, and too many rows, are refused', () => {
+    assert.throws(() => cellsIn(`a,b\n${','.repeat(50 << 20)}`), { name: 'Fault', message: 'row 2 of the table has more than 262144 cells' });
+    assert.equal(cellsIn(`a,b\n${','.repeat((1 << 18) - 1)}\n`), 2 + (1 << 18));
+    const rows = 'block\toffset\ttext\tnew\n' + '0\t0\ta\tb\n'.repeat(1000001);
+    assert.throws(() => { for (const row of listRows(rows)) assert.equal(row.text, 'a'); }, { message: 'more than 1000000 rows of the list have a new text' });
+});
+
+/** What becomes of rows, and how many characters an encoding was asked for. */
+async function made(rows, name = 'CP932') {
+    let asked = 0;
+    const encoding = encodingOf(name);
+    const counting = Object.create(encoding, { units: { value: text => {
+        asked += text.length;
+        return encoding.units(text);
+    } } });
+    const sectors = calls.encodeBlocks(0, new Uint8Array(4 * 2048).fill(0x41));
+    const image = { base: 0, sectors: 4, reader: { size: sectors.length, read: async (at, length) => sectors.slice(at, at + length) } };
+    const whys = [];
+    for await (const { lines, why } of replacedRows(calls, image, rows, () => [counting], null)) whys.push(lines === null ? why : 'lines');
+    return { whys, asked };
+}
+
+const row = (text, fresh, offset = 0) => ({ number: 2, block: 0, offset, room: 999999999, encoding: '', text, fresh });
+
+test('of a text of 50 MB no character is looked up', async () => {
+    const long = 'A'.repeat(50 << 20);
+    const why = 'a text has more than 65536 characters';
+    for (const it of [row(long, 'b'), row('A', long)]) assert.deepEqual(await made([it]), { whys: [why], asked: 0 });
+    const { whys, asked } = await made([row('A'.repeat(8192), 'b\0c')]);
+    assert.deepEqual(whys, ['lines']);
+    assert.ok(asked < 3 * 8200, `${asked}`);
+});
+
+test('a character is looked up in its other forms once, however often it stands', async () => {
+    const { asked } = await made(Array.from({ length: 500 }, (_, i) => row('AがパA', 'A', 10 * i)));
+    assert.ok(asked < 500 * 8 + 100, `${asked}`);
+});
+
+test('a text of thousands of spellings is matched without a stack for each', () => {
+    const count = 60000;
+    const units = Array.from({ length: count }, () => [Uint8Array.of(1), Uint8Array.of(1, 1)]);
+    assert.equal(endOfMatch(units, new Uint8Array(count).fill(1), 0), count);
+    assert.equal(endOfMatch([...units.slice(0, 300), [Uint8Array.of(2)]], new Uint8Array(400).fill(1), 0), -1);
+    assert.equal(endOfMatch([], Uint8Array.of(1), 0), 0);
+});
+
+test('a table is refused by its size before it is read, and a long line by its beginning', () => {
+    const { decode } = TextDecoder.prototype;
+    let decoded = 0;
+    TextDecoder.prototype.decode = function (bytes) {
+        decoded += bytes.length;
+        return decode.call(this, bytes);
+    };
+    try {
+        const message = `the table has ${100 << 20} bytes, and one has at most 8388608`;
+        assert.throws(() => tableOf(new Uint8Array(100 << 20)), { name: 'TextFault', message });
+        assert.equal(decoded, 0);
+    } finally {
+        TextDecoder.prototype.decode = decode;
+    }
+    const { slice } = String.prototype;
+    let longest = 0;
+    String.prototype.slice = function (from, to) {
+        const cut = slice.call(this, from, to);
+        if (this.length > 1 << 20) longest = Math.max(longest, cut.length);
+        return cut;
+    };
+    try {
+        const lines = { [`${'41'.repeat(2 << 20)}=b`]: 'has more than 8 bytes', [`41=${'b'.repeat(4 << 20)}`]: 'has a text of more than 64 characters',
+            ['"'.repeat(4 << 20)]: 'is not HEX=TEXT' };
+        for (const [line, why] of Object.entries(lines)) {
+            assert.throws(() => tableOf(encoded(`00=a\n${line}\n`)), { message: `line 2 of the table ${why}` });
+        }
+        assert.ok(longest > 0 && longest < 1000, `${longest}`);
+    } finally {
+        String.prototype.slice = slice;
+    }
+    assert.equal(tableOf(encoded('41=\0\n42=a\n')).text(Uint8Array.of(0x41, 0x42)), '\0a');
+    assert.throws(() => tableOf(encoded('\n'.repeat((8 << 20) + 1))), { name: 'TextFault' });
+});

@@ -1,0 +1,136 @@
+"""The model of the page for random actions: what is open, what the script is and whether it is in a file, and what is being saved."""
+
+import dataclasses
+import functools
+import random
+
+import common
+import discs
+
+NEW = 'cdpatch 1\n'
+SCRIPTS = {'one.txt': 'cdpatch 1\nfill 120 5 4 01\n', 'two.txt': 'cdpatch 1\n# two\nfill 130 5 4 02\nrebuild 131\n',
+           'three.txt': 'cdpatch 1\nset 99999 0 41\nfill 121 0 2 03\n'}
+DAMAGED = {'sound.bin': (), 'bad.bin': (40, 60), 'worse.bin': (60, 80, 100)}
+
+
+@functools.cache
+def images() -> dict[str, bytes]:
+    """A sound dump, and two that are damaged."""
+    return {name: functools.reduce(common.damaged, blocks, discs.game()) for name, blocks in DAMAGED.items()}
+
+
+def repaired(image: bytes, other: bytes) -> bytes | None:
+    """What a repair gives, or None if it takes nothing."""
+    [here] = [set(DAMAGED[name]) for name, data in images().items() if data is image]
+    [there] = [set(DAMAGED[name]) for name, data in images().items() if data is other]
+    made = bytearray(image)
+    for block in here - there:
+        made[block * 2352:(block + 1) * 2352] = other[block * 2352:(block + 1) * 2352]
+    return bytes(made) if here - there else None
+
+
+def line(dice: random.Random) -> str:
+    """A line of a script, of which some are refused."""
+    block = dice.randrange(110, 150)
+    return dice.choice([f'fill {block} {dice.randrange(2000)} 4 {dice.randrange(256):02X}', f'rebuild {block}', '# a note', 'set 99999 0 41'])
+
+
+@dataclasses.dataclass
+class Edit:
+    text: str
+    name: str
+    saved: bool
+
+
+@dataclasses.dataclass
+class Saving:
+    card: str
+    due: bytes
+
+
+class Model:
+    def __init__(self) -> None:
+        self.image = self.second = self.panel = self.title = ''
+        self.edited = False
+        self.saving: Saving | None = None
+        self.done: list[Edit] = []
+        self.undone: list[Edit] = []
+        self.typed = 9
+
+    # ---- the script
+
+    def text(self) -> str:
+        return self.done[-1].text if self.done else NEW
+
+    def name(self) -> str:
+        return self.done[-1].name if self.done else ''
+
+    def unsaved(self) -> bool:
+        return bool(self.done) and not self.done[-1].saved and self.text() != NEW
+
+    def patches(self) -> int:
+        return sum(row.split(' ')[0] in ('fill', 'rebuild', 'set') for row in self.text().split('\n'))
+
+    def edit(self, text: str, name: str | None = None) -> None:
+        self.done.append(Edit(text, self.name() if name is None else name, False))
+        self.undone = []
+
+    def undo(self) -> None:
+        if self.done:
+            self.undone.append(self.done.pop())
+
+    def redo(self) -> None:
+        if self.undone:
+            self.done.append(self.undone.pop())
+
+    def note_saved(self) -> None:
+        if self.done:
+            self.done[-1].saved = True
+
+    def add_line(self, added: str) -> None:
+        before = self.text() if self.text().strip() else NEW
+        self.edit(f"{before}{'' if before.endswith(chr(10)) else chr(10)}{added}\n")
+
+    def open_script(self, name: str, text: str) -> bool:
+        """Whether a script that is in no file has made way."""
+        lost = self.unsaved() and self.text() != text
+        if (text, name) != (self.text(), self.name()):
+            self.edit(text, name)
+        self.note_saved()
+        self.panel = 'script'
+        return lost
+
+    def bring_back(self) -> None:
+        self.undo()
+
+    def next_block(self) -> int:
+        """A block in which no byte was typed yet."""
+        self.typed += 1
+        return self.typed
+
+    # ---- images
+
+    def open_image(self, name: str) -> bool:
+        """Whether it was opened."""
+        if self.saving:
+            return False
+        if self.image:
+            self.second = name
+        else:
+            self.image = name
+        self.panel = 'disc'
+        return True
+
+    def begin(self, card: str, due: bytes) -> None:
+        self.saving = Saving(card, due)
+
+    def publishable(self, images_: dict[str, bytes]) -> bool:
+        """Whether the script can be published: it has a patch, a title, and none that is refused."""
+        return self.title != '' and self.patches() > 0 and 'set 99999' not in self.text() and self.image in images_
+
+    def state(self) -> dict[str, object]:
+        """What the page shows of it."""
+        unsaved = self.unsaved()
+        bars = {'bars': int(self.saving is not None)}
+        return {'panel': self.panel, 'image': self.image, 'second': self.second, 'unsaved': unsaved, 'errors': 0, **bars,
+                'asks': unsaved or self.edited or self.saving is not None, 'name': self.name() or 'New script'}

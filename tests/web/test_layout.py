@@ -1,0 +1,126 @@
+"""Each panel with hundreds of rows at several widths: the page ends where its footer ends, and nothing is cut or stands in a thin column.
+
+With PICTURES, a directory, each state is drawn there at each width.
+"""
+
+import os
+from pathlib import Path
+
+import common
+import discs
+from chromium import WIDTHS
+from pages import PICKER, PageTest, patcher
+
+# 640 pixels are a screen of 1280 at 200 %.
+ALL_WIDTHS = (*WIDTHS, 640)
+LONG_NAME = f"Hoshizora Tantei - The Starlit Detective and the Case of the Missing Comet ({'Japan, ' * 4}Disc 1) (Rev 2) (Alt).bin"
+
+# How far the page goes on below its footer, and what is cut at its right edge: a control that does not fit its window.
+ENDS = '''const [done] = arguments;
+    requestAnimationFrame(() => requestAnimationFrame(() => {
+        const foot = document.querySelector('footer').getBoundingClientRect().bottom + scrollY;
+        const cut = [...document.querySelectorAll('main button, main input, main select, main dd, main h2, main .tag')].filter(it => {
+            const { right, left, width } = it.getBoundingClientRect();
+            return it.checkVisibility() && width > 1 && it.closest('.scroll, .hex, .editor, .hide, .fields, .log') === null && (right > innerWidth + 1 || left < -1);
+        });
+        done([document.documentElement.scrollHeight - Math.max(Math.ceil(foot), innerHeight), cut.map(it => it.innerText || it.id)]);
+    }))'''
+# The height of the facts of the open image in lines of their two rows.
+FACTS = '''const dl = document.querySelector('#disc-line dl');
+    return [new Set([...dl.children].map(it => Math.round(it.getBoundingClientRect().top))).size, dl.children.length]'''
+
+
+class Layout(PageTest):
+    stub = PICKER
+
+    def tearDown(self) -> None:
+        self.browser.size(1280)
+
+    def judge(self, state: str) -> None:
+        for width in ALL_WIDTHS:
+            self.browser.size(width)
+            over, cut = self.browser.driver.execute_async_script(ENDS)
+            self.assertLessEqual(over, 0, f'{state} at {width} goes on below its footer')
+            self.assertEqual(cut, [], f'{state} at {width} is cut')
+            self.assertLessEqual(self.browser.wider(width), 0, f'{state} at {width}')
+            if 'PICTURES' in os.environ:
+                self.browser.picture(Path(os.environ['PICTURES']) / f"layout-{state.replace(' ', '-')}-{width}.png", width)
+        self.browser.size(1280)
+
+    def begin(self, image: bytes, name: str = LONG_NAME) -> Path:
+        path = common.folder('disc') / name
+        path.write_bytes(image)
+        self.open_files(path)
+        self.wait_for_hash()
+        return path
+
+    def search(self) -> None:
+        self.browser.click('#tab-text')
+        self.browser.type('#find-text', 'スタート')
+        self.press('Find')
+        self.browser.wait('#panel-text .hits tbody tr:nth-child(200)', 'スタート')
+        self.browser.type('#new-text', 'Start')
+
+    def test_hits_make_the_page_no_longer(self) -> None:
+        self.begin(discs.many_texts())
+        self.search()
+        self.judge('200 hits')
+        self.press('Show 200 more')
+        self.browser.wait('#panel-text .hits tbody tr:nth-child(400)', 'スタート')
+        self.judge('400 hits')
+
+    def test_findings_make_the_page_no_longer(self) -> None:
+        self.begin(discs.scratches())
+        self.press('Next finding')
+        self.browser.wait('#sector-title', 'block')
+        self.browser.click('#findings .fold')
+        self.judge('findings')
+        for tab in ('runs', 'text'):
+            self.browser.click(f'#findings [data-tab={tab}]')
+            self.judge(tab)
+
+    def test_two_dumps_make_the_page_no_longer(self) -> None:
+        place = self.begin(discs.scratches()).parent
+        other = place / f'Other {LONG_NAME}'
+        image = bytearray(discs.scratches())
+        for block in range(3000, 4000, 17):
+            image[block * 2352 + 400] ^= 1
+        other.write_bytes(image)
+        self.open_files(other)
+        self.browser.wait('.tally', 'cannot be repaired')
+        self.browser.wait('[aria-label^="Cannot be repaired"]')
+        self.judge('repair')
+        self.browser.click('[data-tab=compare]')
+        self.browser.wait('[aria-label^="Bytes that differ"]')
+        self.judge('compare')
+
+    def test_a_script_of_many_lines_makes_the_page_no_longer(self) -> None:
+        self.begin(discs.many_texts())
+        lines = [f"set {at // 100} {24 + 18 * (at % 100)} {'Start'.encode().ljust(8).hex()} was {discs.START.hex()}" for at in range(400)]
+        script = discs.written(english='\n'.join(['cdpatch 1', *lines, 'set 0 0 41 was 42', '']))['english']
+        self.open_script(script)
+        self.press('Check')
+        self.browser.wait('.tally', '400')
+        self.judge('script')
+        self.browser.click('#tab-publish')
+        self.browser.wait('#panel-publish', 'tried on this image')
+        self.judge('publish')
+
+    def test_a_patcher_with_long_texts_makes_the_page_no_longer(self) -> None:
+        path = common.folder('patcher') / 'starlit.html'
+        path.write_bytes(patcher(discs.game(), discs.game(), discs.script(), title='The long ' * 20, note='All menus. ' * 200, name=LONG_NAME))
+        self.browser.open(path)
+        self.browser.wait('#player h1')
+        self.browser.give('#player-files', [discs.written(game=discs.game())['game']])
+        self.browser.wait('#verdict')
+        self.judge('player')
+
+    def test_a_long_name_leaves_room_for_the_facts_of_the_image(self) -> None:
+        self.begin(discs.game())
+        for panel in ('disc', 'script'):
+            self.browser.click(f'#tab-{panel}')
+            for width, most in ((1280, 2), (900, 2), (640, 3), (360, 4)):
+                self.browser.size(width)
+                rows, facts = self.browser.run(FACTS)
+                self.assertLessEqual(rows, most, f'{facts} facts in {rows} rows at {width} on {panel}')
+            self.browser.size(1280)

@@ -1,0 +1,43 @@
+// The base for which a script was written, as a comment in it says.
+
+/** @typedef {{ line: number, base: number }} BaseSaid the comment's line, and the base that it says */
+
+const BASE_COMMENT = /^# base (\d{1,6})\s*$/;
+const LONGEST_BASE_COMMENT = 21;
+const HASH = 0x23;
+const LINE_FEED = 0x0A;
+
+/** @param {number} base for which a script is written */
+export function baseComment(base) {
+    return `# base ${base}\n`;
+}
+
+/**
+ * The bases that the lines of a text say.
+ * @param {Uint8Array} text
+ */
+export function basesSaid(text) {
+    /** @type {BaseSaid[]} */
+    const found = [];
+    let [line, counted] = [1, 0];
+    for (let at = text.indexOf(HASH); at >= 0; at = text.indexOf(HASH, at + 1)) {
+        if (at > 0 && text[at - 1] !== LINE_FEED) continue;
+        const end = text.indexOf(LINE_FEED, at);
+        const comment = text.subarray(at, end < 0 ? text.length : end);
+        const said = comment.length <= LONGEST_BASE_COMMENT && BASE_COMMENT.exec(String.fromCharCode(...comment));
+        if (!said) continue;
+        for (; counted < at; counted++) line += Number(text[counted] === LINE_FEED);
+        found.push({ line, base: Number(said[1]) });
+    }
+    return found;
+}
+
+/**
+ * Why a script is not for an image that begins with a block, '' if it does not say another base.
+ * @param {BaseSaid[]} bases
+ * @param {number} base
+ */
+export function baseFault(bases, base) {
+    const other = bases.find(said => said.base !== base);
+    return other ? `line ${other.line} of the script says base ${other.base}, and the image begins with block ${base} here` : '';
+}

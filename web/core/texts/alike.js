@@ -1,0 +1,107 @@
+// Texts that are one in several spellings: composed or not, with a yen sign or a backslash; and loosely, half-width or full-width, and in
+// capitals or not.
+
+import { joinedBytes } from '../bytes.js';
+import { TextFault, lacks } from './characters.js';
+
+/** @typedef {import('./encoding.js').Encoding} Encoding */
+
+/** What composes one character: a character with marks, or the letters of a Korean syllable. */
+const COMPOSING = /\P{M}\p{M}+|[\u1100-\u1112][\u1161-\u1175][\u11A8-\u11C2]?/gu;
+const HALF_WIDTH_KANA = /[\uFF61-\uFF9F]+/g;
+
+/** @type {Record<string, string>} Japanese sets of characters have them at one code */
+const SAME_SIGN = { '\\': '¥', '¥': '\\' };
+
+/** Half-width forms by the full-width ones, and the other way round. */
+const NARROW = new Map([['\u3000', ' '], ['￥', '¥']]);
+for (let code = 0xFF01; code <= 0xFF5E; code++) NARROW.set(String.fromCharCode(code), String.fromCharCode(code - 0xFEE0));
+for (let code = 0xFF61; code <= 0xFF9F; code++) {
+    for (const mark of ['', 'ﾞ', 'ﾟ']) {
+        const narrow = String.fromCharCode(code) + mark;
+        if (narrow.normalize('NFKC').length === 1) NARROW.set(narrow.normalize('NFKC'), narrow);
+    }
+}
+const WIDE = new Map([...NARROW].map(([wide, narrow]) => [narrow, wide]));
+
+/** @type {WeakMap<Encoding, Map<string, { own: Uint8Array[], others: Uint8Array[] }>>} by the encodings, what was asked for before */
+const known = new WeakMap();
+
+/**
+ * The forms of a character that are one with it, itself first.
+ * @param {string} character
+ * @param {boolean} loose
+ */
+function formsOf(character, loose) {
+    const forms = new Set([character]);
+    for (const it of forms) {
+        const apart = it.normalize('NFD');
+        if ([...apart].length > 1) forms.add(apart);
+        if (it in SAME_SIGN) forms.add(SAME_SIGN[it]);
+        if (loose) for (const other of [it.toLowerCase(), it.toUpperCase(), NARROW.get(it), WIDE.get(it)]) forms.add(other || it);
+    }
+    return [...forms];
+}
+
+/**
+ * The spellings of a form, none if the encoding lacks it.
+ * @param {Encoding} encoding
+ * @param {string} form
+ */
+function spellingsOf(encoding, form) {
+    try {
+        const units = encoding.units(form);
+        return units.length === 1 ? units[0] : [joinedBytes(units.map(([usual]) => usual))].filter(({ length }) => length > 0);
+    } catch (error) {
+        if (!(error instanceof TextFault)) throw error;
+        return [];
+    }
+}
+
+/**
+ * The spellings of a character, and those of its other forms.
+ * @param {Encoding} encoding
+ * @param {string} character
+ * @param {boolean} loose
+ */
+function spelled(encoding, character, loose) {
+    const found = known.get(encoding) || new Map();
+    known.set(encoding, found);
+    const key = `${Number(loose)}${character}`;
+    const [own, ...others] = found.has(key) ? [] : formsOf(character, loose).map(form => spellingsOf(encoding, form));
+    if (own) found.set(key, { own, others: others.flat() });
+    return /** @type {{ own: Uint8Array[], others: Uint8Array[] }} */ (found.get(key));
+}
+
+/**
+ * The parts of a text as `Encoding.units` gives them, with the spellings that are one with its own. Throws a TextFault that names the first
+ * character without any.
+ * @param {Encoding} encoding
+ * @param {string} text
+ * @param {boolean} [loose]
+ */
+export function unitsAlike(encoding, text, loose = false) {
+    const wide = loose ? text.replace(HALF_WIDTH_KANA, it => it.normalize('NFKC')) : text;
+    const whole = wide.replace(COMPOSING, it => it.normalize('NFC'));
+    /** @type {Uint8Array[][]} */
+    const units = [];
+    let [from, at] = [0, 0];
+    const pushPlain = () => {
+        try {
+            units.push(...encoding.units(whole.slice(from, at)));
+        } catch (error) {
+            throw error instanceof TextFault && error.at >= 0 ? lacks(encoding.name, whole, from + error.at) : error;
+        }
+    };
+    for (const character of whole) {
+        const { own, others } = spelled(encoding, character, loose);
+        if (others.length > 0) {
+            pushPlain();
+            units.push([...own, ...others]);
+            from = at + character.length;
+        }
+        at += character.length;
+    }
+    pushPlain();
+    return units;
+}

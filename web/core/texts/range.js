@@ -1,0 +1,64 @@
+// The texts of a range of sectors, which is a part of a file.
+
+import { USER_SIZE, joinedUser } from '../sector.js';
+import { encodingOf } from '../text.js';
+import { cellOf } from './codes.js';
+import { fillingAfter } from './list.js';
+import { allScores, tableScores } from './scores.js';
+import { tableEncoding } from './table.js';
+import { TextTeller } from './telling.js';
+
+/** @typedef {import('./encoding.js').Encoding} Encoding */
+/** @typedef {import('./encoding.js').TableEncoding} TableEncoding */
+/** @typedef {{ encoding?: string, table?: string }} Asked the name of an encoding, or the text of a table; neither for the usual ones */
+/**
+ * A text, as it can be posted: its place in its file, how many bytes its room has, the name of its encoding, its score, whether only what
+ * is beside it tells it, and itself.
+ * @typedef {{ start: number, end: number, room: number, scores: string, score: number, near: boolean, text: string }} Told
+ */
+
+/** Texts go over borders of ranges: one begins after so many sectors that it sees of the one before it, and sees as many after itself. */
+const BESIDE = 4;
+export const BEYOND = 2 * BESIDE;
+
+/** The last one is kept, since it takes a while to make. */
+let held = { key: '', teller: /** @type {TextTeller | null} */ (null) };
+
+/**
+ * Who tells texts from other bytes in what is asked for.
+ * @param {Asked} asked
+ */
+function tellerOf({ encoding, table }) {
+    const key = `${encoding} ${table}`;
+    if (held.teller !== null && held.key === key) return held.teller;
+    const named = encoding === undefined ? null : encodingOf(encoding);
+    const other = table === undefined ? named : tableEncoding(table);
+    const usual = other === null ? allScores() : allScores().filter(it => it.encoding === other);
+    const teller = new TextTeller(usual.length > 0 ? usual : [tableScores(/** @type {TableEncoding} */ (other))]);
+    held = { key, teller };
+    return teller;
+}
+
+/**
+ * The texts that begin in a range. A job for a worker.
+ * @param {Uint8Array} sectors with BEYOND more, or as many as the file has
+ * @param {number} first of them in the file
+ * @param {{ count: number, size: number } & Asked} args how many are the range, and the bytes of the file
+ * @returns {Told[]}
+ */
+export function textsOfRange(sectors, first, { count, size, ...asked }) {
+    const shift = first * USER_SIZE;
+    const bytes = joinedUser(sectors).subarray(0, size - shift);
+    const [from, to] = [first === 0 ? 0 : BESIDE * USER_SIZE, (count + BESIDE) * USER_SIZE];
+    const texts = tellerOf(asked).tell(bytes);
+    return texts.flatMap(({ start, end, scores, score, near }, i) => {
+        if (start < from || start >= to) return [];
+        let next = i + 1;
+        while (next < texts.length && texts[next].scores !== scores) next += 1;
+        const free = bytes.subarray(0, next < texts.length ? texts[next].start : bytes.length);
+        const { encoding } = scores;
+        const room = end - start + fillingAfter(encoding, free, end);
+        const text = cellOf(encoding, bytes.subarray(start, end));
+        return [{ start: start + shift, end: end + shift, room, scores: encoding.name, score, near, text }];
+    });
+}
