@@ -9,6 +9,7 @@ TOP = Path(__file__).resolve().parent.parent
 
 DECLARED = re.compile(r'^ *(?:abbrev pub|unfoldable pub|pub record|pub data) +([A-Za-z_]+)')
 FUNCTION = re.compile(r'^( *)(pub )?(?:extern "C" )?(?:const )?fn ([a-z_0-9]+)')
+GHOST = re.compile(r'^ +ghost (?:view|invariant|seen|hosting|[a-z]+_gives) ?[=:] \{')
 OWNER = re.compile(r'^(?:pub )?(impl|trait)\b(?:<[^>]*>+)? *(.*)')
 WORD = re.compile(r'[A-Za-z_]+')
 
@@ -33,10 +34,19 @@ class Definition:
 
 @dataclass
 class Call:
-    """A public function: its name with that of its type, its rustdoc, and the names and texts of its clauses."""
+    """A public function: its name with that of its type, its rustdoc, the names and texts of its clauses, and the texts of its conditions."""
     name: str
     doc: str
     clauses: list[tuple[str, str]]
+    conditions: list[str]
+    file: Path
+
+
+@dataclass
+class Type:
+    """What a public type or trait is in contracts: a text of its own, such as that of its view."""
+    name: str
+    text: str
     file: Path
 
 
@@ -94,10 +104,25 @@ def signature(lines: list[str], place: int, indent: str) -> list[str]:
     return taken
 
 
-def clauses_in(taken: list[str]) -> list[tuple[str, str]]:
+def clauses_in(taken: list[str], wanted: str) -> list[tuple[str, str]]:
+    """The names and texts of what a function requires, or ensures."""
     text = '\n'.join(line for line in taken if not line.lstrip().startswith('//'))
     parts = re.split(r'(?m)^ +(requires|ensures) (?:([a-z_0-9]+) )?(?=\{)', text)
-    return [(name or '', body) for kind, name, body in zip(parts[1::3], parts[2::3], parts[3::3]) if kind == 'ensures']
+    return [(name or '', body) for kind, name, body in zip(parts[1::3], parts[2::3], parts[3::3]) if kind == wanted]
+
+
+def owners(lines: list[str]) -> Iterator[tuple[int, str, str]]:
+    """The number of each line, the type or trait in whose block it stands, and the public trait that this block is of or for."""
+    owner, trait = '', ''
+    for place, line in enumerate(lines):
+        if found := OWNER.match(line):
+            kind, rest = found.groups()
+            names = [(WORD.findall(part) or [''])[0] for part in rest.split(' for ')]
+            owner = names[-1]
+            trait = owner if kind == 'trait' and line.startswith('pub ') else names[0] if len(names) > 1 else ''
+        elif line and not line[0].isspace() and line not in '{}':
+            owner, trait = '', ''
+        yield place, owner, trait
 
 
 def passed_on(crate: str) -> set[str]:
@@ -108,24 +133,31 @@ def passed_on(crate: str) -> set[str]:
 
 
 def calls_of(crate: str) -> Iterator[Call]:
-    """The functions that a crate passes on, its exports, and those of its types and traits, in the order of its files."""
+    """The functions that a crate passes on, its exports and laws, and those of its types and traits, in the order of its files."""
     known = passed_on(crate)
     for file in code_of(crate):
         lines = file.read_text(encoding='utf-8').splitlines()
-        owner, in_trait = '', False
-        for place, line in enumerate(lines):
-            if found := OWNER.match(line):
-                kind, rest = found.groups()
-                in_trait = kind == 'trait' and line.startswith('pub ')
-                owner = (WORD.match(rest.split(' for ')[-1]) or re.match('', '')).group() + '::'  # type: ignore[union-attr]
-            elif line and not line[0].isspace() and line != '}':
-                owner = owner if line == '{' else ''
-            found = FUNCTION.match(line)
-            if found and (found.group(2) or in_trait and found.group(1)):
-                doc = comment_above([re.sub(r'^ *#\[.*', '///', it) for it in lines], place, ' *///')
-                name = (owner if found.group(1) else '') + found.group(3)
-                if name.split('::')[0] in known or 'extern "C"' in line:
-                    yield Call(name, doc, clauses_in(signature(lines, place, found.group(1))), file)
+        bare = [re.sub(r'^ *#\[.*', '///', line) for line in lines]
+        for place, owner, trait in owners(lines):
+            found = FUNCTION.match(lines[place])
+            if found and (found.group(2) or trait and found.group(1)):
+                name = (f'{owner}::' if found.group(1) else '') + found.group(3)
+                if name.split('::')[0] in known or 'extern "C"' in lines[place] or file.stem == 'laws':
+                    taken = signature(lines, place, found.group(1))
+                    doc = comment_above(bare, place, ' *///') or (f'As `{trait}::{found.group(3)}`' if trait not in ('', owner) else '')
+                    yield Call(name, doc, clauses_in(taken, 'ensures'),
+                               [text for _, text in clauses_in(taken, 'requires')], file)
+
+
+def types_of(crate: str) -> Iterator[Type]:
+    """What the types and traits that a crate passes on are in contracts."""
+    known = passed_on(crate)
+    for file in code_of(crate):
+        lines = file.read_text(encoding='utf-8').splitlines()
+        for place, owner, _ in owners(lines):
+            if owner in known and GHOST.match(lines[place]):
+                end = next((n for n in range(place, len(lines)) if re.search(r'\}[;,]?$', lines[n])), place)
+                yield Type(owner, ' '.join(lines[place:end + 1]), file)
 
 
 @dataclass
@@ -141,12 +173,17 @@ class Book:
                 self.all[definition.key] = definition
         for crate in crates():
             for call in calls_of(crate):
-                names = names_in(call.file.read_text(encoding='utf-8'))
-                for key in self.named(' '.join(text for _, text in call.clauses), names):
-                    if call.name not in self.cited_by.setdefault(key, []):
-                        self.cited_by[key].append(call.name)
+                self.cite(call.name, ' '.join([*(text for _, text in call.clauses), *call.conditions]), call.file)
+            for it in types_of(crate):
+                self.cite(it.name, it.text, it.file)
         for key in self.cited_by:
             self.add(key)
+
+    def cite(self, name: str, text: str, file: Path) -> None:
+        """Notes that a call or a type cites what a text in its file names."""
+        for key in self.named(text, names_in(file.read_text(encoding='utf-8'))):
+            if name not in self.cited_by.setdefault(key, []):
+                self.cited_by[key].append(name)
 
     def named(self, text: str, names: dict[str, Key]) -> set[Key]:
         """The definitions that a text names."""

@@ -151,8 +151,8 @@ def definitions_table(crate: str, book: sources.Book) -> list[str]:
             promised.append((f'`{definition.name}`', f'`{definition.module}`', cell(comment), cited_by))
         else:
             steps.append(f'`{definition.name}`')
-    lines = table(('Definition', 'Module', 'What it says', 'Cited by the contracts of'), promised) if promised else []
-    return lines + (['', f'Steps of proofs, which no promise needs: {", ".join(steps)}.'] if steps else [])
+    lines = table(('Definition', 'Module', 'What it says', 'Cited by'), promised) if promised else []
+    return lines + (['', f'On these no public contract stands: {", ".join(steps)}.'] if steps else [])
 
 
 def contracts_page() -> list[str]:

@@ -16,6 +16,30 @@ if ! missing python3 python3 'what the sources say of themselves'; then
     same 'make contracts has each call of the header' wanted got
     judge 'a definition stands there with what it says' grep -qF '| `consistent` | `Consistent` | 2352 bytes of Mode 1 without a defect |' contracts
     judge 'and a call with its clauses' grep -qE '^\| `encode` \| .* \| `consistent`, `header`, `user`, `unique` \|$' contracts
+    cat "$top"/crates/*/src/laws.rt | sed -nE 's/^pub fn ([a-z_0-9]+).*/\1/p' | sort -u > wanted
+    grep -oE '^\| `[a-z_0-9]+`' contracts | tr -d '|` ' | sort -u > got
+    judge "make contracts has each law, and not only some: $(comm -23 wanted got | paste -sd ' ')" test -z "$(comm -23 wanted got)"
+
+    # No definition of a crate that a clause or a condition of its public functions cites is left out: looked for in another way.
+    declared() {
+        cat "$top/crates/$1"/specs/*.antt 2> /dev/null |
+            sed -nE 's/^ *(abbrev pub|unfoldable pub|pub record|pub data) +([A-Za-z_]+).*/\2/p' | sort -u
+    }
+    cited() {
+        sources "$1" | xargs awk '
+            /^ *pub (extern "C" )?fn / { public = 1 }
+            /^ *(pub\(crate\) |pub\(super\) )?fn / { public = 0 }
+            /^ *\{/ || /^\{/ { clause = 0; public = 0 }
+            /^ *(requires|ensures) / { clause = 1 }
+            public && clause { print }' | grep -oE '[A-Za-z_]+' | sort -u
+    }
+    read -ra static_crates <<< "$(bash "$top/tools/library_crates.sh")"
+    for crate in "${library_crates[@]}" cd_words "${static_crates[@]}"; do
+        awk -v crate="$crate" '/^## / { inside = $2 == crate } inside' contracts |
+            sed -nE 's/^\| `([A-Za-z_]+)` \| `[A-Za-z]+` \|.*/\1/p' | sort -u > shown
+        left_out=$(comm -12 <(declared "$crate") <(cited "$crate") | comm -23 - shown | paste -sd ' ')
+        judge "make contracts has what contracts of $crate cite: ${left_out:-all}" test -z "$left_out"
+    done
     judge 'make map has a file with what it has' grep -qF '| `specs/Kind.antt` | The kind of a sector (ECMA-130, 14) |' map
     judge 'make audit has each file after those that it names' test "$(grep -n 'cd_sector/specs/Consistent.antt' audit | cut -d : -f 1)" -gt \
         "$(grep -n 'cd_sector/specs/Defect.antt' audit | cut -d : -f 1)"
