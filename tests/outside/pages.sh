@@ -68,6 +68,13 @@ if ! missing python3 python3 'what the sources say of themselves'; then
     silent 'State.antt says what it is, and stands in UNSAID' map "sed -i '1i -- The state.' crates/cd_c_digest/specs/State.antt"
 fi
 
+if ! missing make make 'what make help prints'; then
+    make --no-print-directory -s -C "$top" help > printed
+    for goal in $(sed -n 's/^\.PHONY: all /all /p' "$top/Makefile") dist release; do
+        judge "make help prints what make $goal does" grep -qE "^  make $goal +[a-z]" printed
+    done
+fi
+
 # The figures of the pages: how many wrong bodies there are, at least, and how many wrong definitions.
 edits=$(find "$top"/crates/*/must-fail -name '*.edit' | wc -l)
 for page in README.md docs/TRUST.md; do
