@@ -104,6 +104,7 @@ class Layout(PageTest):
         self.judge('script')
         self.browser.click('#tab-publish')
         self.browser.wait('#panel-publish', 'tried on this image')
+        self.assertNotIn('the name of the patched image has to', self.browser.text('#panel-publish'))
         self.judge('publish')
 
     def test_a_patcher_with_long_texts_makes_the_page_no_longer(self) -> None:
