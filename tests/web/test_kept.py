@@ -130,6 +130,7 @@ class Kept(PageTest):
         self.browser.click('.editor textarea')
         self.browser.press(Keys.ESCAPE)
         self.browser.wait('#panel-script .progress')
+        self.assertNotIn('End the saving?', self.browser.text('#panel-script'))
         self.ends_well(applied(files['game'], files['english'])[2])
 
     def test_escape_in_its_card_asks_before_it_ends_a_saving(self) -> None:
@@ -273,4 +274,5 @@ class Kept(PageTest):
         self.browser.click('#tab-text')
         self.browser.run('late.forEach(it => it())')
         self.wait_for_hash()
+        self.assertEqual(self.browser.text('#panel-text .say'), '')
         self.assertEqual(self.browser.run('return [document.querySelectorAll("#panel-text .progress").length, document.querySelector("#panel-text .hits")?.checkVisibility() ?? false]'), [0, False])

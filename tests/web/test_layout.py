@@ -120,7 +120,7 @@ class Layout(PageTest):
         self.begin(discs.game())
         for panel in ('disc', 'script'):
             self.browser.click(f'#tab-{panel}')
-            for width, most in ((1280, 2), (900, 2), (640, 3), (360, 4)):
+            for width, most in ((1280, 1), (900, 1), (640, 2), (360, 3)):
                 self.browser.size(width)
                 rows, facts = self.browser.run(FACTS)
                 self.assertLessEqual(rows, most, f'{facts} facts in {rows} rows at {width} on {panel}')
