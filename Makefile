@@ -1,11 +1,5 @@
-# `make` proves and builds the program and libcdpatch and leaves them as ./cdpatch and in ./library, with `CPU=x86-64-v3` for that
-# processor, and with `SIMPLE=1` by the toolchain's own means; if wasm-opt is there it makes the WebAssembly modules too, as `make
-# wasm` does by itself, and with esbuild of them ./cdscript and ./cdpatch.html, as `make web` does. It says at its end what it made. `make check`
-# runs all tests of what it left and of the pages, and skips what wants a command that is not there, which `WHOLE=1` makes a
-# failure; with `WRONG_VERSIONS=1` it also tries wrong versions of all that, which show that the tests refuse them, as the gate does;
-# `make quick` is both; `make test` runs the merge gate; `make bench` builds what measures speed, in bench/; `make install`
-# and `make uninstall` are those of install.mk.
-.PHONY: all check quick test test-outside bench wasm web clean
+# What `make` can do: `make help` prints the targets, which are the lines with ## here. docs/INSTALL.md says what each needs.
+.PHONY: all help check quick test test-outside bench wasm web pages map contracts audit clean
 
 # Goals come one after the other, as they are given. Crates are proved side by side, at most as many as `make -j N` says.
 .NOTPARALLEL:
@@ -16,7 +10,7 @@ LIBRARY_CRATES = $(shell bash tools/library_crates.sh)
 
 distdir = .
 
-all: cdpatch
+all: cdpatch                ## prove and build the program and the library and, if wasm-opt and esbuild are there, cdscript and the page
 
 # The WebAssembly modules, if they can be made, and the page and cdscript, if these and esbuild are there.
 MODULES = $(if $(shell command -v wasm-opt),wasm)
@@ -43,58 +37,79 @@ endif
 	cp crates/cdpatch/out/cdpatch cdpatch
 	bash tools/library.sh library
 	@$(if $(DOORS),bash tools/web.sh library .)
+	@python3 -B tools/options.py completions completions ./cdpatch $(if $(DOORS),./cdscript)
 	@bash tools/made.sh $(MODULES) $(DOORS)
 
 FORCE:
 
-wasm:
+help:                       ## print this
+	@sed -nE 's/^([a-z-]+):[^#]*## /  make \1\t/p' $(firstword $(MAKEFILE_LIST)) | expand -t 22
+	@printf '%s\n' '' 'Beside a target: CPU=x86-64-v3 and SIMPLE=1 (make), WRONG_VERSIONS=1 and WHOLE=1 (make check),' \
+	    '  PREFIX=DIRECTORY (make install and make uninstall, which also are targets).'
+
+wasm:                       ## prove and make the WebAssembly modules
 	@[ -n '$(MODULES)' ] || { echo "library/cdpatch.wasm wants wasm-opt (Debian's package binaryen)." >&2; exit 1; }
 	@python3 tools/prove.py wasm '$(AT_ONCE)'
 
-web: wasm
+web: wasm                   ## make cdscript and cdpatch.html, and the modules in them
 	@[ -n '$(DOORS)' ] || { echo "cdscript and cdpatch.html want esbuild (Debian's package esbuild)." >&2; exit 1; }
 	bash tools/notices.sh library/NOTICES
 	bash tools/web.sh library .
+	python3 -B tools/options.py completions completions ./cdscript
 
-check:
+check:                      ## test what was built and the pages; proves nothing, and skips what wants a missing command
 	@test -x '$(PROGRAM)' || { echo 'There is no $(PROGRAM) to test: run make first.' >&2; exit 1; }
 	bash tests/run '$(PROGRAM)'
 
-quick: cdpatch check
+quick: cdpatch check        ## make, and then make check
 
-test:
+test:                       ## the merge gate: all proofs, wrong bodies and tests
 	bash .ci/run
 
-# The part of `make check` that tests what the users of the program meet, which wants mandoc, fish and zsh too.
-test-outside:
+test-outside:               ## test pages, completions and installing, and skip nothing
 	WHOLE=1 bash tests/outside/run '$(PROGRAM)'
 
 # No part of the gate: see bench/README.md.
-bench:
+bench:                      ## build what counts instructions
 	bash bench/build '$(CPU)'
+
+# What the man pages and the README repeat of help, made anew of what was built.
+pages:                      ## make anew what the man pages and the README repeat of help
+	@python3 -B tools/options.py pages ./cdpatch ./cdscript
+
+# What the sources say of themselves, as Markdown.
+map:                        ## print what each file has
+	@python3 -B tools/pages.py map
+
+contracts:                  ## print what each crate promises: its calls, their clauses, and the definitions that these cite
+	@python3 -B tools/pages.py contracts
+
+audit:                      ## print what to read to know what is promised
+	@python3 -B tools/pages.py audit
 
 # A tarball of what `make` left and the pages, with its checksum, in which `make install` works without the toolchain. Beside it stand
 # cdscript.js and cdpatch.html, which need nothing else, and packages of the same files.
 .PHONY: dist
-dist:
+dist:                       ## make a tarball of what was built, which installs without a toolchain
 	@test -x '$(PROGRAM)' || { echo 'There is no $(PROGRAM) to pack: run make first.' >&2; exit 1; }
 	@test -f '$(LIBRARY)/libcdpatch.a' || { echo 'There is no $(LIBRARY) to pack: run make first.' >&2; exit 1; }
-	@bash tools/dist.sh '$(PROGRAM)' '$(LIBRARY)' '$(JOINED)' '$(distdir)'
+	@test -f '$(COMPLETIONS)/cdpatch.bash' || { echo 'There is no $(COMPLETIONS) to pack: run make first.' >&2; exit 1; }
+	@COMPLETIONS='$(COMPLETIONS)' bash tools/dist.sh '$(PROGRAM)' '$(LIBRARY)' '$(JOINED)' '$(distdir)'
 
-# The same, of what is fit to be released: a commit, of its version, made by the tools that docs/TRUST.md names, and with what only the
+# The same, of what is fit to be released: a commit, of its version, made by the tools that tools/versions.txt names, and with what only the
 # owner can fill in (tools/owner.txt). `make release SIGN=KEY` signs what it makes with a key of ssh.
 .PHONY: release fit
 SIGN =
 RELEASED = $(addprefix $(distdir)/,cdpatch-$(VERSION)-x86_64-linux.tar.gz cdpatch_$(VERSION)-1_amd64.deb \
     cdpatch-$(VERSION)-py3-none-manylinux_2_34_x86_64.whl cdpatch-$(VERSION).tgz cdpatch.html cdscript.js)
 
-release: fit dist
+release: fit dist           ## the same, if it is fit to be released
 	@$(if $(SIGN),bash tools/sign.sh '$(SIGN)' $(RELEASED:%='%'),echo 'Nothing was signed: SIGN=KEY signs it.' >&2)
 
 fit:
 	@bash tools/fit.sh '$(PROGRAM)' '$(LIBRARY)' '$(JOINED)' '$(VERSION)'
 
-clean:
-	rm -rf cdpatch cdscript cdpatch.html library bench/cd_bench crates/*/out
+clean:                      ## remove what was made
+	rm -rf cdpatch cdscript cdpatch.html library completions bench/cd_bench crates/*/out
 	rm -f $(foreach made,cdpatch-*.tar.gz cdpatch_*.deb cdpatch-*.whl cdpatch-*.tgz cdscript.js,$(made) $(made).sha256 $(made).sig)
 	rm -f cdpatch.html.sha256 cdpatch.html.sig

@@ -8,6 +8,8 @@ PROGRAM = cdpatch
 LIBRARY = library
 # The directory of cdscript and cdpatch.html.
 JOINED = .
+# The completions of cdpatch and of cdscript, which `make` makes of what they print.
+COMPLETIONS = completions
 # The README that is installed.
 README = README.md
 VERSION = $(shell sed -n 's/^\#\# \([0-9.]*\) .*/\1/p' CHANGELOG.md | head -n 1)
@@ -46,15 +48,16 @@ INSTALL_DATA = $(INSTALL) -m 644
 install:
 	@test -x '$(PROGRAM)' || { echo 'There is no $(PROGRAM) to install: run make first.' >&2; exit 1; }
 	@test -f '$(LIBRARY)/libcdpatch.a' || { echo 'There is no $(LIBRARY) to install: run make first.' >&2; exit 1; }
+	@test -f '$(COMPLETIONS)/cdpatch.bash' || { echo 'There is no $(COMPLETIONS) to install: run make first.' >&2; exit 1; }
 	$(INSTALL) -d '$(DESTDIR)$(bindir)' '$(DESTDIR)$(man1dir)' '$(DESTDIR)$(bashcompdir)' '$(DESTDIR)$(zshcompdir)' \
 	    '$(DESTDIR)$(fishcompdir)' '$(DESTDIR)$(docdir)/docs' '$(DESTDIR)$(docdir)/examples' '$(DESTDIR)$(man3dir)' '$(DESTDIR)$(includedir)' \
 	    '$(DESTDIR)$(pkgconfigdir)' '$(DESTDIR)$(cmakedir)' '$(DESTDIR)$(fastdir)' \
 	    '$(DESTDIR)$(pagedir)' '$(DESTDIR)$(pythondir)/cdpatch'
 	$(INSTALL_PROGRAM) '$(PROGRAM)' '$(DESTDIR)$(bindir)/cdpatch'
 	$(INSTALL_DATA) man/cdpatch.1 '$(DESTDIR)$(man1dir)/cdpatch.1'
-	$(INSTALL_DATA) completions/cdpatch.bash '$(DESTDIR)$(bashcompdir)/cdpatch'
-	$(INSTALL_DATA) completions/_cdpatch '$(DESTDIR)$(zshcompdir)/_cdpatch'
-	$(INSTALL_DATA) completions/cdpatch.fish '$(DESTDIR)$(fishcompdir)/cdpatch.fish'
+	$(INSTALL_DATA) '$(COMPLETIONS)/cdpatch.bash' '$(DESTDIR)$(bashcompdir)/cdpatch'
+	$(INSTALL_DATA) '$(COMPLETIONS)/_cdpatch' '$(DESTDIR)$(zshcompdir)/_cdpatch'
+	$(INSTALL_DATA) '$(COMPLETIONS)/cdpatch.fish' '$(DESTDIR)$(fishcompdir)/cdpatch.fish'
 	@test ! -f '$(JOINED)/cdscript' || $(MAKE) install-joined
 	@test ! -f '$(LIBRARY)/cdpatch.wasm' || $(MAKE) install-modules
 	$(INSTALL_DATA) man/libcdpatch.3 '$(DESTDIR)$(man3dir)/libcdpatch.3'
@@ -83,9 +86,9 @@ install-joined:
 	$(INSTALL_PROGRAM) '$(JOINED)/cdscript' '$(DESTDIR)$(bindir)/cdscript'
 	$(INSTALL_DATA) '$(JOINED)/cdpatch.html' '$(DESTDIR)$(pagedir)/cdpatch.html'
 	$(INSTALL_DATA) man/cdscript.1 '$(DESTDIR)$(man1dir)/cdscript.1'
-	$(INSTALL_DATA) completions/cdscript.bash '$(DESTDIR)$(bashcompdir)/cdscript'
-	$(INSTALL_DATA) completions/_cdscript '$(DESTDIR)$(zshcompdir)/_cdscript'
-	$(INSTALL_DATA) completions/cdscript.fish '$(DESTDIR)$(fishcompdir)/cdscript.fish'
+	$(INSTALL_DATA) '$(COMPLETIONS)/cdscript.bash' '$(DESTDIR)$(bashcompdir)/cdscript'
+	$(INSTALL_DATA) '$(COMPLETIONS)/_cdscript' '$(DESTDIR)$(zshcompdir)/_cdscript'
+	$(INSTALL_DATA) '$(COMPLETIONS)/cdscript.fish' '$(DESTDIR)$(fishcompdir)/cdscript.fish'
 
 install-modules:
 	for module in $(WASM); do $(INSTALL_DATA) '$(LIBRARY)'/$$module '$(DESTDIR)$(pagedir)'/$$module || exit; done

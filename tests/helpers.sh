@@ -51,14 +51,6 @@ ended_without_output() {
     ended "$1" "$2" && [ ! -e out ] && [ ! -L out ]
 }
 
-# states PAGE SENTENCE: counts whether a page has a sentence, which the tests around it run.
-states() {
-    judge "$1 states: $2" has_sentence "$@"
-}
-has_sentence() {
-    tr -s ' \n' ' ' < "$top/$1" | grep -qF -- "$2"
-}
-
 # keep: what stands in `image` and `script` is what they have to keep.
 keep() {
     cp image image.kept

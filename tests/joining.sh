@@ -150,7 +150,7 @@ test_refusals() {
     refuses page 'it has another end or another script' page/page.html sed 's/<p id/<script>x<\/script><p id/'
     refuses page 'stands there 0 times, and not once' page/page.html sed '/stylesheet/d'
     refuses page 'stands there 2 times, and not once' page/page.html sed 's/^<meta.*/&&/'
-    refuses page 'bytes, more than 440000' page/style.css sh -c 'yes "p { color: black; }" | head -n 30000'
+    refuses page 'bytes, more than 440000' page/style.css sh -c 'yes "p { color: black; }" | head -n 60000'
     mv module.txt moved
     judge 'the join refuses a module of which nothing says what made it' \
         eval '! join page out && grep -qF "module.txt: No such file" errors'
@@ -164,7 +164,7 @@ test_refusals() {
 release_tree() {
     local name
     mkdir -p release/library/x86-64-v3 kit/rattle stubs
-    cp -r "$top"/{Makefile,install.mk,README.md,CHANGELOG.md,crates.txt,.gitignore,docs,man,completions,examples,include,python} release
+    cp -r "$top"/{Makefile,install.mk,README.md,CHANGELOG.md,crates.txt,.gitignore,docs,man,examples,include,python} release
     cp -r "$tree"/{tools,web} release
     while read -r name; do
         mkdir -p "kit/rattle/$name"
@@ -176,6 +176,8 @@ release_tree() {
     ssh-keygen -q -t ed25519 -N '' -f owner && ssh-keygen -q -t ed25519 -N '' -f another || return
     sed -i -e 's/^address:$/& a@localhost/' -e 's/^licence:$/& none/' -e "s|^key:\$|& $(cut -d ' ' -f 1,2 owner.pub)|" release/tools/owner.txt
     echo terms > release/LICENSE
+    mkdir release/completions
+    : | tee release/completions/{_cdpatch,cdpatch.bash,cdpatch.fish,_cdscript,cdscript.bash} > release/completions/cdscript.fish
     : | tee release/library/{libcdpatch.a,libcdpatch.so.1,x86-64-v3/libcdpatch.so.1} > release/library/libcdpatch.a
     printf '\0asm\1\0\0\0' > release/library/cdpatch-wasm64.wasm
     echo 'logic=proved functions=0' > release/library/cdpatch-wasm64.txt
@@ -243,7 +245,7 @@ test_release() {
     rm stubs/esbuild
 }
 
-typed_tools() { mypy --strict --cache-dir=types "$tree"/tools/{frequencies,pack,pages,pairs}.py > log || { cat log; false; }; }
+typed_tools() { mypy --strict --cache-dir=types "$tree"/tools/{contracts,frequencies,options,pack,pages,pairs}.py > log || { cat log; false; }; }
 
 # lint DIRECTORY WORD..: runs eslint there. Debian's eslint finds its parts by NODE_PATH, if node is another than Debian's.
 lint() { (cd "$1" && NODE_PATH=/usr/share/nodejs eslint -f unix --rulesdir "$tree/tools/eslint" --rule 'import-cycle: error' "${@:2}"); }

@@ -27,6 +27,7 @@ echo 'by rt' > "$made"
 chmod +x "$made"
 EOF_RT
 chmod +x bin/rt
+: > tools/options.py
 cat > tools/prove.py << 'EOF_PROVE'
 import os, sys
 with open(os.environ["CALLED"], "a") as called:

@@ -243,10 +243,6 @@ row 'no other file is left' no_other_file_is_left leaves_a_file_here leaves_a_te
 traced 'no other file is touched' no_other_file_is_touched leaves_a_file_here leaves_a_temporary_file leaves_a_file_at_home
 row 'a limit on file sizes kills' size_limit_kills ignores_the_limit_on_file_sizes
 traced 'OUT has what was sent' out_has_what_was_sent drops_what_is_held
-states docs/DECISIONS.md 'OUT is opened only to be written'
-states docs/DECISIONS.md "if the image or the log fails and \`apply\` ends early,"
-states docs/TRUST.md "If another stream fails, the output's buffer is still written, so OUT has all that was sent to it."
-states man/cdpatch.1 'A limit on file sizes .Pq Ql ulimit -f ends a run in the same way, by SIGXFSZ: the status is 153.'
 
 # ---- errors of all kinds, and two in one run
 
@@ -280,8 +276,6 @@ traced 'each kind of error of a read of the script' reads_of_the_script_fail tak
 traced 'each kind of error of a write to OUT' writes_of_out_fail repeats_a_write_of_out passes_over_a_full_disk
 traced 'each kind of error of a write of the log' writes_of_the_log_fail prints_again
 traced 'each kind of error of a sync' syncs_of_out_fail passes_over_a_sync_that_is_not_known repeats_a_sync syncs_nothing
-states docs/TRUST.md 'No read and no write is retried'
-states docs/DECISIONS.md "Status 0 or 1 means that the disk has OUT's data."
 
 # two_faults FILE CALLS FAULT..: in a run of `apply`, whose log has several buffers, these faults are put into calls on OUT and
 # another file; those of OUT are in `trace`.
@@ -349,7 +343,6 @@ traced 'OUT is synced once, after the last write, with each status' syncs_of_eac
     syncs_each_write syncs_before_it_writes
 traced 'a fault, and then one of a write to OUT' second_fault_in_a_write repeats_a_write_of_out drops_what_is_held
 traced 'a fault, and then one of a sync' second_fault_in_a_sync repeats_a_sync syncs_nothing
-states docs/TRUST.md 'After a failed write to OUT or a failed sync, nothing more is written, and OUT has what it took before.'
 
 # ---- the standard output, and terminals
 
@@ -468,7 +461,6 @@ row 'closed streams are no files' closed_streams_are_no_files gives_spare_files_
 traced 'no file gets the number of a closed stream' numbers_are_above_those_of_streams takes_standard_input_for_open \
     takes_standard_output_for_open takes_standard_error_for_open gives_spare_files_back holds_one_spare_file
 traced 'closed streams without a root directory' closed_streams_without_a_root goes_on_without_spare_files
-states docs/DECISIONS.md "the program ends with a line of its own and status 2, before it opens a file of the user's."
 
 # ---- signals
 
@@ -499,8 +491,6 @@ ended_by_ctrl_c() { ends_by INT 130; }
 row 'SIGTERM ends it' ended_by_sigterm ignores_sigterm removes_out_when_stopped
 row 'SIGHUP ends it' ended_by_sighup ignores_sighup removes_out_when_stopped
 row 'Ctrl-C ends it' ended_by_ctrl_c ignores_ctrl_c removes_out_when_stopped
-states man/cdpatch.1 "Ctrl-C, SIGTERM and SIGHUP end a run at once, without a message; a shell shows 128 and the signal's number as status."
-states man/cdpatch.1 'A log in a file or a pipe lacks up to 65856 bytes at its end, and may be empty;'
 
 # ---- old machines
 
@@ -528,6 +518,5 @@ if compiled old_processor 'an old processor'; then
     row 'an old processor' old_processor begins_on_any_processor
 fi
 judge 'an old C library' checked old_c_library
-states man/cdpatch.1 'On an older processor the status is 127, and with an older glibc it is 1.'
 
 finish

@@ -1,8 +1,8 @@
 #!/usr/bin/env bash
 # `tools/dist.sh PROGRAM LIBRARY JOINED DIRECTORY` makes the tarball of a release in DIRECTORY: the program, the library with its header
 # and its modules, the notices of the crates in them, cdscript and cdpatch.html if they are in JOINED, the Python package, the man pages, the
-# completions, the pages for users, the examples, and a Makefile that only installs them. The README is README.tarball.md, and INSTALL
-# lacks what only works in the sources.
+# completions, which are in `completions` or where COMPLETIONS says, the pages for users, the examples, and a Makefile that only installs
+# them. The README is README.tarball.md, and INSTALL lacks what only works in the sources.
 # The bytes follow from those of these files only. Beside the tarball stand the command as cdscript.js, which node takes on any system,
 # the page, a Debian package if dpkg-deb is there, a wheel for pip if python3 is, and a package for npm if tsc is; and the checksum of each.
 # What only the owner can fill in, and has not, is printed on standard error.
@@ -13,6 +13,7 @@ library=$(realpath "$2")
 joined=$(realpath "$3")
 directory=$(realpath "$4")
 cd "$(dirname "$0")/.."
+completions=${COMPLETIONS:-completions}
 version=$("$program" --help | tail -n 1)
 name=cdpatch-${version#cdpatch }-x86_64-linux
 scratch=$(mktemp -d)
@@ -32,12 +33,12 @@ cp include/cdpatch.h include/*.in "$scratch/$name/include"
 cp "$library"/libcdpatch.{a,so.1} "$library/NOTICES" "$scratch/$name/library"
 cp "$library/x86-64-v3/libcdpatch.so.1" "$scratch/$name/library/x86-64-v3"
 [ ! -f "$library/cdpatch.wasm" ] || cp "$library"/cdpatch{,-wasm64}.wasm "$scratch/$name/library"
-cp completions/_cdpatch completions/cdpatch.bash completions/cdpatch.fish "$scratch/$name/completions"
+cp "$completions"/{_cdpatch,cdpatch.bash,cdpatch.fish} "$scratch/$name/completions"
 made=("$name.tar.gz")
 if [ -f "$joined/cdscript" ]; then
     cp "$joined/cdscript" "$joined/cdpatch.html" "$scratch/$name"
     cp man/cdscript.1 "$scratch/$name/man"
-    cp completions/_cdscript completions/cdscript.bash completions/cdscript.fish "$scratch/$name/completions"
+    cp "$completions"/{_cdscript,cdscript.bash,cdscript.fish} "$scratch/$name/completions"
     install -m 644 "$joined/cdscript" "$directory/cdscript.js"
     [ "$joined" = "$directory" ] || install -m 644 "$joined/cdpatch.html" "$directory"
     made+=(cdpatch.html cdscript.js)

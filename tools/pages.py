@@ -1,43 +1,55 @@
 #!/usr/bin/env python3
-"""Makes the parts of docs/MAP.md and docs/TRUST.md that repeat the sources: `python3 tools/pages.py` writes them into the pages, and
-with `--check` prints the names of those that differ, with status 1 if one does.
+"""Prints what the sources say of themselves, as Markdown: `python3 tools/pages.py map` prints what each file has, `contracts` what each
+crate promises, and `audit` what to read to know what is promised, with figures.
 
-A part stands between the lines `<!-- made: NAME -->` and `<!-- end of NAME -->`. What a file has is the first sentence of its first
-comment, and what a call does that of its rustdoc.
+What a file has is the first sentence of its first comment; what a definition says is the comment above it; what a call does is the first
+sentence of its rustdoc. A file, a definition or a call that does not say it is refused.
 """
 
 import re
+import signal
 import sys
-import textwrap
 from collections.abc import Callable, Iterable, Iterator, Sequence
 from pathlib import Path
 
-TOP = Path(__file__).resolve().parent.parent
-PAGES = ('docs/MAP.md', 'docs/TRUST.md')
+import contracts as sources
+from contracts import TOP, crates, code_of
 
 # What the headline of `apply` rests on is what its contract names, and those of the streams that it is given; the whole theorem is
 # the contract of the program over files in memory.
 HEADLINE = ('crates/cd_image/src/applying.rt', 'crates/cd_stream/src/source.rt', 'crates/cd_stream/src/sink.rt')
 THEOREM = ('crates/cd_memory/src/run.rt',)
 
-# The directories of MAP besides the crates.
-DIRECTORIES = ('web/core', 'web/core/texts', 'web/command', 'web/page', 'include', 'examples', 'python', 'python/cdpatch', 'tools',
-               'tools/eslint', 'tests', 'tests/outside', 'tests/model', 'tests/cases', 'tests/library', 'tests/python', 'tests/wasm',
-               'tests/core', 'tests/cdscript', 'tests/web', 'tests/joining', 'tests/wrong', 'tests/wrong_definitions', 'bench')
-
 # How the first comment of a file is marked, line by line or at its ends. Other files have no row.
 LINES = {'.rt': '//[/!]', '.antt': '--', '.js': '//', '.mjs': '//', '.rs': '//!', '.sh': '#', '': '#'}
 C_COMMENT = r'/\*', r'\*/'
 ENDS = {'.py': ('"""', '"""'), '.c': C_COMMENT, '.h': C_COMMENT, '.css': C_COMMENT, '.map': C_COMMENT}
 
+# What does not say what it is, until its crate is changed anyway: a comment costs a proof of the crates above.
+UNSAID = {'crates/cd_c_digest/specs/State.antt', 'crates/cd_c_scripts/specs/NumberLaws.antt: FaultsHaveNumbers'}
+
+# Directories without a table of files: what is built, what is data, and the crates, whose files have tables of their own.
+NO_TABLE = {'crates', 'docs', 'man', 'completions', 'library', 'node_modules', 'out', 'wrong', 'wrong_programs', '__pycache__'}
+
 
 def sentence(text: str) -> str:
-    """The first sentence of a text, in one line, as the cell of a table."""
-    text = ' '.join(text.split())
+    """The first sentence of a text's first paragraph, in one line, as the cell of a table."""
+    text = ' '.join(re.split(r'\n *\n', text.strip())[0].split())
     end = re.search(r'[.?!](?= +[A-Za-z`([]|$)', text)
-    text = text[:end.start()] if end else text
-    text = re.sub(r'\[(`[^`\]]*`)\]', r'\1', text).replace('|', r'\|')
-    return text
+    return cell(text[:end.start()] if end else text)
+
+
+def cell(text: str) -> str:
+    """A text as the cell of a table: in one line, without links of rustdoc."""
+    text = re.sub(r'\[(`[^`\]]*`)\]', r'\1', ' '.join(text.split()))
+    return text.replace('|', r'\|')
+
+
+def said(what: str, words: str) -> str:
+    """The words of something, which has to have some; the more, if it stands in UNSAID."""
+    if bool(words) == (what in UNSAID):
+        sys.exit(f'{what} says what it is, and stands in UNSAID' if words else f'{what} does not say what it is')
+    return words
 
 
 def about(path: Path) -> str:
@@ -47,13 +59,15 @@ def about(path: Path) -> str:
         begin, end = ENDS[path.suffix]
         found = re.search(f'{begin}(.*?){end}', text, re.DOTALL)
         words = re.sub(r'(?m)^ *\*', '', found.group(1)) if found else ''
+    elif path.suffix == '.antt':
+        # A comment right above a definition is that definition's.
+        found = re.match(r'(?:--.*\n)+(?=use |$|\n)', text)
+        words = re.sub(r'(?m)^--', '', found.group()) if found else ''
     else:
         mark = LINES[path.suffix]
         found = re.search(rf'(?m)^(?:{mark}(?!!).*\n)+', text)
         words = re.sub(rf'(?m)^{mark}', '', found.group()) if found else ''
-    if not words:
-        sys.exit(f'{path.relative_to(TOP)} does not say what it has')
-    return sentence(words)
+    return sentence(said(str(path.relative_to(TOP)), words))
 
 
 def has_comment(path: Path) -> bool:
@@ -67,35 +81,15 @@ def lines_of(path: Path) -> int:
 
 
 def table(heads: Sequence[str], rows: Iterable[Sequence[str]]) -> list[str]:
-    return [f'| {" | ".join(heads)} |', f'|{"---|" * len(heads)}', *(f'| {" | ".join(row)} |' for row in rows)]
+    return ['', f'| {" | ".join(heads)} |', f'|{"---|" * len(heads)}', *(f'| {" | ".join(row)} |' for row in rows)]
 
 
-def crates() -> list[str]:
-    """The crates of crates.txt, in its order."""
-    return re.findall(r'(?m)^([a-z_]+)(?: staticlib)?:', (TOP / 'crates.txt').read_text())
+def head_of(crate: str) -> Path:
+    source = TOP / 'crates' / crate / 'src'
+    return source / 'lib.rt' if (source / 'lib.rt').exists() else source / 'main.rt'
 
 
-def code_of(crate: str) -> list[Path]:
-    """A crate's files of code, without its tests."""
-    files = sorted((TOP / 'crates' / crate / 'src').rglob('*.rt'))
-    return [file for file in files if 'tests' not in file.parts and file.name != 'tests.rt']
-
-
-def files() -> list[str]:
-    """Each file of the sources that has a place of its own, with what it has: MAP's table."""
-    rows = []
-    for crate in crates():
-        folder = TOP / 'crates' / crate
-        head = folder / 'src/lib.rt'
-        rows.append((f'**{crate}**', about(head if head.exists() else folder / 'src/main.rt')))
-        for file in code_of(crate) + sorted((folder / 'specs').glob('*.antt')):
-            if file.name not in ('lib.rt', 'main.rt', 'Lib.antt'):
-                rows.append((f'`{file.relative_to(folder)}`', about(file)))
-    for name in DIRECTORIES:
-        rows.append((f'**{name}**', ''))
-        rows += [(f'`{file.name}`', about(file)) for file in sorted((TOP / name).iterdir()) if has_comment(file)]
-    return table(('File', 'What it has'), rows)
-
+# ---- the map
 
 def uses() -> list[str]:
     """Which crates the code of each crate uses."""
@@ -103,17 +97,84 @@ def uses() -> list[str]:
     for crate in crates():
         code = ''.join(file.read_text(encoding='utf-8') for file in code_of(crate))
         used = sorted(set(re.findall(r'(?m)^ *(?:pub )?use (cd_[a-z_]+)::', code)))
-        if not crate.endswith(('_tests', '_images')) or used and crate == 'cd_c_images':
-            rows.append((crate, ', '.join(used) or 'none'))
+        rows.append((crate, ', '.join(used) or 'none'))
     return table(('Crate', 'Crates that its code uses'), rows)
 
+
+def files_of_crate(crate: str) -> list[str]:
+    folder = TOP / 'crates' / crate
+    files = code_of(crate) + sorted((folder / 'specs').glob('*.antt'))
+    return table(('File', 'What it has'), [(f'`{file.relative_to(folder)}`', about(file)) for file in files
+                                           if file.name not in ('lib.rt', 'main.rt', 'Lib.antt')])
+
+
+def directories() -> Iterator[Path]:
+    """The directories of the sources besides the crates, each with the files that say what they have."""
+    for folder in sorted(path for path in TOP.rglob('*') if path.is_dir()):
+        parts = folder.relative_to(TOP).parts
+        if not NO_TABLE.intersection(parts) and not any(part.startswith('.') for part in parts):
+            yield folder
+
+
+def map_page() -> list[str]:
+    """Each file of the sources that has a place of its own, with what it has."""
+    lines = ['# What each file has', *uses()]
+    for crate in crates():
+        lines += ['', f'## {crate}', '', about(head_of(crate)), *files_of_crate(crate)]
+    for folder in directories():
+        rows = [(f'`{file.name}`', about(file)) for file in sorted(folder.iterdir()) if has_comment(file)]
+        if rows:
+            lines += ['', f'## {folder.relative_to(TOP)}', *table(('File', 'What it has'), rows)]
+    return lines
+
+
+# ---- the contracts
+
+def calls_table(crate: str) -> list[str]:
+    """The public calls of a crate with the names of their clauses."""
+    rows = []
+    for call in sources.calls_of(crate):
+        if not call.clauses:
+            continue
+        clauses = ', '.join(f'`{name}`' if name else 'the result' for name, _ in call.clauses)
+        rows.append((f'`{call.name}`', sentence(said(f'{crate}: {call.name}', call.doc)), clauses))
+    return table(('Call', 'What it does', 'Clauses'), rows) if rows else []
+
+
+def definitions_table(crate: str, book: sources.Book) -> list[str]:
+    """The definitions of a crate on which public contracts stand, with the calls that cite them, and the names of all others."""
+    promised, steps = [], []
+    for definition in book.of_crate(crate):
+        comment = said(f'crates/{crate}/specs/{definition.module}.antt: {definition.name}', definition.comment)
+        if definition.key in book.promised:
+            cited_by = ', '.join(f'`{name}`' for name in book.cited_by.get(definition.key, []))
+            promised.append((f'`{definition.name}`', f'`{definition.module}`', cell(comment), cited_by))
+        else:
+            steps.append(f'`{definition.name}`')
+    lines = table(('Definition', 'Module', 'What it says', 'Cited by'), promised) if promised else []
+    return lines + (['', f'On these no public contract stands: {", ".join(steps)}.'] if steps else [])
+
+
+def contracts_page() -> list[str]:
+    """What each crate promises: its calls with their clauses, and the definitions that these cite."""
+    book = sources.Book()
+    lines = ['# What each crate promises']
+    for crate in crates():
+        body = calls_table(crate) + definitions_table(crate, book)
+        if body and not crate.endswith('_tests'):
+            lines += ['', f'## {crate}', '', sources.first_paragraph(head_of(crate)), *body]
+    return lines
+
+
+# ---- what to read
 
 def visit(path: Path, seen: set[Path], order: list[Path], types: set[str]) -> None:
     """Appends the files of definitions that a file names, each after those that it names itself."""
     if path in seen:
         return
     seen.add(path)
-    for crate, module in re.findall(r'(?m)^ *(?:ghost )?use Rattle\.(cd_[a-z]+)\.specs\.([A-Za-z_.]+)\.\{', path.read_text(encoding='utf-8')):
+    uses = re.findall(r'(?m)^ *(?:ghost )?use Rattle\.(cd_[a-z_]+)\.specs\.([A-Za-z_.]+)\.\{', path.read_text(encoding='utf-8'))
+    for crate, module in uses:
         first, *rest = module.split('.')
         if first == 'declared':
             types.add(f'crates/{crate}/src/{rest[0]}.rt')
@@ -136,103 +197,48 @@ def reading() -> tuple[list[list[Path]], list[str]]:
     return parts, sorted(types)
 
 
-def reading_table(part: int) -> list[str]:
-    order = reading()[0][part]
+def reading_table(order: Sequence[Path]) -> list[str]:
     rows = [(f'`{file.relative_to(TOP)}`', str(lines_of(file)), about(file)) for file in order]
     return table(('File', 'Lines', 'What it has'), rows) + ['', f'{sum(map(lines_of, order))} lines in {len(order)} files.']
 
 
-def types_named() -> list[str]:
-    names = ', '.join(f'`{name}`' for name in reading()[1])
-    return textwrap.wrap(f'{names}.', width=140, break_long_words=False, break_on_hyphens=False)
-
-
-def only(pattern: str, text: str) -> str:
-    """What the group of a pattern finds in a text."""
-    found = re.search(pattern, text)
-    if not found:
-        sys.exit(f'tools/pages.py looks for {pattern} and does not find it')
-    return found.group(1)
-
-
-def number(path: str, pattern: str) -> str:
-    return only(pattern, (TOP / path).read_text(encoding='utf-8'))
+def count(pattern: str) -> str:
+    return str(len(list(TOP.glob(pattern))))
 
 
 def figures() -> list[str]:
     (headline, rest), _ = reading()
-    trust = (TOP / 'docs/TRUST.md').read_text(encoding='utf-8')
-    functions = only(r'(?s)\| Functions \| Trusted for[^\n]*\n[^\n]*\n(.*?)\n\n', trust)
-    assumed = sum(row.split('|')[1].count('`') // 2 for row in functions.splitlines())
-    seeds = int(number('tests/random_faults.sh', r'tried "\$program" 1 (\d+)'))
-    rows = [
-        ("functions without a proof, holes in proofs, axioms of the project's own", '0'),
+    return table(('What', 'How many'), [
+        ('crates', str(len(crates()))),
         ('wrong bodies of functions that the prover refuses, each by a goal of a contract (`crates/*/must-fail`)',
-         str(len(list(TOP.glob('crates/*/must-fail/*.edit'))))),
-        ('wrong definitions that a worked case refuses (`tests/wrong_definitions`)',
-         str(len(list(TOP.glob('tests/wrong_definitions/*.patch'))))),
-        ('checks of the built program and its pages in each `make check`; in each gate, with wrong versions', 'more than 6800; 7200'),
-        ('random images and scripts of these on which an independent model and the program agree; once by hand',
-         f"{number('tests/model/compare.py', r'--cases., type=int, default=([0-9]+)')}; 20,000"),
-        ('runs of these in which system calls fail at random', str(2 * seeds)),
+         count('crates/*/must-fail/*.edit')),
+        ('wrong definitions that a worked case refuses (`tests/wrong_definitions`)', count('tests/wrong_definitions/*.patch')),
         ('lines of definitions to read for the headline of `apply`; more for the whole theorem',
          f'{sum(map(lines_of, headline))}; {sum(map(lines_of, rest))}'),
-        ('C functions whose contracts are assumed', str(assumed)),
-    ]
-    return table(('What', 'How many'), rows)
+    ])
 
 
-def exports(file: Path) -> Iterator[tuple[str, str, str]]:
-    """The exports of a file of code: for each its name, its rustdoc and its contract."""
-    for item in file.read_text(encoding='utf-8').split('\n\n'):
-        doc, found, rest = item.partition('#[unsafe(no_mangle)]\npub extern "C" fn ')
-        if found:
-            yield rest[:rest.index('(')], re.sub('(?m)^///', '', doc), rest.split('\n{', 1)[0]
+def audit_page() -> list[str]:
+    """What to read to know what is promised, each file after those that it names."""
+    (headline, rest), types = reading()
+    return ['# What to read', '', 'docs/TRUST.md says what the theorem is. `make contracts` prints what each crate promises.', *figures(),
+            '', '## For the headline of `apply`', '', f'Its contract stands in `{HEADLINE[0]}`.', *reading_table(headline),
+            '', '## For the whole theorem', '', f'It is the contract of `run_on_files` in `{THEOREM[0]}`, and adds these.',
+            *reading_table(rest),
+            '', '## Types and constants of the code that both name', '', *(f'- `{name}`' for name in types), '',
+            "They also use the terms of the toolchain's `std` for lists, bits, numbers and text, and those of its `clap` for the parser."]
 
 
-def calls() -> list[str]:
-    """The exports of libcdpatch, crate by crate, with the names of their clauses."""
-    rows = []
-    for crate in crates():
-        for file in code_of(crate):
-            for name, doc, contract in exports(file):
-                clauses = re.findall(r'(?m)^    ensures (?:(\w+) )?\{', contract)
-                rows.append((f'`{name}`', crate, sentence(doc), ', '.join(f'`{clause}`' if clause else 'the result' for clause in clauses)))
-    return table(('Call', 'Crate', 'What it does', 'Clauses'), rows)
-
-
-def tools() -> list[str]:
-    return [f'- {line}' for line in (TOP / 'tools/versions.txt').read_text(encoding='utf-8').splitlines()] + ['']
-
-
-PARTS: dict[str, Callable[[], list[str]]] = {'files': files, 'uses': uses, 'figures': figures, 'headline': lambda: reading_table(0), 'theorem': lambda: reading_table(1),
-         'types': types_named, 'calls': calls, 'tools': tools}
-
-
-def remade(page: Path) -> tuple[str, list[str]]:
-    """A page with its parts made anew, and the names of those that were others."""
-    changed: list[str] = []
-
-    def part(found: re.Match[str]) -> str:
-        made = '\n'.join(PARTS[found.group(1)]()) + '\n'
-        if made != found.group(2):
-            changed.append(found.group(1))
-        return f'<!-- made: {found.group(1)} -->\n{made}<!-- end of {found.group(1)} -->\n'
-
-    text = re.sub(r'(?s)<!-- made: (\w+) -->\n(.*?)<!-- end of \1 -->\n', part, page.read_text(encoding='utf-8'))
-    return text, changed
+PAGES: dict[str, Callable[[], list[str]]] = {'map': map_page, 'contracts': contracts_page, 'audit': audit_page}
 
 
 def main() -> int:
-    status = 0
-    for name in PAGES:
-        text, changed = remade(TOP / name)
-        if sys.argv[1:] != ['--check']:
-            (TOP / name).write_text(text, encoding='utf-8')
-        elif changed:
-            print(f'{name} is not as tools/pages.py makes it: {", ".join(changed)}')
-            status = 1
-    return status
+    if len(sys.argv) != 2 or sys.argv[1] not in PAGES:
+        sys.exit(f'usage: python3 tools/pages.py {"|".join(PAGES)}')
+    # What reads a page may end before it, as `head` does.
+    signal.signal(signal.SIGPIPE, signal.SIG_DFL)
+    print('\n'.join(PAGES[sys.argv[1]]()))
+    return 0
 
 
 if __name__ == '__main__':

@@ -61,8 +61,9 @@ test('with --loose half-width and full-width are one, and both cases', () => inD
 }));
 
 test('with --loose a table is read by its own characters, and digits by their value', () => inDirectory(async room => {
-    writeImage(room, [2, 100, '010203'], [2, 200, '040203'], [3, 0, 'ABCD']);
-    write(room, { 'game.tbl': '01=A\n02=b\n03=the\n04=a\n' });
+    writeImage(room, [2, 100, '010203'], [2, 200, '040203'], [3, 0, 'ABCD'], [4, 7, '05060708']);
+    write(room, { 'game.tbl': '01=A\n02=b\n03=the\n04=a\n05060708=パ\n' });
+    assert.deepEqual((await found(room, 'ﾊﾟ', '--table', 'game.tbl', '--loose'))[1], ['4 7 4']);
     assert.deepEqual((await found(room, 'Abthe', '--table', 'game.tbl', '--loose'))[1], ['2 100 3', '2 200 3']);
     assert.deepEqual((await found(room, 'ab cd', '--encoding', 'hex', '--loose'))[1], ['3 0 2']);
     assert.deepEqual((await found(room, 'ab\u3000cd', '--encoding', 'hex', '--loose'))[1], ['3 0 2']);
@@ -75,7 +76,9 @@ test('an encoding that cannot say a text is named, with the character that it la
         'in UTF-16LE it stands there too: --encoding UTF-16LE', 'hits 1 printed 1']]);
     assert.deepEqual((await found(room, 'cafe\u0301'))[2][0], lacks[0]);
     assert.deepEqual(await found(room, 'パé', '--encoding', 'CP932'), [2, [], ["CP932 has no 'é' (U+00E9), character 2 of the text"]]);
-    assert.deepEqual(await found(room, 'ハ\u309Aé', '--encoding', 'CP932'), [2, [], ["CP932 has no 'é' (U+00E9), character 2 of the text"]]);
+    for (const text of ['ハ\u309Aé', '¥é']) {
+        assert.deepEqual(await found(room, text, '--encoding', 'CP932'), [2, [], ["CP932 has no 'é' (U+00E9), character 2 of the text"]]);
+    }
 }));
 
 test('a long text with many spellings is searched', () => inDirectory(async room => {

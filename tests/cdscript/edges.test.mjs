@@ -125,6 +125,12 @@ test('an image of more sectors than the program takes is refused at once', () =>
         const { status, out, errors } = await run([words[0], 'long', ...words.slice(1)], { cwd: room });
         assert.deepEqual([status, out, errors], [2, '', `cdscript: long: ${said}`], words[0]);
     }
+    write(room, { script: 'cdpatch 1\nset 1000000 0 00\nrebuild 7\nrebuild 999999\n' });
+    for (const words of [['check', 'long', 'script'], ['apply', 'long', 'script', 'out']]) {
+        const { status, out, errors } = await run(words, { cwd: room });
+        const lines = 'line 3: refused: block 7 is not mode 1\nline 4: refused: block 999999 is not mode 1\n';
+        assert.deepEqual([status, out, errors], [2, `${lines}cdpatch: ${said}`, ''], words[0]);
+    }
     assert.equal(existsSync(join(room, 'out')), false);
 }));
 

@@ -188,6 +188,8 @@ test('a text over extents that lie apart is found, listed and replaced', () => i
     const found = await run(['find', 'disc.bin', '地下に宝', '--encoding', 'CP932'], { cwd: room });
     assert.deepEqual(found.out.split('\t').slice(0, 4), ['31', '2045', '8', '/BIG+4093']);
     assert.ok(found.out.includes('城の地下に宝がある'), found.out);
+    const later = await run(['find', 'disc.bin', '古い塔', '--encoding', 'CP932'], { cwd: room });
+    assert.deepEqual(later.out.split('\t').slice(0, 4), ['25', '3', '6', '/BIG+6147']);
     const all = await run(['texts', 'disc.bin'], { cwd: room });
     const rows = all.out.split('\n').slice(1, -1).map(line => line.split('\t'));
     assert.deepEqual(rows.map(row => [row[0], row[1], row[5], row[6]]), [['31', '2041', '/BIG+4089', '城の地下に宝がある'],

@@ -9,8 +9,11 @@ import { withAllCalls } from './calls.mjs';
 export const top = fileURLToPath(new URL('../..', import.meta.url));
 const folder = process.env.CORE ?? join(top, 'web/core');
 
+/** @param {string} name a module of the core, where it is imported from */
+export const coreFile = name => pathToFileURL(join(folder, name)).href;
+
 /** @param {string} name a module of the core */
-export const core = name => import(pathToFileURL(join(folder, name)).href);
+export const core = name => import(coreFile(name));
 
 const codes = await core('codes.js');
 const Calls = withAllCalls(codes.Calls, codes.sized);

@@ -81,13 +81,13 @@ test('each patch finds what the one before it left', async () => {
 });
 
 test('the tail and the image around the patches are slices', async () => {
-    const script = await readScript(calls, [encoded(`cdpatch 1\nrebuild ${BASE + 3}\nrebuild ${BASE + 4}\nrebuild ${BASE + 2000}\n`)]);
+    const script = await readScript(calls, [encoded(`cdpatch 1\nrebuild ${BASE + 3}\nrebuild ${BASE + 4}\nrebuild ${BASE + 2000}\nrebuild ${BASE + 2004}\n`)]);
     const whole = image.slice();
-    for (const i of [3, 4, 2000]) whole.set(calls.encode(calls.address(1), new Uint8Array(2048)), i * 2352);
+    for (const i of [3, 4, 2000, 2004]) whole.set(calls.encode(calls.address(1), new Uint8Array(2048)), i * 2352);
     const reader = readerOf(whole);
     const { pieces } = await applyPatches(calls, reader, script, { base: BASE });
     assert.deepEqual(pieces.map(piece => piece.bytes?.length ?? [piece.from, piece.to]),
-        [[0, 3 * 2352], 2 * 2352, [5 * 2352, 2000 * 2352], 2352, [2001 * 2352, whole.length]]);
+        [[0, 3 * 2352], 2 * 2352, [5 * 2352, 2000 * 2352], 5 * 2352, [2005 * 2352, whole.length]]);
     assert.deepEqual(reader.reads.map(({ at }) => at), [3 * 2352, 2000 * 2352]);
     sameBytes(joinedPieces(whole, pieces), whole, 'the image');
 });

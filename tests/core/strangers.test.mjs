@@ -1,7 +1,8 @@
 // Cue sheets, tables and volumes that mean harm: each takes not much longer than a harmless one, and what is left out of a list is said.
 import assert from 'node:assert';
+import { spawnSync } from 'node:child_process';
 import { test } from 'node:test';
-import { core, readerOf } from './common.mjs';
+import { core, coreFile, readerOf } from './common.mjs';
 import { rawOf } from './discs.mjs';
 import { SHEETS, TABLES, continuing, crowded, harmlessVolume, nested, overlapping, recordOf, volumeOf } from './strangers.mjs';
 
@@ -54,6 +55,13 @@ for (const [what, { table, text, fault: due = '' }] of Object.entries(TABLES)) {
     });
 }
 
+test('a long text that is no UTF-8 is read in little memory', () => {
+    const read = `const { textOfFile } = await import(${JSON.stringify(coreFile('text.js'))});
+        console.log(textOfFile(new Uint8Array(16000000).fill(0x0A).fill(0xFF, 7, 8)).length);`;
+    const { stdout, status } = spawnSync(process.execPath, ['--max-old-space-size=100', '--input-type=module', '-e', read], { encoding: 'utf8' });
+    assert.deepStrictEqual([stdout, status], ['16000000\n', 0]);
+});
+
 const USER = 2048;
 
 test('a harmless volume is listed', async () => {
@@ -99,4 +107,10 @@ test('records that go on and on end', async () => {
     assert.ok(seconds < 2, `${seconds} s`);
     assert.ok(files.length > 500);
     assert.deepStrictEqual(faults, ['/: from here on nothing is listed: its records are continued in more than 32768 places']);
+});
+
+test('a sector in which many records are continued is read once', async () => {
+    const reader = readerOf(rawOf(continuing(200)));
+    await filesOf(reader, 0);
+    assert.ok(reader.reads.length < 300, `${reader.reads.length} reads`);
 });

@@ -38,6 +38,26 @@ test('short texts are taken beside others, over the 00 between them', () => {
     assert.deepEqual(found(bytes), places);
 });
 
+test('names in kanji that stand in few sentences are taken beside others', () => {
+    const texts = ['つづきからはじめる', '剣', '鎧', '古代遺跡', '占い師', '踊り子', '鋼鉄の鎧', '賢者', '武闘家', 'どうぐをつかう'].map(text => bytesOf('CP932', text));
+    const bytes = Buffer.concat([Buffer.alloc(8), ...texts.flatMap(text => [text, Buffer.alloc(1)])]);
+    const sizes = found(bytes).map(([start, end]) => end - start);
+    assert.deepEqual(sizes.filter(size => size > 2), texts.map(text => text.length).filter(size => size > 2));
+    assert.equal(found(Buffer.concat([bytes, noise(1 << 16, 9)])).length, found(bytes).length);
+});
+
+test('a text after a picture is found', () => {
+    const picture = Buffer.from(Uint8Array.from({ length: 90 }, (_, i) => 0x83 + (i >> 2)));
+    const text = bytesOf('CP932', '城の地下に宝があるらしい'.repeat(2));
+    const places = found(Buffer.concat([Buffer.alloc(4), picture, text, picture, Buffer.alloc(4)]));
+    assert.ok(places.some(([start, end]) => start <= 94 + 16 && end >= 94 + text.length), `${places}`);
+});
+
+test('the first characters of a file are a text', () => {
+    assert.deepEqual(found(Buffer.concat([bytesOf('CP932', 'おわり'), Buffer.alloc(2), bytesOf('CP932', 'つづきからはじめる'), Buffer.alloc(2)])),
+        [[0, 6, 'CP932'], [8, 26, 'CP932']]);
+});
+
 test('texts in UTF-16 with one 00 00 after each are not read with the other byte first', () => {
     const texts = ['や他のエラー', 'いことを保証', 'にのコメント', 'デタッチされ', 'このコマンド'].map(text => bytesOf('UTF-16LE', text));
     const bytes = Buffer.concat([Buffer.alloc(4), ...texts.flatMap(text => [text, Buffer.alloc(2)])]);

@@ -70,7 +70,7 @@ static int some_line(uint64_t *dice, const struct some_case *it, char *line, siz
     }
 }
 
-/* Old bytes for a line that sets some, most often those of the image; nothing for any other line. */
+/* Old bytes for a line that sets some, three times of four those of the image; nothing for any other line. */
 static size_t some_old_bytes(uint64_t *dice, const struct some_case *it, const char *line, size_t size, char *was) {
     uint32_t block = 0, offset = 0;
     int start = 0;
@@ -78,9 +78,10 @@ static size_t some_old_bytes(uint64_t *dice, const struct some_case *it, const c
     if (line[size - 1] != '\n' || sscanf(line, "set %u %u %n", &block, &offset, &start) != 2 || memchr(line + start, ' ', size - (size_t)start) ||
         below(dice, 2))
         return 0;
+    bool right = below(dice, 4) > 0;
     for (made = (size_t)sprintf(was, " was "); count < (size - (size_t)start) / 2; count++) {
         size_t user = offset + count, at = (block - it->base + user / CDPATCH_USER_SIZE) * (size_t)SECTOR + 16 + user % CDPATCH_USER_SIZE;
-        made += (size_t)sprintf(was + made, "%02X", at < it->size && below(dice, 500) ? it->image[at] : below(dice, 256));
+        made += (size_t)sprintf(was + made, "%02X", at < it->size && right ? it->image[at] : below(dice, 256));
     }
     return made;
 }

@@ -15,6 +15,11 @@ if [ ! -e "$joined/cdscript" ] && [ -e "$top/library/cdpatch.wasm" ] && command 
     bash "$top/tools/web.sh" "$top/library" "$joined"
 fi
 [ ! -e "$joined/cdscript" ] || ln -s "$joined/cdscript" "$scratch/bin/cdscript"
+# What repeats help is made of it: completions here, as `make` makes them.
+completions=$scratch/completions
+programs=("$scratch/bin/cdpatch")
+[ ! -e "$scratch/bin/cdscript" ] || programs+=("$scratch/bin/cdscript")
+missing python3 python3 'all that is made of help' || python3 -B "$top/tools/options.py" completions "$completions" "${programs[@]}" || exit 1
 
 # same NAME WANTED GOT: counts whether two files are equal, and shows how they differ.
 same() {

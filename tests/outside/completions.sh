@@ -67,7 +67,7 @@ asked_at_each_position() {
 }
 
 shell=bash
-. "$top/completions/cdpatch.bash"
+. "$completions/cdpatch.bash"
 offered() {
     COMP_WORDS=(cdpatch "$@")
     COMP_CWORD=$#
@@ -98,20 +98,53 @@ rm ./-dash
 touch $'words\n--help'
 offers '' list wo
 offers "$everything" list ''
-. "$top/completions/cdscript.bash"
-for name in cdpatch cdscript; do
-    COMP_WORDS=("$name" list wo) COMP_CWORD=2
-    "_$name"
-    judge "bash's completion of $name offers no part of a name" test ${#COMPREPLY[@]} = 0
-done
 rm $'words\n--help'
 judge 'bash knows the completion' test "$(complete -p cdpatch)" = 'complete -F _cdpatch cdpatch'
 
+# offered_by_fish PROGRAM WORD..: what fish offers for the last of these words.
+offered_by_fish() {
+    fish --no-config -c 'source $argv[1]; complete -C (string join " " -- $argv[2] (string escape -- $argv[3..-2]) $argv[-1])' \
+        "$completions/$1.fish" "$@" | sed -e 's/\t.*//' -e 's/\/$//' -e '/^-[hV]$/d' -e '/^$/d'
+}
 if ! missing fish fish 'the completion for fish'; then
     shell=fish
-    offered() {
-        fish --no-config -c 'source $argv[1]; complete -C (string join " " -- cdpatch (string escape -- $argv[2..-2]) $argv[-1])' \
-            "$top/completions/cdpatch.fish" "$@" | sed -e 's/\t.*//' -e 's/\/$//' -e 's/^-h$//' -e '/^$/d'
-    }
+    offered() { offered_by_fish cdpatch "$@"; }
     asked_at_each_position
+fi
+
+# The completions of cdscript: its jobs and options, what repeats, values, and which names are files.
+asked_of_cdscript() {
+    offers "$(cdscript --help | sed -n '/^Jobs:/,/^$/s/^  \([a-z-]*\) .*/\1/p' | sort | paste -sd ' ')" ''
+    offers '--help --notices --version' --
+    for job in info replace replace-file diff merge raw; do
+        offers "$(cdscript $job --help | sed -nE 's/^ +(-.,)? ?(--[a-z-]+) .*/\2/p' | sort | paste -sd ' ')" $job --
+    done
+    offers '--dat' merge --dat image --d
+    offers '' find --track 2 --tr
+    offers 'CP932' find image text --encoding C
+    offers 'image' scan --dat im
+    offers 'folder' find image text -o fo
+    offers "$everything" merge image image ''
+    offers "$everything" scan image folder script ''
+    offers 'folder' raw image ''
+    offers '' extract image ''
+    offers 'folder' extract image path ''
+    offers '' replace image ''
+    offers "$everything" replace-file image path ''
+    offers "$everything" diff --track 2 image ''
+}
+if [ -e "$scratch/bin/cdscript" ]; then
+    shell='bash, cdscript'
+    . "$completions/cdscript.bash"
+    offered() {
+        COMP_WORDS=(cdscript "$@") COMP_CWORD=$#
+        _cdscript
+        [ ${#COMPREPLY[@]} = 0 ] || printf '%s\n' "${COMPREPLY[@]}"
+    }
+    asked_of_cdscript
+    if command -v fish > /dev/null; then
+        shell='fish, cdscript'
+        offered() { offered_by_fish cdscript "$@"; }
+        asked_of_cdscript
+    fi
 fi

@@ -147,7 +147,7 @@ judge 'docs/SPEED.md has at most 40 lines' test "$(wc -l < "$top/docs/SPEED.md")
 if ! missing make make 'the pages of the tarball'; then
     mkdir "$scratch/from_tarball"
     cd "$scratch/from_tarball" || exit 1
-    bash "$top/tools/dist.sh" "$program" "$library" "$joined" . > checksum
+    COMPLETIONS=$completions bash "$top/tools/dist.sh" "$program" "$library" "$joined" . > checksum
     tar -xzf ./*.tar.gz
     rm -f ./*.tar.gz* cdscript.js* cdpatch.html*
     make --no-print-directory -s -C cdpatch-* > said

@@ -1,4 +1,4 @@
-# Help, and that the man page and the completions have its commands and options.
+# Help, and what is made of it: parts of the man pages and of the README, and completions.
 
 enter help
 cdpatch --help > help
@@ -9,9 +9,7 @@ cdpatch check disc.bin example > log
 judge 'the script in help is accepted' test "$(tail -n 1 log)" = 'applied 4 refused 0'
 for command in list audit check apply; do
     cdpatch $command --help > "$command.help"
-    about=$(sed -n "s/^ *[\"']$command:\(.*\)[\"']$/\1/p" "$top/completions/_cdpatch")
-    judge "help lists $command" grep -q "^  $command  *$about" help
-    judge "help of $command begins with what it does" test "$(head -n 1 "$command.help")" = "$about"
+    judge "help lists $command as its own help begins" grep -q "^  $command  *$(head -n 1 "$command.help")$" help
     judge "help of $command has the statuses" grep -q '^Status: 0 ' "$command.help"
 done
 judge 'help of list says what it prints' grep -q 'nosync, mode0, mode1, mode2 or other' list.help
@@ -24,24 +22,50 @@ for word in --version -V; do
     judge "$word is refused" test $? = 2
 done
 
-# The program's commands and options are those of the man page and of each completion.
-sed -n '/^Commands:/,/^Options:/s/^  \([a-z]*\) .*/\1/p' help | sort > wanted
-sed -n 's/^\.It Cm \([a-z]*\) Ar .*/\1/p' "$top/man/cdpatch.1" | sort > got
-judge 'the commands of the man page' cmp -s wanted got
-sed -n "s/^        :0).*compgen -W '\([a-z ]*\)'.*/\1/p" "$top/completions/cdpatch.bash" | tr ' ' '\n' | sort > got
-judge 'the commands of the bash completion' cmp -s wanted got
-sed -n "s/^ *[\"']\([a-z]*\):[A-Z].*/\1/p" "$top/completions/_cdpatch" | sort > got
-judge 'the commands of the zsh completion' cmp -s wanted got
-sed -n 's/^complete .* -n __cdpatch_begins -a \([a-z]*\) .*/\1/p' "$top/completions/cdpatch.fish" | sort > got
-judge 'the commands of the fish completion' cmp -s wanted got
-options() { grep -o -e '--[a-z][a-z-]*' | sort -u; }
-cat help ./*.help | options > wanted
-sed -n 's/^\.\(It\|Op\)\(.*\)/\2/p' "$top/man/cdpatch.1" | sed -n 's/.*Fl Fl \([a-z-]*\).*/--\1/p' | sort -u > got
-judge 'the options of the man page' cmp -s wanted got
-grep -o "local .*options='[^']*'" "$top/completions/cdpatch.bash" | options > got
-judge 'the options of the bash completion' cmp -s wanted got
-grep -e "local -a" "$top/completions/_cdpatch" | options > got
-judge 'the options of the zsh completion' cmp -s wanted got
-sed -n 's/^complete .* -l \([a-z-]*\) .*/--\1/p' "$top/completions/cdpatch.fish" | sort -u > got
-judge 'the options of the fish completion' cmp -s wanted got
+# What repeats help is as tools/options.py makes it, of this program and this cdscript; pages of other programs are found.
+if ! missing python3 python3 'what is made of help'; then
+    check() { python3 -B "${3-$top}/tools/options.py" "$1" "$2"; }
+    for made in "${programs[@]}"; do
+        name=${made##*/}
+        check check "$made" > said
+        judge "the pages are as tools/options.py makes them of $name: $(cat said)" test $? = 0 -a ! -s said
+    done
 
+    # A program with one more option and one more command: the pages of today are refused, and those that are made have both.
+    cat > wider << 'END'
+#!/usr/bin/env bash
+cdpatch "${@/repair/apply}" | sed -e 's/^  -h, --help .*/      --quiet     Print nothing\n&/' \
+    -e 's/^  apply .*/&\n  repair  Repair an image/' -e "s/^Usage: cdpatch apply/Usage: cdpatch ${1/--help/apply}/"
+END
+    chmod +x wider
+    mkdir -p another/tools
+    cp -r "$top/man" "$top/README.md" another
+    cp -r "$top/tools/options.py" "$top/tools/completions" another/tools
+    judge 'pages of another program are refused' eval '! check check ./wider another > said'
+    judge 'by name' cmp -s said <(printf '%s is not as tools/options.py makes it of cdpatch --help\n' man/cdpatch.1 README.md)
+    judge 'and made' eval 'check pages ./wider another && check check ./wider another'
+    judge 'with the new option, and what help says of it' \
+        test "$(grep -A 1 '^\.It Fl Fl quiet$' another/man/cdpatch.1 | tail -n 1)" = 'Print nothing.'
+    judge 'in the synopsis of each command' test "$(grep -c '^\.Op Fl Fl quiet$' another/man/cdpatch.1)" = 5
+    judge 'with the new command' grep -q '^| `cdpatch repair IMAGE SCRIPT OUT` | Repair an image |$' another/README.md
+    judge 'and all prose as it was' test -z "$(diff "$top/man/cdpatch.1" another/man/cdpatch.1 | grep '^<')"
+    if ! missing mandoc mandoc 'the form of a made man page'; then
+        mandoc -T lint another/man/cdpatch.1 2> /dev/null | grep -v 'STYLE: referenced manual not found' > linted
+        judge 'mandoc has no word on it' test ! -s linted
+    fi
+    python3 -B "$top/tools/options.py" completions wide ./wider
+    for name in cdpatch.bash _cdpatch cdpatch.fish; do
+        judge "$name has both" eval "grep -q 'repair' wide/$name && grep -q 'quiet' wide/$name"
+    done
+fi
+
+# The man page explains each encoding that help of cdscript lists.
+if [ -e "$scratch/bin/cdscript" ]; then
+    while read -r name; do
+        judge "the man page of cdscript explains $name" grep -qE "^\\.Cm $name( |\$)" "$top/man/cdscript.1"
+    done < <(cdscript find --help | sed -n '/--encoding/,/--table/p' | paste -sd ' ' | sed 's/.*written: //; s/ *--table.*//' |
+        tr -s ', ' '\n')
+    for job in $(cdscript --help | sed -n '/^Jobs:/,/^$/s/^  \([a-z-]*\) .*/\1/p') help; do
+        judge "help of cdscript $job is at most 80 columns wide" test -z "$(cdscript "$job" --help | awk 'length > 80')"
+    done
+fi

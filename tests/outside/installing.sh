@@ -1,6 +1,6 @@
 # `make install` and `make uninstall`: for a package, below other directories, and of nothing.
 
-built() { make --no-print-directory -s -C "$top" PROGRAM="$program" LIBRARY="$library" JOINED="$joined" "$@"; }
+built() { make --no-print-directory -s -C "$top" PROGRAM="$program" LIBRARY="$library" JOINED="$joined" COMPLETIONS="$completions" "$@"; }
 files() { [ ! -d "$1" ] || (cd "$1" && find . ! -type d | sort); }
 
 installed_for_a_package() {
@@ -25,7 +25,7 @@ installed_for_a_package() {
 ./usr/lib/libcdpatch.so $library/libcdpatch.so.1
 ./usr/lib/libcdpatch.so.1 $library/libcdpatch.so.1
 ./usr/lib/pkgconfig/cdpatch.pc $PWD/cdpatch.pc
-./usr/share/bash-completion/completions/cdpatch $top/completions/cdpatch.bash
+./usr/share/bash-completion/completions/cdpatch $completions/cdpatch.bash
 $(cd "$top/python" && for file in {backend.py,pyproject.toml} cdpatch/{*.py,py.typed}; do
     echo "./usr/share/cdpatch/python/$file $top/python/$file"; done)
 ./usr/share/doc/cdpatch/NOTICES $library/NOTICES
@@ -33,12 +33,12 @@ $(for page in CHANGELOG.md docs/{MODULES,REPAIR,SCRIPTS,TRANSLATE,TRUST}.md docs
     examples/{audit.c,damaged.rs,patch_map.c,patch_pipe.c}; do echo "./usr/share/doc/cdpatch/$page $top/$page"; done)
 ./usr/share/doc/cdpatch/README.md $top/tools/README.tarball.md
 ./usr/share/doc/cdpatch/docs/INSTALL.md $PWD/INSTALL.md
-./usr/share/fish/vendor_completions.d/cdpatch.fish $top/completions/cdpatch.fish
+./usr/share/fish/vendor_completions.d/cdpatch.fish $completions/cdpatch.fish
 ./usr/share/man/man1/cdpatch.1 $top/man/cdpatch.1
 ./usr/share/man/man3/libcdpatch.3 $top/man/libcdpatch.3
 $(sed -n 's/^[a-z].* \(cdpatch_[a-z0-9_]*\)(.*/\1/p' "$top/include/cdpatch.h" |
     sed "s|.*|./usr/share/man/man3/&.3 $top/man/libcdpatch.3|")
-./usr/share/zsh/site-functions/_cdpatch $top/completions/_cdpatch
+./usr/share/zsh/site-functions/_cdpatch $completions/_cdpatch
 EOF
     [ ! -e "$library/cdpatch.wasm" ] || for path in cdpatch{,-wasm64}.wasm; do
         judge "$path is installed" cmp -s "$library/$path" "root/usr/share/cdpatch/$path"
@@ -50,10 +50,10 @@ EOF
     done 3<< EOF
 ./usr/bin/cdscript $joined/cdscript
 ./usr/share/cdpatch/cdpatch.html $joined/cdpatch.html
-./usr/share/bash-completion/completions/cdscript $top/completions/cdscript.bash
-./usr/share/fish/vendor_completions.d/cdscript.fish $top/completions/cdscript.fish
+./usr/share/bash-completion/completions/cdscript $completions/cdscript.bash
+./usr/share/fish/vendor_completions.d/cdscript.fish $completions/cdscript.fish
 ./usr/share/man/man1/cdscript.1 $top/man/cdscript.1
-./usr/share/zsh/site-functions/_cdscript $top/completions/_cdscript
+./usr/share/zsh/site-functions/_cdscript $completions/_cdscript
 EOF
     files root > got
     sort -o wanted wanted
@@ -98,6 +98,8 @@ installed_elsewhere() {
     judge 'nothing that was built, nothing installed' test $? != 0 -a ! -e none
     built install LIBRARY="$PWD/nothing" DESTDIR="$PWD/none" 2> /dev/null
     judge 'no library that was built, nothing installed' test $? != 0 -a ! -e none
+    built install COMPLETIONS="$PWD/nothing" DESTDIR="$PWD/none" 2> /dev/null
+    judge 'no completions that were made, nothing installed' test $? != 0 -a ! -e none
 }
 
 if ! missing make make 'make install'; then

@@ -1,52 +1,108 @@
-# The pages against the sources: the README's size and figures, the parts that tools/pages.py makes, links, the clauses of `apply`, the
-# functions of C that are trusted, what the program is linked to, and the commands that the tests need.
+# The pages against the sources: what tools/pages.py prints, figures, links, the clauses of `apply`, the functions of C that are trusted,
+# what the program is linked to, and the commands that the tests need.
 
 enter pages
 
-# The README: a first screen in a terminal of 100 columns, few words, and at its end what is proved.
-screen=$(sed '/^## /,$d' "$top/README.md" | fold -s -w 100 | wc -l)
-judge "the README's first screen has at most 60 lines, not $screen" test "$screen" -le 60
-words=$(wc -w < "$top/README.md")
-judge "the README has at most 1000 words, not $words" test "$words" -le 1000
-proved=$(sed -n '/^## What is proved/,$p' "$top/README.md" | fold -s -w 100 | wc -l)
-judge "what is proved has at most 40 lines, not $proved" test "$proved" -gt 20 -a "$proved" -le 40
-cdpatch --help | sed -n '/^Commands:/,/^Options:/s/^  \([a-z]*\) .*/\1/p' | sort > wanted
-sed -n '/^## /q; s/^| `cdpatch \([a-z]*\) .*/\1/p' "$top/README.md" | sort > got
-same "the first screen has the program's commands" wanted got
-for wanted in '](docs/page.png)$' '^\*\*No licence has been chosen yet\*\*' ' was [0-9A-F]' '](docs/TRUST.md)'; do
-    judge "the first screen has $wanted" grep -q -- "$wanted" <(sed '/^## /,$d' "$top/README.md")
-done
-edits=$(find "$top"/crates/*/must-fail -name '*.edit' | wc -l)
-wrong=$(tr '\n' ' ' < "$top/README.md" | sed -n 's/.*more than \([0-9]*\) wrong function bodies.*/\1/p')
-judge "more than ${wrong:-no} wrong bodies, which are $edits" test "${wrong:-0}" -gt 0 -a "$edits" -gt "${wrong:-0}" -a "$edits" -lt $((${wrong:-0} + 100))
+# What the sources say of themselves. Another tree says something else, and what says nothing is refused.
+if ! missing python3 python3 'what the sources say of themselves'; then
+    for page in map contracts audit; do
+        judge "make $page prints a page" eval 'python3 -B "$top/tools/pages.py" $page > $page && [ "$(grep -c "^| " $page)" -gt 50 ]'
+    done
+    grep -oE '^## cd[a-z_]*' contracts | sed 's/## //' | sort > got
+    bash "$top/tools/library_crates.sh" | tr ' ' '\n' | sort - <(printf '%s\n' "${library_crates[@]}" cd_words) > wanted
+    same 'make contracts has each crate with contracts' wanted got
+    sed -n 's/^[a-z].* \(cdpatch_[a-z0-9_]*\)(.*/\1/p' "$top/include/cdpatch.h" | sort > wanted
+    grep -oE '^\| `cdpatch_[a-z0-9_]*`' contracts | grep -oE 'cdpatch_[a-z0-9_]*' | sort > got
+    same 'make contracts has each call of the header' wanted got
+    judge 'a definition stands there with what it says' grep -qF '| `consistent` | `Consistent` | 2352 bytes of Mode 1 without a defect |' contracts
+    judge 'and a call with its clauses' grep -qE '^\| `encode` \| .* \| `consistent`, `header`, `user`, `unique` \|$' contracts
+    cat "$top"/crates/*/src/laws.rt | sed -nE 's/^pub fn ([a-z_0-9]+).*/\1/p' | sort -u > wanted
+    grep -oE '^\| `[a-z_0-9]+`' contracts | tr -d '|` ' | sort -u > got
+    judge "make contracts has each law, and not only some: $(comm -23 wanted got | paste -sd ' ')" test -z "$(comm -23 wanted got)"
 
-# How long make, the tests and the gate take stands in one place, the README.
-for goal in '' check test; do
-    lines=$(grep -cE "^    make${goal:+ $goal} +# .*[0-9] minutes" "$top/README.md")
-    judge "the README says once how long make${goal:+ $goal} takes" test "$lines" = 1
-done
-elsewhere=$(cd "$top" && grep -nE '(\bgate\b|`make|    make).*\b(minutes?|hours?|min)\b' CHANGELOG.md docs/*.md tools/README.tarball.md bench/README.md \
-    Makefile man/* | cut -c 1-60)
-judge "and no other page does: $elsewhere" test -z "$elsewhere"
-
-# What repeats the sources is made of them. A page of other sources is found.
-if ! missing python3 python3 'what pages repeat of the sources'; then
-    python3 -B "$top/tools/pages.py" --check > said
-    judge "the pages are as tools/pages.py makes them: $(cat said)" test $? = 0 -a ! -s said
+    # No definition of a crate that a clause or a condition of its public functions cites is left out: looked for in another way.
+    declared() {
+        cat "$top/crates/$1"/specs/*.antt 2> /dev/null |
+            sed -nE 's/^ *(abbrev pub|unfoldable pub|pub record|pub data) +([A-Za-z_]+).*/\2/p' | sort -u
+    }
+    cited() {
+        sources "$1" | xargs awk '
+            /^ *pub (extern "C" )?fn / { public = 1 }
+            /^ *(pub\(crate\) |pub\(super\) )?fn / { public = 0 }
+            /^ *\{/ || /^\{/ { clause = 0; public = 0 }
+            /^ *(requires|ensures) / { clause = 1 }
+            public && clause { print }' | grep -oE '[A-Za-z_]+' | sort -u
+    }
+    read -ra static_crates <<< "$(bash "$top/tools/library_crates.sh")"
+    for crate in "${library_crates[@]}" cd_words "${static_crates[@]}"; do
+        awk -v crate="$crate" '/^## / { inside = $2 == crate } inside' contracts |
+            sed -nE 's/^\| `([A-Za-z_]+)` \| `[A-Za-z]+` \|.*/\1/p' | sort -u > shown
+        left_out=$(comm -12 <(declared "$crate") <(cited "$crate") | comm -23 - shown | paste -sd ' ')
+        judge "make contracts has what contracts of $crate cite: ${left_out:-all}" test -z "$left_out"
+    done
+    judge 'make map has a file with what it has' grep -qF '| `specs/Kind.antt` | The kind of a sector (ECMA-130, 14) |' map
+    judge 'make audit has each file after those that it names' test "$(grep -n 'cd_sector/specs/Consistent.antt' audit | cut -d : -f 1)" -gt \
+        "$(grep -n 'cd_sector/specs/Defect.antt' audit | cut -d : -f 1)"
     mkdir other
     (cd "$top" && find crates -name out -prune -o \( -name '*.rt' -o -name '*.antt' -o -name '*.edit' \) -print0 |
-        xargs -0 cp -r --parents -t "$OLDPWD/other" && cp -r --parents crates.txt tools docs web include examples python tests bench "$OLDPWD/other")
-    python3 -B other/tools/pages.py --check > said
-    judge 'so are those of a copy' test $? = 0
+        xargs -0 cp -r --parents -t "$OLDPWD/other" &&
+        cp -r --parents crates.txt tools web tests bench examples include python "$OLDPWD/other")
     sed -i '1s/kind/sort/' other/crates/cd_sector/specs/Kind.antt
-    rm other/crates/cd_sector/must-fail/addresses.*
-    python3 -B other/tools/pages.py --check > said
-    judge 'other first lines and other counts are found' cmp -s said \
-        <(printf '%s\n' 'docs/MAP.md is not as tools/pages.py makes it: files' 'docs/TRUST.md is not as tools/pages.py makes it: figures, headline')
-    python3 -B other/tools/pages.py
-    judge 'and written' python3 -B other/tools/pages.py --check
-    sed -i '1d' other/tools/library_crates.sh other/tools/web.sh && sed -i '1,5d' other/tools/web.sh
-    judge 'a file that does not say what it has is refused' eval '! python3 -B other/tools/pages.py 2> said' && grep -q 'web.sh does not say what it has' said
+    python3 -B other/tools/pages.py map > changed
+    judge 'of another tree it prints another' cmp -s <(diff map changed | grep '^[<>]') \
+        <(printf '%s | `specs/Kind.antt` | The %s of a sector (ECMA-130, 14) |\n' '<' kind '>' sort)
+
+    # silent REASON PAGE EDIT: after an edit of the other tree a page is refused, with a reason.
+    silent() {
+        local reason=$1 page=$2
+        cp -r other silent
+        (cd silent && eval "$3")
+        judge "refused: $reason" eval '! python3 -B silent/tools/pages.py $page > said 2>&1 && grep -qF "$reason" said'
+        rm -r silent
+    }
+    silent 'web.sh does not say what it is' map "sed -i '2,10d' tools/web.sh"
+    silent 'specs/Kind.antt does not say what it is' map "sed -i '1d' crates/cd_sector/specs/Kind.antt"
+    silent 'Consistent.antt: header_of does not say what it is' contracts \
+        "sed -i '/^-- the header: minute/d' crates/cd_sector/specs/Consistent.antt"
+    silent 'cd_sector: encode does not say what it is' contracts "sed -i '/^\/\/\/ /d' crates/cd_sector/src/encoding.rt"
+    silent 'State.antt says what it is, and stands in UNSAID' map "sed -i '1i -- The state.' crates/cd_c_digest/specs/State.antt"
+fi
+
+if ! missing make make 'what make help prints'; then
+    make --no-print-directory -s -C "$top" help > printed
+    for goal in $(sed -n 's/^\.PHONY: all /all /p' "$top/Makefile") dist release; do
+        judge "make help prints what make $goal does" grep -qE "^  make $goal +[a-z]" printed
+    done
+fi
+
+# The figures of the pages: how many wrong bodies there are, at least, and how many wrong definitions.
+edits=$(find "$top"/crates/*/must-fail -name '*.edit' | wc -l)
+for page in README.md docs/TRUST.md; do
+    wrong=$(tr '\n' ' ' < "$top/$page" | sed -nE -e 's/.*more than ([0-9]+) wrong function bodies.*/\1/p' \
+        -e 's/.*must-fail`\) \| more than ([0-9]+) \|.*/\1/p')
+    judge "$page: more than ${wrong:-no} wrong bodies, which are $edits" \
+        test "${wrong:-0}" -gt 0 -a "$edits" -gt "${wrong:-0}" -a "$edits" -lt $((${wrong:-0} + 100))
+done
+judge 'docs/TRUST.md has the number of wrong definitions' grep -qF \
+    "(\`tests/wrong_definitions\`) | $(find "$top/tests/wrong_definitions" -name '*.patch' | wc -l) |" "$top/docs/TRUST.md"
+
+# figure WHAT WANTED PATTERN: what docs/TRUST.md says, by the group of a pattern, is what the sources have.
+figure() {
+    local said
+    said=$(tr '\n' ' ' < "$top/docs/TRUST.md" | sed -nE "s/.*$3.*/\1/p" | tr -d ,)
+    judge "docs/TRUST.md: $1 are ${said:-not there}, and not $2" test "$said" = "$2"
+}
+figure 'random cases of each gate' "$(grep -oE "'--cases', type=int, default=[0-9]+" "$top/tests/model/compare.py" | grep -oE '[0-9]+$')" \
+    'in each gate; once by hand \| ([0-9]+);'
+seeds=$(sed -nE 's/.*tried "\$program" 1 ([0-9]+).*/\1/p' "$top/tests/random_faults.sh")
+judge "docs/TRUST.md: a thousand runs with random faults, and not $((2 * seeds))" test $((2 * seeds)) = 1000
+if [ -s audit ]; then
+    for number in 1 2; do
+        lines=$(sed -nE 's/^([0-9]+) lines in [0-9]+ files\.$/\1/p' audit | sed -n ${number}p)
+        said='([0-9],[0-9]00) lines for'
+        [ $number = 1 ] || said=', ([0-9],[0-9]00) more for'
+        figure 'lines to read, in hundreds,' $(((lines + 50) / 100))00 "$said"
+    done
 fi
 
 # The pages' links lead to files, and to headings that are there.
@@ -62,7 +118,7 @@ while IFS=: read -r page link <&3; do
         [ "$(heading "$title")" = "${link#*#}" ] && found=true
     done < <(sed -n 's/^##* //p' "$target")
     judge "$page: $link is a heading" $found
-done 3< <(cd "$top" && grep -oE '\]\([^) ]*\)' README.md CHANGELOG.md docs/*.md | sed -e 's/](//' -e 's/)$//' | grep -v ':http')
+done 3< <(cd "$top" && grep -oE '\]\([^) ]*\)' README.md CONTRIBUTING.md SECURITY.md CHANGELOG.md docs/*.md | sed -e 's/](//' -e 's/)$//' | grep -v ':http')
 
 # docs/TRUST.md has a row for each clause of `apply`, and no others.
 sed -n '/^pub fn apply</,/^{/s/^ *ensures \([a-z_]*\) .*/\1/p' "$top/crates/cd_image/src/applying.rt" | sort > clauses

@@ -4,8 +4,9 @@
 # pack DIRECTORY: a tarball of the program, of a copy of the sources in this directory, into `made` there.
 pack() {
     mkdir -p "$1/made"
-    (cd "$top" && cp -r --parents Makefile install.mk README.md CHANGELOG.md docs man completions examples include python tools "$OLDPWD/$1")
+    (cd "$top" && cp -r --parents Makefile install.mk README.md CHANGELOG.md docs man examples include python tools "$OLDPWD/$1")
     cp -r "$library" "$1/library"
+    cp -r "$completions" "$1/completions"
     cp "$program" "$1/cdpatch"
     [ ! -e "$joined/cdscript" ] || cp "$joined/cdscript" "$joined/cdpatch.html" "$1"
     make --no-print-directory -s -C "$1" dist distdir=made > "$1/printed"
@@ -36,7 +37,7 @@ released() {
     judge 'it unpacks into one directory of its own name' test "./$(ls unpacked).tar.gz" = "$name"
     # Neither the toolchain nor the program of these tests is on the path.
     PATH=/usr/bin:/bin make --no-print-directory -s -C unpacked/* install DESTDIR="$PWD/root" PREFIX=/usr
-    make --no-print-directory -s -C "$top" PROGRAM="$program" LIBRARY="$library" JOINED="$joined" install DESTDIR="$PWD/wanted" PREFIX=/usr
+    make --no-print-directory -s -C "$top" PROGRAM="$program" LIBRARY="$library" JOINED="$joined" COMPLETIONS="$completions" install DESTDIR="$PWD/wanted" PREFIX=/usr
     judge 'make install in it installs what make install in the sources does' diff -r wanted root
     judge 'the program is as it was' cmp -s "$program" root/usr/bin/cdpatch
     judge 'the tarball has no file that is not installed, but the Makefile' test \
@@ -48,6 +49,8 @@ released() {
     judge 'nothing that was built, nothing packed' test $? != 0
     make --no-print-directory -s -C one dist distdir=made LIBRARY="$PWD/nothing" 2> log
     judge 'no library that was built, nothing packed' test $? != 0
+    make --no-print-directory -s -C one dist distdir=made COMPLETIONS="$PWD/nothing" 2> log
+    judge 'no completions that were made, nothing packed' test $? != 0
 }
 
 # listed DIRECTORY: its files and links.

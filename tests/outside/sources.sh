@@ -1,4 +1,4 @@
-# The sources: what docs/TRUST.md says is not in the crates, shell scripts as shellcheck reads them, and the paths that pages name.
+# The sources: what docs/TRUST.md says is not in the crates, shell scripts as shellcheck reads them, and the names that pages have.
 
 enter sources
 
@@ -39,21 +39,26 @@ if ! missing shellcheck shellcheck 'the scripts as shellcheck reads them'; then
     head -n 20 found
 fi
 
-# A path of a page is there, from the top or from crates/; one that begins in a crate, in some crate. What make and
-# `make install` leave is no path of the sources.
-made() {
-    case ${1#./} in
-        cdpatch | library | library/* | bench/cd_bench | share/cdpatch/* | */out | */out/*) ;;
-        *) return 1 ;;
-    esac
-}
-is_there() { (cd "$top" && compgen -G "$1" > /dev/null); }
-while IFS=: read -r page path <&3; do
-    made "$path" && continue
-    first=${path%%/*}
-    case $first in
-        src | specs | proofs) judge "$page: a crate has $path" is_there "crates/*/$path" ;;
-        cd_* | cdpatch) [ ! -d "$top/crates/$first" ] || judge "$page: crates/$path is there" is_there "crates/$path" ;;
-        *) [ ! -d "$top/${first:-/nowhere}" ] || [ "$first" = .. ] || judge "$page: $path is there" is_there "$path" ;;
-    esac
-done 3< <(cd "$top" && grep -oE '`[^` ]+/[^` ]*`' README.md docs/*.md | tr -d '`' | sort -u)
+# Each name that a page has in backticks exists; wrong ones are found, in a table and in prose.
+if ! missing python3 python3 'the names in pages'; then
+    names() { (cd "$top" && python3 -B tests/outside/names.py "$@"); }
+    mapfile -t pages < <(cd "$top" && find . \( -name out -o -name .git \) -prune -o -name '*.md' -print | sort)
+    judge 'there are pages to read' test ${#pages[@]} -gt 15
+    names "${pages[@]}" > unknown
+    judge "each name in a page exists: $(head -n 3 unknown | paste -sd ' ')" test $? = 0 -a ! -s unknown
+    cat > wrong.md << 'END'
+# Wrong
+
+The command `make install`, `cdpatch apply IMAGE SCRIPT OUT`, `cdscript find --limit N`, `Effect` of cd_patch, `header_of` of `Consistent`,
+`bytes_in_hand` and `docs/TRUST.md` exist. `make everything`, `cdpatch list --carry`, `cdscript find --everywhere`, `docs/MAP.md`, `src/window.rt`,
+`bytes_to_write` of `Image` and cd_code's `address_of` do not; nor does `made_to_be_wrong`, or `Effect` of cd_code.
+
+| Definition | What |
+|---|---|
+| `Spelled` | nothing |
+END
+    names "$PWD/wrong.md" > found
+    printf 'wrong.md: `%s\n' 'make everything`' 'cdpatch list --carry: --carry`' 'cdscript find --everywhere: --everywhere`' 'docs/MAP.md`' \
+        'src/window.rt`' 'made_to_be_wrong`' 'Spelled`' 'Effect` of cd_code' 'bytes_to_write` of Image' 'address_of` of cd_code' > wanted
+    same 'names that do not exist are found' wanted found
+fi

@@ -40,28 +40,46 @@ cdpatch apply image script -d|
 cdpatch apply -- image script -d|
 END
 
-# in_terminal SHELL FILE: types the lines into the shell, and compares what they become.
+cat > "$scratch/typed_cdscript" << 'END'
+cdscript au|cdscript audit
+cdscript merge --d|cdscript merge --dat
+cdscript find image text --encoding C|cdscript find image text --encoding CP932
+cdscript find image text -o fo|cdscript find image text -o folder/
+cdscript scan image sc|cdscript scan image script
+cdscript merge image image sc|cdscript merge image image script
+cdscript raw image sc|
+cdscript raw image fo|cdscript raw image folder/
+cdscript extract image im|
+cdscript diff --track 2 image im|cdscript diff --track 2 image image
+cdscript replace-file image path sc|cdscript replace-file image path script
+END
+
+# in_terminal SHELL FILE TYPED: types the lines into the shell, and compares what they become.
 in_terminal() {
-    local shell=$1 typed wanted got
-    mkdir "$scratch/typing_$shell"
-    cd "$scratch/typing_$shell" || exit 1
-    mkdir folder "../load_$shell"
+    local shell=$1 typed wanted got name=$1_${2##*/}
+    mkdir "$scratch/typing_$name"
+    cd "$scratch/typing_$name" || exit 1
+    mkdir folder "../load_$name"
     touch image 'an image' script ./-dash.bin
-    cp "$2" "../load_$shell/"
-    sed 's/|.*//' ../typed > lines
-    python3 "$top/tests/outside/terminals.py" "$shell" "$scratch/load_$shell/${2##*/}" < lines > ../became 2> ../errors
+    cp "$2" "../load_$name/"
+    sed 's/|.*//' "../$3" > lines
+    python3 "$top/tests/outside/terminals.py" "$shell" "$scratch/load_$name/${2##*/}" < lines > ../became 2> ../errors
     judge "$shell answers on a terminal: $(tail -n 1 ../errors)" test $? = 0
     while IFS='|' read -r typed wanted <&3 && IFS= read -r got <&4; do
         # A shell may put a space or, to an option with an argument, `=` after what it completed.
         got=${got%"${got##*[! ]}"}
-        [[ $wanted == *--base ]] && got=${got%=}
+        [[ $wanted == *--base || $wanted == *--dat ]] && got=${got%=}
         judge "$shell on a terminal: '$typed' becomes '${wanted:-$typed}', not '$got'" test "$got" = "${wanted:-$typed}"
-    done 3< ../typed 4< ../became
+    done 3< "../$3" 4< ../became
     judge "$shell was asked all" test "$(wc -l < ../became)" = "$(wc -l < lines)"
 }
 
 if ! missing python3 python3 'completions on a terminal'; then
-    in_terminal bash "$top/completions/cdpatch.bash"
-    missing zsh zsh 'the completion for zsh' || in_terminal zsh "$top/completions/_cdpatch"
-    missing fish fish 'the completion for fish on a terminal' || in_terminal fish "$top/completions/cdpatch.fish"
+    for made in "${programs[@]}"; do
+        name=${made##*/} lines=typed
+        [ "$name" = cdpatch ] || lines=typed_$name
+        in_terminal bash "$completions/$name.bash" "$lines"
+        missing zsh zsh 'the completion for zsh' || in_terminal zsh "$completions/_$name" "$lines"
+        missing fish fish 'the completion for fish on a terminal' || in_terminal fish "$completions/$name.fish" "$lines"
+    done
 fi

@@ -130,6 +130,7 @@ class Kept(PageTest):
         self.browser.click('.editor textarea')
         self.browser.press(Keys.ESCAPE)
         self.browser.wait('#panel-script .progress')
+        self.assertNotIn('End the saving?', self.browser.text('#panel-script'))
         self.ends_well(applied(files['game'], files['english'])[2])
 
     def test_escape_in_its_card_asks_before_it_ends_a_saving(self) -> None:
@@ -202,6 +203,18 @@ class Kept(PageTest):
         self.script_text()
         self.assertTrue(self.browser.asks_before_leaving(), 'the texts of Publish are in no patcher')
 
+    def test_a_script_that_is_taken_back_does_not_take_the_panels_with_it(self) -> None:
+        self.open_script(discs.written(english=discs.script())['english'])
+        self.browser.click('.editor textarea')
+        self.browser.press('z', held=Keys.CONTROL)
+        self.browser.wait('#panel-script header h2', 'New script')
+        self.browser.click('#tab-text')
+        self.browser.wait('#panel-text')
+        self.browser.click('#tab-script')
+        self.browser.click('.editor textarea')
+        self.browser.press('y', held=Keys.CONTROL)
+        self.browser.wait('#panel-script header h2', 'english.txt')
+
     def test_an_undo_script_has_the_name_of_its_own_script(self) -> None:
         files = discs.written(game=discs.game(), english=discs.script(), other='cdpatch 1\nrebuild 3\n')
         self.open_image(files['game'])
@@ -273,4 +286,5 @@ class Kept(PageTest):
         self.browser.click('#tab-text')
         self.browser.run('late.forEach(it => it())')
         self.wait_for_hash()
+        self.assertEqual(self.browser.text('#panel-text .say'), '')
         self.assertEqual(self.browser.run('return [document.querySelectorAll("#panel-text .progress").length, document.querySelector("#panel-text .hits")?.checkVisibility() ?? false]'), [0, False])

@@ -104,6 +104,7 @@ class Layout(PageTest):
         self.judge('script')
         self.browser.click('#tab-publish')
         self.browser.wait('#panel-publish', 'tried on this image')
+        self.assertNotIn('the name of the patched image has to', self.browser.text('#panel-publish'))
         self.judge('publish')
 
     def test_a_patcher_with_long_texts_makes_the_page_no_longer(self) -> None:
@@ -119,7 +120,7 @@ class Layout(PageTest):
         self.begin(discs.game())
         for panel in ('disc', 'script'):
             self.browser.click(f'#tab-{panel}')
-            for width, most in ((1280, 2), (900, 2), (640, 3), (360, 4)):
+            for width, most in ((1280, 1), (900, 1), (640, 2), (360, 3)):
                 self.browser.size(width)
                 rows, facts = self.browser.run(FACTS)
                 self.assertLessEqual(rows, most, f'{facts} facts in {rows} rows at {width} on {panel}')

@@ -108,13 +108,17 @@ class Random(PageTest):
 
     # ---- opening
 
+    def another(self) -> str:
+        """The name of an image that is not the second one: only then it is seen when it has come."""
+        return self.dice.choice(sorted(set(self.images) - {self.model.second}))
+
     def give_image(self) -> None:
-        name = self.dice.choice(sorted(self.images))
+        name = self.another()
         self.open_files(self.paths[name])
         self.after_image(name)
 
     def drop_image(self) -> None:
-        name = self.dice.choice(sorted(self.images))
+        name = self.another()
         self.browser.drop('main', [self.paths[name]])
         self.after_image(name)
 

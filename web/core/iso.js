@@ -31,6 +31,8 @@ const NUMBER_IN_SET = 124;
 
 /** What descriptors name in a row: ISO 9660, and UDF with its beginning and end. */
 const STANDARDS = ['CD001', 'BEA01', 'NSR02', 'NSR03', 'TEA01'];
+/** So many sectors are kept: many records may be continued in the same ones, and a browser takes long for each reading. */
+const MOST_KEPT = 4096;
 
 /** Why a track has no volume whose files can be listed. */
 export class VolumeFault extends Fault {}
@@ -49,6 +51,8 @@ export class VolumeReader {
         this.first = 0;
         /** How many places were read in which records are continued. */
         this.areas = 0;
+        /** @type {Map<number, Uint8Array>} the user data of sectors that were read one by one */
+        this.kept = new Map();
     }
 
     /** @param {number} extent */
@@ -72,8 +76,13 @@ export class VolumeReader {
      * @param {number} count
      */
     async user(extent, count) {
-        const bytes = await readBytes(this.reader, (extent - this.first) * SECTOR_SIZE, count * SECTOR_SIZE);
-        return joinedUser(bytes);
+        const index = extent - this.first;
+        const known = this.kept.get(index);
+        if (count === 1 && known) return known;
+        const user = joinedUser(await readBytes(this.reader, index * SECTOR_SIZE, count * SECTOR_SIZE));
+        if (this.kept.size === MOST_KEPT) this.kept.clear();
+        if (count === 1) this.kept.set(index, user);
+        return user;
     }
 
     /**

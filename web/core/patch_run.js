@@ -15,8 +15,9 @@ import { ReadAhead } from './read_ahead.js';
  * @typedef {{ base: number, carry?: boolean, withoutOld?: boolean }} How
  */
 
-/** So many bytes of neighbouring sectors go out in one piece. */
+/** So many bytes of neighbouring sectors go out in one piece, and so few between them with them, if they were read too. */
 const JOINED_SIZE = 1 << 19;
+const NEAR_SIZE = 1 << 14;
 
 /** Joins what goes out, in order, to pieces: sectors that were read, and slices of the image. */
 class JoinedPieces {
@@ -75,8 +76,10 @@ export async function runScript(calls, reader, script, { base, carry = false, wi
             if (kind === STEP.READ) {
                 const bytes = ahead.here(at, size) || await ahead.read(at, size);
                 calls.runBytes(run, step).set(bytes);
-            } else if (kind === STEP.COPY) await out.keep(size);
-            else if (kind === STEP.WRITE) await out.put(calls.runBytes(run, step));
+            } else if (kind === STEP.COPY) {
+                const bytes = size <= NEAR_SIZE ? ahead.here(at, size) : null;
+                await (bytes === null ? out.keep(size) : out.put(bytes));
+            } else if (kind === STEP.WRITE) await out.put(calls.runBytes(run, step));
             else if (kind === STEP.LOG) log(step, calls.runBytes(run, step));
             else {
                 const piece = out.cut();

@@ -12,8 +12,8 @@ import { PANELS } from './state.js';
 export function mountFrame(app) {
     oneStop(byId('tabs'), '[role=tab]', tab => app.showPanel(panelOfTab(tab)));
     for (const name of PANELS) byId(`tab-${name}`).addEventListener('click', () => app.showPanel(name));
-    app.on('panel', () => showPanels(app));
-    app.on('image', () => showPanels(app));
+    const frame = { started: false };
+    for (const name of /** @type {const} */ (['panel', 'image'])) app.on(name, () => showPanels(app, frame));
     byId('home').addEventListener('click', () => app.showPanel('disc'));
     document.addEventListener('keydown', pressed);
 }
@@ -27,11 +27,13 @@ function panelOfTab(tab) {
 }
 
 /**
- * Shows the chosen panel. If no image is open the start stands in place of the Disc panel, and of all if there is no script either.
+ * Shows the chosen panel. If no image is open the start stands in place of the Disc panel, and of all until there is a script or an image.
  * @param {App} app
+ * @param {{ started: boolean }} frame
  */
-function showPanels(app) {
-    const started = app.image !== null || app.script.text !== '' || app.script.name !== '';
+function showPanels(app, frame) {
+    frame.started = frame.started || app.image !== null || app.script.text !== '' || app.script.name !== '';
+    const { started } = frame;
     byId('start').hidden = app.image !== null || (started && app.panel !== 'disc');
     byId('tabs').hidden = !started;
     byId('open-other').hidden = !started;

@@ -20,8 +20,8 @@ import { showPlayer } from './show_player.js';
 /** @typedef {import('./dom.js').Child} Child */
 /** @typedef {import('./publish_try.js').Tried} Tried */
 
-const NAME_RULE = 'the name of the patched image has to end in .bin, .img or .iso, without hidden characters and without ' +
-    '\\ / : * ? " < > |';
+const NAME_RULE = 'the name of the patched image has to end in .bin, .img or .iso, with at most 120 characters before that, ' +
+    'without hidden ones and without \\ / : * ? " < > |';
 /** A browser may send what is typed to a service that checks its spelling. */
 const PRIVATE = { autocomplete: 'off', spellcheck: 'false' };
 

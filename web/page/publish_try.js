@@ -23,9 +23,13 @@ import { blobOfPieces, patchedName } from './save.js';
  * @param {string} name of the image
  */
 export function proposedName(name) {
-    const own = patchedName(name);
-    return isImageName(own) ? own : patchedName(stemOf(name), 'patched', '.bin');
+    const stem = stemOf(name).replace(/\.[^.]*$/, '').slice(0, LONGEST_PROPOSED).replace(/[\uD800-\uDBFF]$/, '');
+    const names = [patchedName(name), patchedName(stemOf(name), 'patched', '.bin'), patchedName(stem, 'patched', '.bin')];
+    return names.find(isImageName) || names[1];
 }
+
+/** So many characters of an image's name are taken into that of the patched one if it is too long. */
+const LONGEST_PROPOSED = 100;
 
 /**
  * Tries the script on the image.

@@ -7,6 +7,7 @@ import { SECTOR_SIZE } from '../core/sector.js';
 import { readBytes } from '../core/bytes.js';
 import { sha1Of } from './crew.js';
 import { askBeforeLeaving, button, counted, countOf, element, fill, hashParts, keepFocus, term } from './dom.js';
+import { MARK } from './marks.js';
 import { nameOf, shownName } from './names.js';
 import { pieceReader } from './piece_reader.js';
 import { jobBar, runAt } from './progress.js';
@@ -14,7 +15,6 @@ import { fileReader } from './reading.js';
 import { patchedName } from './save.js';
 import { failureOfSaving } from './save_card.js';
 import { savePieces } from './save_pieces.js';
-import { MARK } from './marks.js';
 import { messageOf, notice } from './say.js';
 import { repairMarks } from './second_marks.js';
 import { writeScript } from './second_script.js';
@@ -107,7 +107,8 @@ export class SecondRepair {
             this.marks.setRuns(repair.taken, 0);
             this.marks.setRuns(unrepaired, 1);
         }
-        fill(this.body, ...repair.refused ? [refusal(repair)] : this.foundWords(repair, pieces, blocksIn(unrepaired)));
+        const words = repair.refused ? [refusal(repair)] : this.foundWords(repair, pieces, blocksIn(unrepaired));
+        keepFocus(this.body, () => fill(this.body, ...words));
         this.changed();
     }
 

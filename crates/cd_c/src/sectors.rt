@@ -3,7 +3,7 @@
 ghost use Rattle.std.specs.Prelude.{◌≡◌, ℕ, ◌++◌, ◌≤◌, ◌<◌, ◌↔◌, [], ◌∷◌, IsTrue, List, Some, None, count_by, false, slice_index, true};
 ghost use Rattle.std.specs.List.{list_any};
 ghost use Rattle.cd_code.specs.Edc.{IsEdc};
-ghost use Rattle.cd_sector.specs.Address.{address};
+ghost use Rattle.cd_sector.specs.Address.{address, last_block};
 ghost use Rattle.cd_sector.specs.CodeWords.{AllCodeWords};
 ghost use Rattle.cd_sector.specs.Consistent.{IsConsistent, consistent, header_of, user_of};
 ghost use Rattle.cd_sector.specs.Defect.{defect_of, is_broken, is_nonzero};
@@ -12,8 +12,8 @@ ghost use Rattle.cd_c.specs.Results.{as_byte};
 
 use cd_code::edc_of;
 use cd_sector::{
-    MAX_BLOCK, Sector, SectorKind, USER_SIZE, address_of, defect, encode_into, fill_parity,
-    is_consistent, kind,
+    Sector, SectorKind, USER_SIZE, address_of, defect, encode_into, fill_parity, is_consistent,
+    kind,
 };
 
 /// Which parts of a sector are wrong, as C's `struct cdpatch_defect`. Its two `bool`s are bytes 0
@@ -60,7 +60,7 @@ pub extern "C" fn cdpatch_address(block: u32, bcd: &mut [u8; 3]) -> bool
     ensures value { result ≡ true → address block ≡ Some bcd.new }
     ensures none { result ≡ false → address block ≡ None }
     ensures stays { result ≡ false → bcd.new ≡ bcd.old }
-    ensures some { block ≤ MAX_BLOCK ↔ IsTrue result }
+    ensures some { block ≤ last_block ↔ IsTrue result }
 {
     match address_of(block) {
         Some(address) => {

@@ -1,5 +1,5 @@
 -- How much room is enough for the text of `list` and of `audit`. The numbers are those of `cdpatch.h`;
--- the law is a contract of `laws.rt`.
+-- the law is a contract of `short_texts.rt`.
 use Rattle.std.specs.Prelude.{ℕ, ◌+◌, ◌*◌, ◌/◌, ◌≤◌, List, length}
 use Rattle.cd_sector.specs.Image.{base_limit, image_limit}
 use Rattle.cd_report.specs.AuditText.{audit_text}

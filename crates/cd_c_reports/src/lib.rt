@@ -6,6 +6,6 @@
 //! that.
 #![tactic(auto)]
 
-mod laws;
 mod log_lines;
 mod reports;
+mod short_texts;

@@ -86,7 +86,7 @@ pub extern "C" fn cdpatch_outcome_line(
     ensures line { IfSome (outcome_of outcome block offset)
         (λ o. take result text.new ≡ outcome_line number o) }
     ensures rest { drop result text.new ≡ drop result text.old }
-    ensures within { result ≤ LINE_SIZE }
+    ensures within { result ≤ 96 }
     ensures none { result ≡ 0 ↔ outcome_of outcome block offset ≡ None }
     ensures stays { result ≡ 0 → text.new ≡ text.old }
 {
@@ -102,7 +102,7 @@ pub extern "C" fn cdpatch_outcome_line(
 pub extern "C" fn cdpatch_last_line(applied: u32, refused: u32, text: &mut [u8; LINE_SIZE]) -> usize
     ensures line { take result text.new ≡ counts_line applied refused }
     ensures rest { drop result text.new ≡ drop result text.old }
-    ensures within { result ≤ LINE_SIZE }
+    ensures within { result ≤ 96 }
     ensures some { 0 < result }
 {
     write_line(&counts_line(applied, refused), text)
@@ -116,7 +116,7 @@ pub extern "C" fn cdpatch_fault_line(number: u32, fault: u32, text: &mut [u8; LI
     ensures line { IfSome (fault_of fault number)
         (λ f. take result text.new ≡ script_fault_line f) }
     ensures rest { drop result text.new ≡ drop result text.old }
-    ensures within { result ≤ LINE_SIZE }
+    ensures within { result ≤ 96 }
     ensures none { result ≡ 0 ↔ fault_of fault number ≡ None }
     ensures stays { result ≡ 0 → text.new ≡ text.old }
 {

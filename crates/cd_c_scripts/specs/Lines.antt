@@ -35,34 +35,6 @@ fault_number (fault.Address line) = 11
 fault_number (fault.TooMany line) = 12
 fault_number fault.NoMemory = 13
 
--- the line of a fault
-abbrev pub line_of : ScriptFault → ℕ
-line_of (fault.Head line) = line
-line_of (fault.Verb line) = line
-line_of (fault.Words line) = line
-line_of (fault.Number line) = line
-line_of (fault.Hex line) = line
-line_of (fault.Length line) = line
-line_of (fault.Offset line) = line
-line_of (fault.Address line) = line
-line_of (fault.TooMany line) = line
-line_of fault.NoMemory = 0
-
--- the fault of a number, in this line: the ten in their order, from 4 on
-abbrev pub fault_of : ℕ → ℕ → Option ScriptFault
-fault_of number line =
-    if number == 4 then Some (fault.Head line)
-    else if number == 5 then Some (fault.Verb line)
-    else if number == 6 then Some (fault.Words line)
-    else if number == 7 then Some (fault.Number line)
-    else if number == 8 then Some (fault.Hex line)
-    else if number == 9 then Some (fault.Length line)
-    else if number == 10 then Some (fault.Offset line)
-    else if number == 11 then Some (fault.Address line)
-    else if number == 12 then Some (fault.TooMany line)
-    else if number == 13 then Some fault.NoMemory
-    else None
-
 -- the number of what a line says
 abbrev pub content_number : LineContent → ℕ
 content_number content.PassedOver = 0

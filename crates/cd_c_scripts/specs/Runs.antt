@@ -2,6 +2,7 @@
 -- moved.
 use Rattle.std.specs.Prelude.{◌≡◌, ℕ, ◌+◌, ◌-◌, ◌*◌, ◌==◌, ◌<◌, ◌≤◌, ◌⊎◌, ◌++◌, nat_lt, Bool, true, false, List, [], ◌∷◌, Option, None, Some, length, take, drop, if◌then◌else◌}
 use Rattle.std.specs.List.{slice_get, slice_index_or}
+use Rattle.cd_script.specs.FaultNumbers.{fault_of}
 use Rattle.cd_script.specs.Patch.{IsPatchList}
 use Rattle.cd_script.specs.PatchForm.{Patch}
 use Rattle.cd_script.specs.declared.fault.ScriptFault.{ScriptFault}
@@ -21,7 +22,7 @@ use Rattle.cd_run.specs.declared.run.Step.TheVariants.{Copy, Read, Decide, Send,
 use Rattle.cd_c_scripts.specs.Entries.{AreEntries}
 use Rattle.cd_c_scripts.specs.Flags.{carries, copies}
 use Rattle.cd_c_scripts.specs.InOrder.{Begins, IsInOrder, logged_by}
-use Rattle.cd_c_scripts.specs.Lines.{fault_of, version_of}
+use Rattle.cd_c_scripts.specs.Lines.{version_of}
 use Rattle.cd_c_scripts.specs.Outcomes.{outcome_block, outcome_number, outcome_offset}
 use Rattle.cd_c_scripts.specs.StepKinds.{copy_kind, end_kind, log_kind, read_kind, write_kind}
 use Rattle.cd_c_scripts.specs.StepRooms.{line_room}

@@ -1,8 +1,9 @@
 //! The call of C that reads a line of a script.
 
 ghost use Rattle.std.specs.Prelude.{◌≡◌, ◌≢◌, ◌<◌, IfSome, Some};
+ghost use Rattle.cd_script.specs.FaultNumbers.{line_of};
 ghost use Rattle.cd_c_scripts.specs.FlatPatch.{IsSomePatch, flat_patch, new_of, old_of, record_of, with_front};
-ghost use Rattle.cd_c_scripts.specs.Lines.{answer_number, content_number, fault_number, line_of, line_read, patch_read, version_of};
+ghost use Rattle.cd_c_scripts.specs.Lines.{answer_number, content_number, fault_number, line_read, patch_read, version_of};
 
 use crate::flat_patch::FlatPatch;
 use crate::lending::lend_patch;

@@ -1,12 +1,12 @@
 //! The steps that a run tells, one by one.
 
 ghost use Rattle.std.specs.Prelude.{◌≡◌, ◌+◌, ◌-◌, ◌*◌, ◌<◌, ◌≤◌, ◌⊎◌, length, take};
+ghost use Rattle.cd_script.specs.FaultNumbers.{fault_of};
 ghost use Rattle.cd_sector.specs.Image.{sector_limit};
 ghost use Rattle.cd_run.specs.PatchLog.{outcome_line};
 ghost use Rattle.cd_run.specs.Running.{IsRun};
 ghost use Rattle.cd_run.specs.Steps.{IsReady};
 ghost use Rattle.cd_run.specs.declared.run.Step.TheVariants.{Copy};
-ghost use Rattle.cd_c_scripts.specs.Lines.{fault_of};
 ghost use Rattle.cd_c_scripts.specs.Outcomes.{outcome_block, outcome_number, outcome_offset};
 ghost use Rattle.cd_c_scripts.specs.Runs.{error_line, status_of};
 

@@ -138,7 +138,11 @@ export class CandidateFinder {
         known.covered = Math.max(end, at + 1);
         const least = 4 * (SURE - LESS);
         if (score < least - 4 * (ZERO_AFTER + ZERO_BEFORE)) return null;
-        if (!three && ((!own && isSmooth(bytes, start, end)) || isMonotonous(bytes, start, end))) return null;
+        if (!three && ((!own && isSmooth(bytes, start, end)) || isMonotonous(bytes, start, end))) {
+            // After a picture a text may stand.
+            known.covered = Math.min(known.covered, at + EXTENDED);
+            return null;
+        }
         const reached = extended(scores, bytes, start, end, known.end);
         const after = isZero(scores, bytes, reached.end);
         const before = reached.start === 0 || isZero(scores, bytes, reached.start - (scores.wide ? 2 : 1));

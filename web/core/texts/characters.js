@@ -4,6 +4,9 @@ import { Fault } from '../faults.js';
 
 const NO_CHARACTER = '\uFFFD';
 
+/** A long text is joined by so many characters, which take more memory as long as they stand by themselves. */
+const PIECE = 1 << 12;
+
 /** Why a text has no bytes, or a table can't be read. */
 export class TextFault extends Fault {
     /**
@@ -157,13 +160,17 @@ export class CharacterTable {
      * @param {Uint8Array} bytes
      */
     text(bytes) {
-        let text = '';
+        /** @type {string[]} */
+        const pieces = [];
+        /** @type {string[]} */
+        const characters = [];
         for (let at = 0; at < bytes.length;) {
-            const character = this.characterAt(bytes, at);
-            text += character.text;
-            at += character.size;
+            const { size, text } = this.characterAt(bytes, at);
+            characters.push(text);
+            at += size;
+            if (characters.length === PIECE) pieces.push(characters.splice(0).join(''));
         }
-        return text;
+        return pieces.join('') + characters.join('');
     }
 }
 

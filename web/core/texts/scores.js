@@ -29,6 +29,7 @@ const ALL_KINDS = 10;
 
 /** A character of the table without its place in it, by the rows of CP932: signs, the usual kanji, the others, Windows' own. */
 const RARE = [[0x8900, -24], [0x9873, -4], [0xED00, -20], [0x10000, -28]];
+export const USUAL_KANJI = -4;
 
 /** Two neighbours of a text have this score each at least, and so much together. */
 const STRONG = 8;
@@ -41,7 +42,7 @@ function kindOf(code) {
     if (code >= 0x3041 && code <= 0x309F) return 1;
     if (code >= 0x30A0 && code <= 0x30FF) return 2;
     if ((code >= 0x4E00 && code < 0xA000) || code === 0x3005) return KANJI;
-    return /[０-９Ａ-Ｚａ-ｚ]/.test(String.fromCharCode(code)) ? 5 : 4;
+    return [0xFF10, 0xFF21, 0xFF41].some((first, i) => code >= first && code <= first + (i > 0 ? 25 : 9)) ? 5 : 4;
 }
 
 /** The score of each character of Unicode's first plane. */

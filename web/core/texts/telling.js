@@ -1,6 +1,6 @@
 // Which bytes of a stretch of a disc are texts, told from code, pictures and sound by how likely they are Japanese.
 
-import { ASCII, BAD, allScores } from './scores.js';
+import { ASCII, BAD, KANJI, USUAL_KANJI, allScores } from './scores.js';
 import { CandidateFinder, SURE, isZero } from './candidates.js';
 import { codeOfThree } from './best_path.js';
 
@@ -15,6 +15,10 @@ const REACH_WITHOUT_ZERO = 4;
 const BETWEEN = 8;
 const LEAST_BESIDE = 4;
 const LONGEST_BESIDE = 256;
+
+/** What kanji score there at least, in quarter bits: a table of names has many that stand in no sentence. */
+const KANJI_BESIDE = 8;
+const RARE_BESIDE = -8;
 
 /** A text in another encoding than most of its file has to have so many bits more, and most is this share. */
 const FOREIGN = 8;
@@ -94,7 +98,7 @@ function acceptedOf(candidates) {
 }
 
 /**
- * The bits of bytes as a text, or -1 if they are none or have no wide character.
+ * The bits of bytes as a text beside another one, or -1 if they are none or have no wide character.
  * @param {Scores} scores
  * @param {Uint8Array} bytes
  * @param {number} start
@@ -105,7 +109,7 @@ function bitsOf({ wide, three, one, oneKind, pair, pairKind }, bytes, start, end
     for (let at = start; at < end;) {
         const code = three ? codeOfThree(bytes, at, end) : at + 1 < end ? bytes[at] << 8 | bytes[at + 1] : 0;
         if (code > 0 && pair[code] !== BAD) {
-            sum += pair[code];
+            sum += pairKind[code] === KANJI ? Math.max(pair[code], pair[code] < USUAL_KANJI ? RARE_BESIDE : KANJI_BESIDE) : pair[code];
             count += Number(pairKind[code] < ASCII);
             at += three ? 3 : 2;
         } else if (!wide && one[bytes[at]] !== BAD) {
