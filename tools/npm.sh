@@ -17,7 +17,7 @@ tsc -p web --noEmit false --declaration --emitDeclarationOnly --outDir "$scratch
 cp "$scratch/types/npm/cdpatch.d.ts" web/npm/README.md web/npm/example.html "$library"/{cdpatch.wasm,NOTICES} "$scratch/package"
 # npm starts a command by the first line, on all systems.
 { echo '#!/usr/bin/env node'; sed "1,/^\*\/;$/d" "$cdscript"; } > "$scratch/package/cdscript.cjs"
-chmod 755 "$scratch/package/cdscript.cjs"
+chmod +x "$scratch/package/cdscript.cjs"
 cat > "$scratch/package/package.json" << END
 {
     "name": "cdpatch",
@@ -34,6 +34,7 @@ cat > "$scratch/package/package.json" << END
     "license": "$([ -f LICENSE ] && sed -n 's/^licence: *//p' tools/owner.txt || echo UNLICENSED)"
 }
 END
+chmod -R u=rwX,go=rX "$scratch/package"
 name=cdpatch-$version.tgz
 tar -C "$scratch" --format=ustar --sort=name --mtime="@${SOURCE_DATE_EPOCH:-0}" --owner=0 --group=0 --numeric-owner -cf - package |
     gzip -9n > "$directory/$name"

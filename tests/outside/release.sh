@@ -4,7 +4,7 @@
 # pack DIRECTORY: a tarball of the program, of a copy of the sources in this directory, into `made` there.
 pack() {
     mkdir -p "$1/made"
-    (cd "$top" && cp -r --parents Makefile install.mk README.md CHANGELOG.md docs man examples include python tools "$OLDPWD/$1")
+    (cd "$top" && cp -r --parents Makefile install.mk README.md CHANGELOG.md docs man examples include python tools web "$OLDPWD/$1")
     cp -r "$library" "$1/library"
     cp -r "$completions" "$1/completions"
     cp "$program" "$1/cdpatch"
@@ -22,7 +22,6 @@ released() {
     local name
     name=$(cd one/made && ls ./*.tar.gz)
     judge 'the tarball has the version in its name' test "$name" = "./cdpatch-$(cdpatch --help | sed -n '$s/cdpatch //p')-x86_64-linux.tar.gz"
-    rm 'another place/made/log' 2> /dev/null
     judge 'two directories give the same bytes' diff -r one/made 'another place/made'
     (umask 000 && make --no-print-directory -s -C 'another place' dist distdir=made > log)
     judge 'nobody else may write what is packed' test -z "$(find 'another place/made' -type f -perm /022)"
