@@ -13,7 +13,8 @@ trap 'rm -rf "$scratch"' EXIT
 mkdir "$scratch/package"
 esbuild web/npm/cdpatch.js --bundle --format=esm --platform=neutral --target=es2022 --external:node:fs/promises --charset=utf8 \
     --legal-comments=none --log-level=warning --outfile="$scratch/package/cdpatch.js"
-tsc -p web --noEmit false --declaration --emitDeclarationOnly --outDir "$scratch/types"
+tsc --allowJs --strict --declaration --emitDeclarationOnly --target es2022 --module es2022 --moduleResolution node --lib es2022,dom \
+    --outDir "$scratch/types" web/npm/cdpatch.js web/npm/node.d.ts
 cp "$scratch/types/npm/cdpatch.d.ts" web/npm/README.md web/npm/example.html "$library"/{cdpatch.wasm,NOTICES} "$scratch/package"
 # npm starts a command by the first line, on all systems.
 { echo '#!/usr/bin/env node'; sed "1,/^\*\/;$/d" "$cdscript"; } > "$scratch/package/cdscript.cjs"

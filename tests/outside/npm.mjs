@@ -33,7 +33,7 @@ for (const [name, bytes] of [['disc.bin', sound], ['damaged.bin', damaged]]) {
 }
 const sectors = await cdpatch.survey(damaged, { base: 7 });
 assert.equal(sectors.length, 8);
-assert.deepEqual(sectors[3], { block: 10, kind: 'mode1', address: sectors[3].address, zeros: true, edc: false, p: 1, q: 2 });
+assert.deepEqual(sectors[3], { block: 10, kind: 'mode1', address: true, zeros: true, edc: false, p: 1, q: 1 });
 assert.notEqual(sectors[5].p, 0);
 
 const script = 'cdpatch 1\nfill 7 2000 40 AA\nset 3 5 0102\nset 1 5 0102 was 0505\n# end\nset 0 2047 FFFF\n';
