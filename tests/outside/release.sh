@@ -96,17 +96,19 @@ packaged_for_pip() {
 packaged_for_npm() {
     missing npm npm 'the package for npm' && return
     missing tsc node-typescript 'the package for npm' && return
-    mkdir npm
-    cp disc.bin npm
-    sed -n '/^```js$/,/^```$/p' "$top/web/npm/README.md" | sed '1d;$d' > npm/readme.mjs
-    sed -n '/^```text$/,/^```$/p' "$top/web/npm/README.md" | sed '1d;$d' > npm/wanted
-    cp "$top/tests/outside/npm.mjs" "$top/tests/outside/npm.ts" npm
+    mkdir -p npm/readme
+    cp disc.bin "$top/tests/outside/npm.mjs" "$top/tests/outside/npm.ts" npm
     (cd npm && npm install --offline --no-audit --no-fund ../one/made/cdpatch-*.tgz > log 2>&1)
     judge 'npm installs the package' test -f npm/node_modules/cdpatch/cdpatch.wasm
-    (cd npm && node readme.mjs > got 2>&1)
-    same "its README's example prints what it says" npm/wanted npm/got
-    judge 'and makes what the program makes' eval "printf 'cdpatch 1\nset 16 1395 48656C6C6F was 0000000000\n' > npm/script; \
-        cdpatch apply npm/disc.bin npm/script npm/wanted.bin > log; cmp -s npm/wanted.bin npm/new.bin"
+    sed -n '/^```js$/,/^```$/p' "$top/web/npm/README.md" | sed '1d;$d' > npm/readme/readme.mjs
+    sed -n '/^```text$/,/^```$/p' "$top/web/npm/README.md" | sed '1d;$d' > npm/readme/wanted
+    head -c $((2048 * 20)) /dev/zero > npm/zeros
+    "$joined/cdscript" raw npm/zeros npm/readme/disc.bin
+    printf '%s\n' 'cdpatch 1' 'set 16 1395 48656C6C6F was 0000000000' > npm/script
+    (cd npm/readme && node readme.mjs > got 2>&1)
+    same "its README's example prints what it says" npm/readme/wanted npm/readme/got
+    cdpatch apply npm/readme/disc.bin npm/script npm/wanted.bin > log
+    judge 'and makes what the program makes' cmp -s npm/wanted.bin npm/readme/new.bin
     judge 'all calls of the package agree with the program' eval '(cd npm && node npm.mjs "$(command -v cdpatch)")'
     judge 'its types are those that a program in TypeScript sees' tsc --noEmit --strict --target es2022 --module es2022 \
         --moduleResolution node --lib es2022,dom npm/npm.ts
