@@ -54,12 +54,19 @@ const HOSTILE = {
 
 for (const [why, texts] of Object.entries(HOSTILE)) {
     test(`a list is refused: ${why}`, async () => {
-        const before = process.cpuUsage();
         for (const text of texts) await assert.rejects(known(text), { message: why });
-        const { user, system } = process.cpuUsage(before);
-        assert.ok(user + system < 4e6, `${(user + system) / 1e6} s`);
     });
 }
+
+test('a list is read no further than its fault', async () => {
+    let read = 0;
+    async function* endless() {
+        yield encoded('<datafile>');
+        for (;; read++) yield encoded('<a>'.repeat(1000));
+    }
+    await assert.rejects(new KnownDumps().add(endless()), { message: 'its elements are more than 16 deep' });
+    assert.strictEqual(read, 0);
+});
 
 test('a list of 100 MB is read in bounded memory', async () => {
     const games = encoded(rom('Game.bin').repeat(5000));
