@@ -142,7 +142,7 @@ def calls_of(crate: str) -> Iterator[Call]:
             found = FUNCTION.match(lines[place])
             if found and (found.group(2) or trait and found.group(1)):
                 name = (f'{owner}::' if found.group(1) else '') + found.group(3)
-                if name.split('::')[0] in known or 'extern "C"' in lines[place] or file.stem == 'laws':
+                if name.split('::')[0] in known or 'extern "C"' in lines[place] or file.stem == 'laws' or lines[0].startswith('//! Laws'):
                     taken = signature(lines, place, found.group(1))
                     doc = comment_above(bare, place, ' *///') or (f'As `{trait}::{found.group(3)}`' if trait not in ('', owner) else '')
                     yield Call(name, doc, clauses_in(taken, 'ensures'),
