@@ -5,6 +5,7 @@
 set -u
 . "$(dirname "$0")/helpers.sh"
 header=$top/include/cdpatch.h
+library=$top/library
 largest=210000 # bytes of a module
 runs=${RUNS:-500}
 long_runs=${LONG_RUNS:-4}
@@ -41,8 +42,10 @@ test_runs() {
         skip "runs of patches by the WebAssembly modules, which want gcc (Debian's packages gcc and libc6-dev)"
         return
     fi
-    [ -x run_cases ] || gcc -O2 -std=gnu11 -Wall -Wextra -Werror -I "$top/include" "$tests/library/run_cases.c" "$top/library/libcdpatch.a" \
-        -o run_cases 2> errors
+    if [ ! -x run_cases ]; then
+        [ -e "$library/libcdpatch.a" ] || { library=$PWD/library && bash "$top/tools/library.sh" "$library"; }
+        gcc -O2 -std=gnu11 -Wall -Wextra -Werror -I "$top/include" "$tests/library/run_cases.c" "$library/libcdpatch.a" -o run_cases 2> errors
+    fi
     judge "$runs runs of patches, and $long_runs over long images, by ${1##*/}" holds by_runs "$1" "$runs" "$long_runs"
 }
 

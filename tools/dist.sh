@@ -60,8 +60,8 @@ if command -v python3 > /dev/null; then
 else
     echo 'There is no python3, so no wheel is made.' >&2
 fi
-if [ ! -f "$joined/cdscript" ] || ! command -v tsc > /dev/null; then
-    echo 'There is no cdscript, or no tsc, so no package for npm is made.' >&2
+if [ ! -f "$joined/cdscript" ] || [ ! -f "$library/cdpatch.wasm" ] || ! command -v tsc > /dev/null; then
+    echo 'There is no cdscript, no module or no tsc, so no package for npm is made.' >&2
 else
     made+=("$(bash tools/npm.sh "$library" "$joined/cdscript" "${version#cdpatch }" "$directory")")
 fi

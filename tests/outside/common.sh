@@ -6,7 +6,11 @@ ln -s "$program" "$scratch/bin/cdpatch"
 PATH=$scratch/bin:$PATH
 export HOME=$scratch
 library=$top/library
-[ -e "$library/libcdpatch.a" ] || { library=$scratch/library && bash "$top/tools/library.sh" "$library"; }
+if [ ! -e "$library/libcdpatch.a" ]; then
+    library=$scratch/library
+    bash "$top/tools/library.sh" "$library"
+    [ ! -e "$top/library/cdpatch.wasm" ] || cp "$top"/library/cdpatch{,-wasm64}.wasm "$library"
+fi
 # Where cdscript and cdpatch.html are, if there is a module to make them of.
 joined=$top
 if [ ! -e "$joined/cdscript" ] && [ -e "$top/library/cdpatch.wasm" ] && command -v esbuild > /dev/null; then

@@ -149,11 +149,11 @@ if ! missing make make 'the pages of the tarball'; then
     cd "$scratch/from_tarball" || exit 1
     COMPLETIONS=$completions bash "$top/tools/dist.sh" "$program" "$library" "$joined" . > checksum
     tar -xzf ./*.tar.gz
-    rm -f ./*.tar.gz* cdscript.js* cdpatch.html*
-    make --no-print-directory -s -C cdpatch-* > said
+    rm -f ./*.* 2> /dev/null
+    make --no-print-directory -s -C cdpatch-*-linux > said
     judge 'make in the tarball installs nothing' test "$(cat said)" = 'Everything is built: make install installs it.'
-    make --no-print-directory -s -C cdpatch-* install PREFIX="$PWD/prefix"
-    rm -r cdpatch-*
+    make --no-print-directory -s -C cdpatch-*-linux install PREFIX="$PWD/prefix"
+    rm -r cdpatch-*-linux
     installed=$PWD/prefix
     path=$PATH
     # The tools that the pages name, those that every system has, and the shell.

@@ -43,7 +43,7 @@ released() {
         "$(find unpacked -type f | wc -l)" = "$(($(find root -type f | wc -l) + 1))"
     packaged_for_debian
     packaged_for_pip
-    [ ! -e one/made/cdscript.js ] || packaged_for_npm
+    [ ! -e one/made/cdscript.js ] || [ ! -e "$library/cdpatch.wasm" ] || packaged_for_npm
     make --no-print-directory -s -C one dist distdir=made PROGRAM="$PWD/nothing" 2> log
     judge 'nothing that was built, nothing packed' test $? != 0
     make --no-print-directory -s -C one dist distdir=made LIBRARY="$PWD/nothing" 2> log
