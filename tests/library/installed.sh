@@ -9,8 +9,9 @@ with_package() {
 
 # Installs a tarball below root/usr, as a package does, with neither the toolchain nor the sources.
 install_tarball() {
-    mkdir tarball
-    bash "$top/tools/dist.sh" "$program" library . tarball > checksum 2> log
+    mkdir tarball completions
+    : | tee completions/{_cdpatch,cdpatch.bash} > completions/cdpatch.fish
+    COMPLETIONS=$PWD/completions bash "$top/tools/dist.sh" "$program" library . tarball > checksum 2> log
     tar -C tarball -xzf tarball/*.tar.gz
     PATH=/usr/bin:/bin make --no-print-directory -s -C tarball/*linux install DESTDIR="$PWD/root" PREFIX=/usr
     rm -r tarball/*linux
