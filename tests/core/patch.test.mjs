@@ -224,7 +224,7 @@ test('the bytes of pieces', async () => {
 });
 
 test('several patchings at the same time by the same calls', async () => {
-    const texts = [20, 21, 22].map(seed => someScript(diceOf(seed), 300, BASE, 2600));
+    const texts = [300, 30, 150].map((count, i) => someScript(diceOf(20 + i), count, BASE, 2600));
     const scripts = await Promise.all(texts.map(text => readScript(calls, [text])));
     const due = await Promise.all(texts.map(text => plainly(text, image, BASE, true)));
     const own = newCalls();

@@ -27,7 +27,9 @@ test('a sentence in noise is found in each encoding, at its place', () => {
 
 test('random bytes, sound, and one character over and over are no texts', () => {
     assert.deepEqual(found(noise(1 << 22, 3)), []);
-    for (const text of ['ああああ', 'あいうえ'.repeat(8)]) assert.deepEqual(found(Buffer.concat([Buffer.alloc(4), bytesOf('CP932', text), Buffer.alloc(4)])), []);
+    for (const [name, text] of [['CP932', 'ああああ'], ['CP932', 'あいうえ'.repeat(8)], ['UTF-8', 'ああああ']]) {
+        assert.deepEqual(found(Buffer.concat([Buffer.alloc(4), bytesOf(name, text), Buffer.alloc(4)])), [], `${name} ${text}`);
+    }
     assert.deepEqual(found(Buffer.from(Int16Array.from({ length: 1 << 18 }, (_, i) => 12000 * Math.sin(i / 30)).buffer)), []);
 });
 
