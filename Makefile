@@ -1,5 +1,5 @@
 # What `make` can do: `make help` prints the targets, which are the lines with ## here. docs/INSTALL.md says what each needs.
-.PHONY: all help check quick test test-outside bench wasm web pages map contracts audit clean
+.PHONY: all help check quick test test-outside mutants fuzz bench wasm web pages map contracts audit clean
 
 # Goals come one after the other, as they are given. Crates are proved side by side, at most as many as `make -j N` says.
 .NOTPARALLEL:
@@ -36,6 +36,7 @@ else
 endif
 	cp crates/cdpatch/out/cdpatch cdpatch
 	bash tools/library.sh library
+	@python3 -B tools/header_numbers.py
 	@$(if $(DOORS),bash tools/web.sh library .)
 	@python3 -B tools/options.py completions completions ./cdpatch $(if $(DOORS),./cdscript)
 	@bash tools/made.sh $(MODULES) $(DOORS)
@@ -54,6 +55,7 @@ wasm:                       ## prove and make the WebAssembly modules
 web: wasm                   ## make cdscript and cdpatch.html, and the modules in them
 	@[ -n '$(DOORS)' ] || { echo "cdscript and cdpatch.html want esbuild (Debian's package esbuild)." >&2; exit 1; }
 	bash tools/notices.sh library/NOTICES
+	@python3 -B tools/header_numbers.py
 	bash tools/web.sh library .
 	python3 -B tools/options.py completions completions ./cdscript
 
@@ -67,7 +69,18 @@ test:                       ## the merge gate: all proofs, wrong bodies and test
 	bash .ci/run
 
 test-outside:               ## test pages, completions and installing, and skip nothing
-	WHOLE=1 bash tests/outside/run '$(PROGRAM)'
+	WHOLE=1 bash tests/pages/run '$(PROGRAM)'
+
+# By hand before a release: COUNT changes of the sources of JavaScript and Python that nobody wrote, and input that nobody wrote, for so many
+# SECONDS of each kind. SEED repeats what an earlier one has tried.
+SEED =
+COUNT = 300
+SECONDS = 600
+mutants:                    ## try small changes of JavaScript and Python, and print those that no test refuses
+	python3 -B tests/wrong/mutants.py --count '$(COUNT)' $(SEED:%=--seed %)
+
+fuzz:                       ## look for input that does harm, ten minutes of each kind
+	bash tests/hostile/fuzz.sh '$(SECONDS)' $(SEED)
 
 # No part of the gate: see bench/README.md.
 bench:                      ## build what counts instructions
@@ -112,4 +125,4 @@ fit:
 clean:                      ## remove what was made
 	rm -rf cdpatch cdscript cdpatch.html library completions bench/cd_bench crates/*/out
 	rm -f $(foreach made,cdpatch-*.tar.gz cdpatch_*.deb cdpatch-*.whl cdpatch-*.tgz cdscript.js,$(made) $(made).sha256 $(made).sig)
-	rm -f cdpatch.html.sha256 cdpatch.html.sig
+	rm -f cdpatch.html.sha256 cdpatch.html.sig web/core/module/numbers.js python/cdpatch/_numbers.py

@@ -3,15 +3,15 @@
 
 import { fstatSync, openSync, readFileSync, readSync, writeSync } from 'node:fs';
 import { Worker } from 'node:worker_threads';
-import { Calls } from '../web/core/codes.js';
-import { compareImages } from '../web/core/compare.js';
-import { openDisc } from '../web/core/disc.js';
-import { joinFound, sectorsBeyond } from '../web/core/find.js';
-import { filesOf } from '../web/core/iso.js';
+import { openDisc } from '../web/core/disc/disc.js';
+import { compareImages } from '../web/core/images/compare.js';
+import { mergeImages } from '../web/core/images/merge.js';
+import { filesOf } from '../web/core/iso/files.js';
 import { Crew, localHand } from '../web/core/jobs.js';
-import { mergeImages } from '../web/core/merge.js';
-import { auditText } from '../web/core/survey.js';
-import { encodingOf } from '../web/core/text.js';
+import { Calls } from '../web/core/module/calls.js';
+import { auditText } from '../web/core/sectors/survey.js';
+import { encodingOf } from '../web/core/texts/encodings.js';
+import { joinFound, sectorsBeyond } from '../web/core/texts/find.js';
 
 const [threads, job, ...paths] = process.argv.slice(2);
 const module = new WebAssembly.Module(readFileSync(new URL('../library/cdpatch.wasm', import.meta.url)));

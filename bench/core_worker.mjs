@@ -1,8 +1,8 @@
 // A worker of bench/core.mjs.
 
 import { parentPort, workerData } from 'node:worker_threads';
-import { Calls } from '../web/core/codes.js';
 import { serving, transfersOf } from '../web/core/jobs.js';
+import { Calls } from '../web/core/module/calls.js';
 
 const serve = serving(new Calls(workerData));
 parentPort.on('message', message => {

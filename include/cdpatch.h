@@ -38,8 +38,16 @@ extern "C" {
 /** The same as a number: 10000 times its first number, 100 times its second, and its third. */
 #define CDPATCH_VERSION_NUMBER 10200
 
-/** Sizes in bytes: of a sector, of its user data, of the most bytes that a patch sets, and of the room for a line of text. */
-enum { CDPATCH_SECTOR_SIZE = 2352, CDPATCH_USER_SIZE = 2048, CDPATCH_PATCH_SIZE = 4096, CDPATCH_LINE_SIZE = 96 };
+/** Sizes in bytes: of a sector, of its user data, of an address, of the most bytes that a patch sets, of the room for a line of text, and of
+ * a SHA-1. */
+enum { CDPATCH_SECTOR_SIZE = 2352, CDPATCH_USER_SIZE = 2048, CDPATCH_ADDRESS_SIZE = 3, CDPATCH_PATCH_SIZE = 4096, CDPATCH_LINE_SIZE = 96,
+       CDPATCH_DIGEST_SIZE = 20 };
+/** How many P columns and Q diagonals a sector has. */
+enum { CDPATCH_COLUMNS = 86, CDPATCH_DIAGONALS = 52 };
+/** The most sectors of an image; the most bytes and the most patches of a script; the last block that a patch may name; and the last block
+ * that has an address, which is the largest base of an image too. */
+enum { CDPATCH_MOST_SECTORS = 1000000, CDPATCH_MOST_SCRIPT_BYTES = 67108864, CDPATCH_MOST_PATCHES = 65535,
+       CDPATCH_LAST_BLOCK = 999999999, CDPATCH_LAST_BASE = 449849 };
 
 /** Results of changes and of patches. A change tests them in this order. */
 enum cdpatch_result { CDPATCH_OK, CDPATCH_NOT_MODE1, CDPATCH_DAMAGED, CDPATCH_OUT_OF_RANGE, CDPATCH_NO_BLOCK, CDPATCH_DIFFERS,
@@ -90,9 +98,10 @@ struct cdpatch_entry { uint32_t block; uint32_t number; uint32_t start; uint32_t
 struct cdpatch_run { uint64_t state[9]; };
 /** The rooms for the bytes of one patch. */
 struct cdpatch_rooms { uint8_t new_bytes[CDPATCH_PATCH_SIZE]; uint8_t old_bytes[CDPATCH_PATCH_SIZE]; };
-/** Flags of a run: damage is carried; every sector is read and written, and none copied; old bytes are not compared. And how many sectors
- * the hand has at least. */
-enum { CDPATCH_CARRY = 1, CDPATCH_NO_COPY = 2, CDPATCH_WITHOUT_OLD = 4, CDPATCH_SECTORS_IN_HAND = 3 };
+/** Flags of a run: damage is carried; every sector is read and written, and none copied; old bytes are not compared. */
+enum cdpatch_run_flag { CDPATCH_CARRY = 1, CDPATCH_NO_COPY = 2, CDPATCH_WITHOUT_OLD = 4 };
+/** How many sectors the hand of a run has at least. */
+enum { CDPATCH_SECTORS_IN_HAND = 3 };
 /** The size of an image that is not known before its end. */
 #define CDPATCH_UNKNOWN_SIZE UINT64_MAX
 /** What cdpatch_run_begin returns if it refuses. */
@@ -239,6 +248,17 @@ size_t cdpatch_last_line(uint32_t applied, uint32_t refused, uint8_t text[CDPATC
 /** The line for an error in line `number` of the script; that of CDPATCH_NO_MEMORY names no line. For what is not CDPATCH_NO_HEAD to
  * CDPATCH_NO_MEMORY returns 0. */
 size_t cdpatch_fault_line(uint32_t number, uint32_t fault, uint8_t text[CDPATCH_AT_LEAST 96]);
+/** The line of `list` for the blocks `first` to `last`, which are of one kind, an `enum cdpatch_sector_kind`. For what is no kind, and if
+ * `last` is less than `first`, returns 0. */
+size_t cdpatch_list_line(uint32_t first, uint32_t last, uint32_t kind, uint8_t text[CDPATCH_AT_LEAST 96]);
+/** The last line of `list`: how many sectors there are, and how many bytes after them. */
+size_t cdpatch_list_end(uint32_t sectors, uint16_t tail, uint8_t text[CDPATCH_AT_LEAST 96]);
+/** The line of `audit` for a block, by its record of cdpatch_survey. Returns 0 if it has no line: the sector is not a Mode 1 sector, or
+ * nothing is wrong with it. */
+size_t cdpatch_audit_line(uint32_t block, const struct cdpatch_record record[CDPATCH_AT_LEAST 1], uint8_t text[CDPATCH_AT_LEAST 96]);
+/** The last line of `audit`: how many sectors there are, how many are Mode 1 sectors, how many of these are damaged, and how many bytes
+ * there are after the sectors. */
+size_t cdpatch_audit_end(uint32_t sectors, uint32_t mode1, uint32_t damaged, uint16_t tail, uint8_t text[CDPATCH_AT_LEAST 96]);
 
 /** @}
  * @name SHA-1 (FIPS 180-4) of bytes as they come

@@ -16,6 +16,7 @@ from zipfile import ZIP_DEFLATED, ZipFile, ZipInfo
 HERE = Path(__file__).resolve().parent
 LIBRARY = 'libcdpatch.so.1'
 NOTICES = 'NOTICES'
+NUMBERS = '_numbers.py'
 # A system with this glibc has a loader that looks at the processor's level.
 PLATFORM = 'manylinux_2_34_x86_64'
 Settings = Optional[Dict[str, object]]
@@ -52,8 +53,10 @@ def _has_library(files: dict[str, bytes]) -> bool:
 
 def _package() -> dict[str, bytes]:
     """The files of the package by their names. Raises FileNotFoundError if it has the library, but not the notices that each copy of it
-    must carry."""
+    must carry; or if it lacks the numbers of the header, which are not in the repository."""
     here = HERE / 'cdpatch'
+    if not (here / NUMBERS).exists():
+        raise FileNotFoundError(f'{here / NUMBERS} is missing: `make` writes it')
     names = [*sorted(path.name for path in here.glob('*.py')), 'py.typed']
     if (here / LIBRARY).exists():
         if not (here / NOTICES).exists():

@@ -17,6 +17,10 @@ KINDS = 6
 LEAST = 4
 MOST_QUARTERS = 16
 
+# What is not counted: to ASCII, line ends, control codes and half-width kana from anything else, and from half-width kana.
+NARROW = [-12, 0, 0, -18]
+HALF_WIDTH = [*[-8] * KINDS, -12, -8, -8, 0]
+
 
 def kind(character: str) -> int:
     """1 hiragana, 2 katakana, 3 kanji, 4 signs, 5 wide letters and digits, 0 what is none of these."""
@@ -60,9 +64,9 @@ def main() -> None:
     for row in rows:
         pieces = [row[at:at + 100] for at in range(0, len(row), 100)] or ['']
         print('    ' + ' +\n        '.join(f"'{piece}'" for piece in pieces) + ',')
-    print('];\n\n/** By the kinds of two characters, in quarter bits: nothing, hiragana, katakana, kanji, signs, wide letters and digits. */')
-    print('export const AFTER_KINDS = [')
-    for numbers in table:
+    print('];\n\n/**\n * By the kinds of two characters, in quarter bits: nothing, hiragana, katakana, kanji, signs, wide letters and digits; and ASCII, line')
+    print(' * ends, control codes, half-width kana.\n */\nexport const AFTER_KINDS = [')
+    for numbers in [*([*row, *NARROW] for row in table), [*[0] * 9, NARROW[3]], *[[*[0] * KINDS, *NARROW]] * 2, HALF_WIDTH]:
         print(f"    [{', '.join(map(str, numbers))}],")
     print('];')
 

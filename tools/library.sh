@@ -12,20 +12,39 @@ kit=$(dirname "$kit")
 scratch=$(mktemp -d)
 trap 'rm -rf "$scratch"' EXIT
 
-# archive SUFFIX FILE: the crates as they were built with this suffix, and the toolchain's three functions for memory, over
-# malloc. Every library of this toolchain has these three by the same names. Here they get others, of the same length, so that a
-# program can use another such library too.
-archive() {
-    local name members=$scratch/members$1 objects=()
+# objects SUFFIX DIRECTORY: makes a directory with the objects of the crates as they were built with this suffix, and the toolchain's three
+# functions for memory, over malloc. Every library of this toolchain has these three by the same names. Here they get others, of the same length, so that
+# a program can use another such library too.
+objects() {
+    local name
+    mkdir "$2"
     for name in "${crates[@]}"; do
-        mkdir -p "$members/$name"
-        "$kit/toolchain/bin/llvm-ar" x --output "$members/$name" "crates/$name/out/lib$name$1.a"
-        objects+=("$members/$name"/*)
+        "$kit/toolchain/bin/llvm-ar" x --output "$2" "crates/$name/out/lib$name$1.a"
     done
-    "$kit/toolchain/bin/llvm-ar" x --output "$members" "$kit/c/liblibc_c.a" heap.pic.o
-    find "$members" -type f -exec env LC_ALL=C sed -i -z -E 's/^rattle_(alloc|dealloc|realloc)$/cdpatch\1/' {} +
+    "$kit/toolchain/bin/llvm-ar" x --output "$2" "$kit/c/liblibc_c.a" heap.pic.o
+    find "$2" -type f -exec env LC_ALL=C sed -i -z -E 's/^rattle_(alloc|dealloc|realloc)$/cdpatch\1/' {} +
+}
+
+# calls_of FILE..: the calls of source files of cd_c, as the linker keeps them.
+calls_of() { (cd crates/cd_c/src && sed -n 's/^pub extern "C" fn \([a-z0-9_]*\).*/--undefined=\1/p' "$@"); }
+
+# part OBJECTS: makes of the object of cd_c one for each source file with calls, with what they call. A program that is linked statically takes
+# no more of them than it needs. Files whose calls have most of their code in common are one.
+part() {
+    local pair files calls alone
+    mapfile -t alone < <(cd crates/cd_c/src && grep -l '^pub extern "C" fn' -- *.rt | grep -vxE '(changes|sectors|broken|surveying)\.rt')
+    for pair in 'changes.rt sectors.rt' 'broken.rt surveying.rt' "${alone[@]}"; do
+        read -ra files <<< "$pair"
+        mapfile -t calls < <(calls_of "${files[@]}")
+        "$kit/toolchain/bin/ld.lld" -r --gc-sections "${calls[@]}" "$1/cd_c.o" -o "$1/cd_c_${files[0]%.rt}.o"
+    done
+    rm "$1/cd_c.o"
+}
+
+# archive OBJECTS FILE
+archive() {
     rm -f "$2"
-    "$kit/toolchain/bin/llvm-ar" rc "$2" "${objects[@]}" "$members/heap.pic.o"
+    "$kit/toolchain/bin/llvm-ar" rc "$2" "$1"/*.o
     chmod 644 "$2"
 }
 
@@ -36,16 +55,20 @@ note() {
         ".long $1" '.long 0' | "$kit/toolchain/bin/clang" -c -x assembler - -o "$2"
 }
 
-# link ARCHIVE LEVELS FILE: a shared library that shows only the calls.
+# link OBJECTS LEVELS FILE: a shared library that shows only the calls.
 link() {
     note "$2" "$scratch/note.o"
     "$kit/toolchain/bin/ld.lld" -shared -soname libcdpatch.so.1 --version-script=tools/libcdpatch.map -z now -z noexecstack \
-        --build-id=none --no-undefined "$scratch/note.o" --whole-archive "$1" --no-whole-archive "$kit/toolchain/lib/libc.so.6" -o "$3"
+        --build-id=none --no-undefined "$scratch/note.o" "$1"/*.o "$kit/toolchain/lib/libc.so.6" -o "$3"
     chmod 644 "$3"
 }
 
-archive '' "$directory/libcdpatch.a"
-archive -x86-64-v3 "$scratch/x86-64-v3.a"
-link "$directory/libcdpatch.a" 3 "$directory/libcdpatch.so.1"
-link "$scratch/x86-64-v3.a" 7 "$directory/x86-64-v3/libcdpatch.so.1"
+plain=$scratch/plain
+fast=$scratch/fast
+objects '' "$plain"
+objects -x86-64-v3 "$fast"
+link "$plain" 3 "$directory/libcdpatch.so.1"
+link "$fast" 7 "$directory/x86-64-v3/libcdpatch.so.1"
+part "$plain"
+archive "$plain" "$directory/libcdpatch.a"
 bash tools/notices.sh "$directory/NOTICES"

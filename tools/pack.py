@@ -30,9 +30,9 @@ EVERY = ['--bundle', '--charset=utf8', '--legal-comments=none', '--log-level=war
          '--tsconfig=none.json', '--preserve-symlinks', '--minify-whitespace']
 COMMAND = ['--platform=node', '--target=node18', '--format=cjs', '--inject:tools/joined_command.js',
            '--footer:js=if (require.main === module) module.exports.start();']
-# Faults go from a worker to the page by the names of their classes. esbuild does not say by itself that modules are strict.
+# esbuild does not say by itself that modules are strict.
 # --minify-syntax would write the line ends of texts as they are, and so the mark before a patcher's data would stand in the script.
-PAGE = ['--target=es2022', '--format=iife', '--minify-identifiers', '--keep-names', "--banner:js='use strict';"]
+PAGE = ['--target=es2022', '--format=iife', '--minify-identifiers', "--banner:js='use strict';"]
 # A shell runs the lines to `exec`, which are a comment for node. Node would take a closed stream for an empty one.
 SHELL = f"""\
 #!/bin/sh

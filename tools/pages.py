@@ -26,7 +26,7 @@ C_COMMENT = r'/\*', r'\*/'
 ENDS = {'.py': ('"""', '"""'), '.c': C_COMMENT, '.h': C_COMMENT, '.css': C_COMMENT, '.map': C_COMMENT}
 
 # What does not say what it is, until its crate is changed anyway: a comment costs a proof of the crates above.
-UNSAID = {'crates/cd_c_digest/specs/State.antt', 'crates/cd_c_scripts/specs/NumberLaws.antt: FaultsHaveNumbers'}
+UNSAID = {'crates/cd_c/specs/State.antt', 'crates/cd_c_scripts/specs/NumberLaws.antt: FaultsHaveNumbers'}
 
 # Directories without a table of files: what is built, what is data, and the crates, whose files have tables of their own.
 NO_TABLE = {'crates', 'docs', 'man', 'completions', 'library', 'node_modules', 'out', 'wrong', 'wrong_programs', '__pycache__'}
@@ -210,9 +210,10 @@ def figures() -> list[str]:
     (headline, rest), _ = reading()
     return table(('What', 'How many'), [
         ('crates', str(len(crates()))),
-        ('wrong bodies of functions that the prover refuses, each by a goal of a contract (`crates/*/must-fail`)',
+        ('wrong bodies of functions that the prover refuses in each gate, each by a goal of a contract (`crates/*/must-fail`)',
          count('crates/*/must-fail/*.edit')),
-        ('wrong definitions that a worked case refuses (`tests/wrong_definitions`)', count('tests/wrong_definitions/*.patch')),
+        ('further ones, which are tried at each release (`tests/wrong/bodies`)', count('tests/wrong/bodies/*/*.edit')),
+        ('wrong definitions that a worked case refuses (`tests/wrong/definitions`)', count('tests/wrong/definitions/*.patch')),
         ('lines of definitions to read for the headline of `apply`; more for the whole theorem',
          f'{sum(map(lines_of, headline))}; {sum(map(lines_of, rest))}'),
     ])

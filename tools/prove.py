@@ -4,7 +4,8 @@
 A crate begins once all below it are proved, at most AT_ONCE of them side by side, and no more than there are processors and memory for;
 those on the longest way up to a goal come first. CPU is the processor that they are built for, if it is not any x86-64-v2; a static
 library NAME is out/libNAME.a, and built for x86-64-v3 as well, as out/libNAME-x86-64-v3.a. The goal `wasm` makes the WebAssembly modules,
-by tools/wasm.sh. With AFTER_CI=1 the libraries that `rt ci` has just proved and built are taken as they are.
+by tools/wasm.sh. With AFTER_CI=1 the libraries that `rt ci` has just proved and built are taken as they are. TREE=DIRECTORY is
+another repository than this file's.
 
 It calls rt's own module, so that libraries are built as `rt ci` builds them: with only their statements, over which the crates above are
 proved in half the time. rt has no flag for that, and a run of rt keeps every other run out of all crates below its own until it ends.
@@ -25,15 +26,20 @@ from pathlib import Path
 sys.path.insert(0, str(Path(shutil.which('rt') or sys.exit('There is no rt on the path.')).resolve().parent))
 import rtlib  # noqa: E402
 
-TOP = Path(__file__).resolve().parent.parent
+TOP = Path(os.environ.get('TREE') or Path(__file__).resolve().parent.parent)
 MEMORY = 2_000_000_000  # bytes, the most that the proof of a crate takes
 
 
 def crates_of(goals):
-    """Each crate that the goals need, and the names of those that it stands on. The modules stand on what their crates of exports do."""
+    """Each crate that the goals need, and the names of those that it stands on. The modules have cd_words in place of cd_lanes, and prove
+    all above that themselves."""
     crates = {crate.name: crate for crate in rtlib.crates_below(str(TOP))}
     needs = {name: {low.name for low in crate.deps} for name, crate in crates.items()}
-    needs['wasm'] = {'cd_words'}.union(*(needs[name] for name, crate in crates.items() if crate.is_static and name != 'cd_c_images'))
+    below = {}
+    for name in TopologicalSorter(needs).static_order():
+        below[name] = needs[name].union(*(below[low] for low in needs[name]))
+    exporting = (name for name, crate in crates.items() if crate.is_static and name != 'cd_c_images')
+    needs['wasm'] = {'cd_words'} | {low for name in exporting for low in below[name] if 'cd_lanes' not in {low} | below[low]}
     graph = {}
     while goals:
         for name in goals - set(needs):

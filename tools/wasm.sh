@@ -6,6 +6,10 @@
 #
 # A module has one crate of exports. So the crates of exports are joined to one, in a copy of the repository: the merge gate takes
 # no crate for wasm64. Their modules keep their names, and the paths to them lose the crate's.
+#
+# Vectors are compiled a lane at a time for this target. So in the copy cd_words has the name of cd_lanes: its calls work on words of 64
+# bits. All crates above it are proved once more, over its contracts. Their libraries stay in out/rlib/wasm64 of each,
+# until it is built natively again.
 set -euo pipefail
 mkdir -p "$1"
 directory=$(realpath "$1")
@@ -17,11 +21,19 @@ named_by() { sed -n -E "s/^($(paste -sd '|' <<< "$1"))( staticlib)?: *//p" crate
 
 # The crates of exports whose calls take no memory, the crates that they name, and the repository's crates below these.
 exporting=$(bash tools/library_crates.sh | tr ' ' '\n' | grep -vx cd_c_images)
-named=$({ named_by "$exporting"; echo cd_words; } | sort -u)
-below=$named
+named=$(named_by "$exporting")
+below=$(printf '%s\n' "$named" cd_words)
 while more=$(printf '%s\n' "$below" "$(named_by "$below")" | grep . | sort -u) && [ "$more" != "$below" ]; do
     below=$more
 done
+
+# cd_lanes and those above it, which are proved over words here.
+above=cd_lanes
+while more=$(sed -n -E "s/^([a-z_]+):(.* )?($(paste -sd '|' <<< "$above"))( .*)?$/\\1/p" crates.txt | cat - <(echo "$above") | sort -u) &&
+    [ "$more" != "$above" ]; do
+    above=$more
+done
+above=$(comm -12 <(echo "$above") <(echo "$below"))
 
 # Nothing is proved again if nothing has changed.
 changed() {
@@ -53,14 +65,39 @@ join_part() {
     done
 }
 
+# keep FROM TO: a directory, if it is there.
+keep() { [ ! -d "$1" ] || cp -al "$1" "$2"; }
+
+# locked NAME COMMAND: while no run of rt works in the crate.
+locked() { (flock 9 && "${@:2}") 9< "crates/$1"; }
+
+# store NAME: what was proved here of the crate, for the next time.
+store() {
+    rm -rf "crates/$1/out/rlib/wasm64"
+    mkdir -p "crates/$1/out/rlib"
+    keep "$room/crates/$1/out/rlib" "crates/$1/out/rlib/wasm64"
+}
+
 for name in $below; do
     [ -d "crates/$name" ] || continue
     mkdir -p "$room/crates/$name/out"
-    for part in src specs proofs out/rlib; do
-        [ ! -d "crates/$name/$part" ] || cp -al "crates/$name/$part" "$room/crates/$name/$part"
+    library=rlib
+    ! grep -qx "$name" <<< "$above" || library=rlib/wasm64
+    locked "$name" keep "crates/$name/out/$library" "$room/crates/$name/out/rlib"
+    [ "$name" != cd_lanes ] || continue
+    for part in src specs proofs; do
+        keep "crates/$name/$part" "$room/crates/$name/$part"
     done
     grep -E "^$name:" crates.txt >> "$room/crates.txt"
 done
+echo 'cd_lanes: cd_words' >> "$room/crates.txt"
+mkdir "$room/crates/cd_lanes/src"
+cat > "$room/crates/cd_lanes/src/lib.rt" << 'EOF'
+//! cd_words, under the name of cd_lanes.
+#![tactic(auto)]
+
+pub use cd_words::{all_column_sums, all_diagonal_sums, edc_of, fill_columns, fill_diagonals};
+EOF
 echo "$crate wasm64: $(paste -sd ' ' <<< "$named")" >> "$room/crates.txt"
 made=$room/crates/$crate
 mkdir -p "$made"/{src,specs,proofs}
@@ -76,9 +113,14 @@ done
 { printf '%s\n' '//! The calls of libcdpatch that take no memory.' '#![tactic(auto)]' ''; sort "$made/src/modules"; } > "$made/src/lib.rt"
 rm "$made/src/modules"
 find "$made" -type f -exec sed -i -E "s/\\bRattle\\.($(paste -sd '|' <<< "$exporting"))\\./Rattle.$crate./g" {} +
-# Vectors are compiled a lane at a time for this target, so here the survey works on words of 64 bits, under the same contracts.
-sed -i 's/use cd_sector::/use cd_words::/' "$made/src/bodies.rt"
 
+# The libraries first, some side by side; rt then finds them as they should be.
+status=0
+TREE=$room python3 tools/prove.py "$(sed -n 's/^\([a-z_]*\):.*/\1/p' "$room/crates.txt" | tr '\n' ' ')" 2 > "$room/log" 2>&1 || status=$?
+for name in $above; do
+    locked "$name" store "$name"
+done
+[ "$status" = 0 ] || { cat "$room/log"; exit 1; }
 (cd "$made" && rt lib 2>&1) > "$room/log" || { cat "$room/log"; exit 1; }
 cat "$room/log"
 mv "$made/out/$crate.wasm" "$directory/cdpatch-wasm64.wasm"

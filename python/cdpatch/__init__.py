@@ -12,17 +12,20 @@ package is installed below; one of these two that lacks a call is passed over.""
 
 from ._errors import Damaged, Failed, NotMode1, OutOfRange, Refused
 from ._images import Patched, apply, audit, check, listing
-from ._library import SECTOR_SIZE, USER_SIZE, Record, library
+from ._library import Record, library
+from ._lines import audit_end, audit_line, listing_end, listing_line
+from ._numbers import LAST_BASE, SECTOR_SIZE, USER_SIZE
 from ._patching import Reader, Writer, patch
-from ._reports import LAST_BASE, Report
+from ._reports import Report
 from ._sectors import (KINDS, Broken, Defect, address, broken, defect, edc, encode, is_consistent, kind, rebuild, survey, with_address,
                        with_parity, with_user)
 
 __version__ = '1.2.0'
 __all__ = [
     'KINDS', 'LAST_BASE', 'SECTOR_SIZE', 'USER_SIZE', 'Broken', 'Damaged', 'Defect', 'Failed', 'NotMode1', 'OutOfRange', 'Patched',
-    'Reader', 'Record', 'Refused', 'Report', 'Writer', 'address', 'apply', 'audit', 'broken', 'check', 'defect', 'edc', 'encode',
-    'is_consistent', 'kind', 'library_version', 'listing', 'patch', 'rebuild', 'survey', 'with_address', 'with_parity', 'with_user',
+    'Reader', 'Record', 'Refused', 'Report', 'Writer', 'address', 'apply', 'audit', 'audit_end', 'audit_line', 'broken', 'check', 'defect',
+    'edc', 'encode', 'is_consistent', 'kind', 'library_version', 'listing', 'listing_end', 'listing_line', 'patch', 'rebuild', 'survey',
+    'with_address', 'with_parity', 'with_user',
 ]
 
 

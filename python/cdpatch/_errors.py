@@ -5,7 +5,8 @@ from __future__ import annotations
 import ctypes
 from typing import Type
 
-from ._library import LINE_SIZE, library
+from ._library import library
+from ._numbers import LINE_SIZE, Result
 
 
 class Failed(ValueError):
@@ -28,8 +29,7 @@ class OutOfRange(Refused):
     """The bytes are not within the 2048 bytes of user data."""
 
 
-# By `enum cdpatch_result`.
-_REFUSALS: list[Type[Refused]] = [Refused, NotMode1, Damaged, OutOfRange]
+_REFUSALS: dict[int, Type[Refused]] = {Result.NOT_MODE1: NotMode1, Result.DAMAGED: Damaged, Result.OUT_OF_RANGE: OutOfRange}
 
 
 def refusal(result: int) -> Refused:

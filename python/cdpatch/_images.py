@@ -6,9 +6,10 @@ import ctypes
 from typing import TYPE_CHECKING, Callable, NamedTuple, Optional, overload
 
 from ._errors import Failed
-from ._library import SECTOR_SIZE, library
+from ._library import library
 from ._memory import Held
-from ._reports import FAILED, FOUND, Report, checked_base
+from ._numbers import SECTOR_SIZE, Status
+from ._reports import Report, checked_base
 from ._running import run
 
 if TYPE_CHECKING:
@@ -49,9 +50,9 @@ def _reported(call: Callable[..., int], image: ReadableBuffer, base: int) -> Rep
         with Held(text, writable=True) as room:
             status = call(held, held.size, checked_base(base), room, room.size, ctypes.byref(length))
     printed = str(memoryview(text)[:length.value], 'ascii')
-    if status == FAILED:
+    if status == Status.FAILED:
         raise Failed(printed.rstrip('\n'))
-    return Report(printed, status == FOUND)
+    return Report(printed, status == Status.FOUND)
 
 
 def listing(image: ReadableBuffer, base: int = 0) -> str:

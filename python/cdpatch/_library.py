@@ -8,28 +8,21 @@ from functools import lru_cache
 from pathlib import Path
 from typing import Callable, Type
 
+from ._numbers import RecordStruct
+
 NAME = 'libcdpatch.so.1'
 HERE = Path(__file__).resolve().parent
 # Where `make install` puts the package below a prefix, and where pip does. In another place the directories above belong to anybody.
 INSTALLED = ('share/cdpatch/python/cdpatch', 'lib*/python3*/site-packages/cdpatch', 'lib*/python3*/dist-packages/cdpatch')
 
-SECTOR_SIZE = 2352
-USER_SIZE = 2048
-ADDRESS_SIZE = 3
-LINE_SIZE = 96
+# Of the numbers and of the sizes that calls take.
+LARGEST_NUMBER, LARGEST_SIZE = 2 ** 32 - 1, 2 ** 64 - 1
 
 
-class Defect(ctypes.Structure):
-    """`struct cdpatch_defect`."""
-    _fields_ = [('zeros', ctypes.c_bool), ('edc', ctypes.c_bool), ('p', ctypes.c_uint8), ('q', ctypes.c_uint8)]
-
-
-class Record(ctypes.Structure):
+class Record(RecordStruct):
     """What `list` and `audit` say of a sector: `kind` is its place in `KINDS`, `address` whether its address is another than its
     block's, which is false for a block above 449849, as that has none, and `zeros`, `edc`, `p` and `q` are what a Defect has. All but
     `kind` are 0 if it is not a Mode 1 sector."""
-    _fields_ = [('kind', ctypes.c_uint8), ('address', ctypes.c_bool), ('zeros', ctypes.c_bool), ('edc', ctypes.c_bool),
-                ('p', ctypes.c_uint8), ('q', ctypes.c_uint8)]
     kind: int
     address: bool
     zeros: bool
@@ -58,7 +51,8 @@ def records_of(data: bytes) -> ctypes.Array[Record]:
     return records_type(len(data) // ctypes.sizeof(Record)).from_buffer_copy(data)
 
 
-_NUMBER, _LONG, _SIZE, _FLAG, _POINTER = ctypes.c_uint32, ctypes.c_uint64, ctypes.c_size_t, ctypes.c_bool, ctypes.c_void_p
+_SHORT, _NUMBER, _LONG, _SIZE = ctypes.c_uint16, ctypes.c_uint32, ctypes.c_uint64, ctypes.c_size_t
+_FLAG, _POINTER = ctypes.c_bool, ctypes.c_void_p
 _TEXT_OF_IMAGE = (_POINTER, _SIZE, _NUMBER, _POINTER, _SIZE, _POINTER)
 
 # Of each call of this package what it returns, and what it takes.
@@ -81,6 +75,10 @@ CALLS = {
     'carry_address': (_NUMBER, _POINTER, _POINTER),
     'run_begin': (_SIZE, _POINTER, _POINTER, _SIZE, _NUMBER, _LONG, _NUMBER, _POINTER, _SIZE),
     'run_next': (None,),  # Only values of ctypes, of C's types: to turn numbers into them would take longer than many a step.
+    'list_line': (_SIZE, _NUMBER, _NUMBER, _NUMBER, _POINTER),
+    'list_end': (_SIZE, _NUMBER, _SHORT, _POINTER),
+    'audit_line': (_SIZE, _NUMBER, ctypes.POINTER(Record), _POINTER),
+    'audit_end': (_SIZE, _NUMBER, _NUMBER, _NUMBER, _SHORT, _POINTER),
     'list': (_NUMBER, *_TEXT_OF_IMAGE),
     'audit': (_NUMBER, *_TEXT_OF_IMAGE),
 }

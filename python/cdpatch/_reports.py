@@ -6,9 +6,8 @@ from operator import index
 from typing import NamedTuple
 
 from ._errors import Failed
+from ._numbers import LAST_BASE
 
-LAST_BASE = 449849
-FOUND, FAILED = 1, 2
 
 
 class Report(NamedTuple):

@@ -8,22 +8,20 @@ from ctypes import c_size_t, c_void_p
 from typing import TYPE_CHECKING, Protocol
 
 from ._errors import Failed
-from ._library import LINE_SIZE, SECTOR_SIZE, library
+from ._library import LARGEST_SIZE, library
 from ._memory import Held
-from ._reports import FAILED, FOUND, Report, checked_base
+from ._numbers import (MOST_PATCHES, SECTOR_SIZE, SECTORS_IN_HAND, STEP_FORMAT, EntryStruct, RoomsStruct, RunFlag, RunStruct, Status,
+                       StepKind, StepStruct)
+from ._reports import Report, checked_base
 
 if TYPE_CHECKING:
     from _typeshed import ReadableBuffer
 
-UNKNOWN_SIZE = 2 ** 64 - 1
-MOST_PATCHES = 65535
-SECTORS_IN_HAND = 3
-RUN_SIZE, ENTRY_SIZE, ROOMS_SIZE = 72, 20, 8192
-_CARRY = 1
-_READ, _COPY, _WRITE, _LOG = range(1, 5)
+UNKNOWN_SIZE = LARGEST_SIZE
+# Plain numbers are compared faster.
+_READ, _COPY, _WRITE, _LOG = map(int, (StepKind.READ, StepKind.COPY, StepKind.WRITE, StepKind.LOG))
 
-# The fields of `struct cdpatch_step` before its text.
-_FIELDS = struct.Struct('@6IQNN')
+_FIELDS = struct.Struct(STEP_FORMAT)
 
 
 class Client(Protocol):
@@ -46,9 +44,10 @@ def run(client: Client, image_size: int, script: ReadableBuffer, base: int, carr
     base, log, is_error, done = checked_base(base), bytearray(), False, c_size_t()
     with Held(script) as text:
         count = min(text.size, MOST_PATCHES)
+        run_size, entry_size, rooms_size, step_size = map(ctypes.sizeof, (RunStruct, EntryStruct, RoomsStruct, StepStruct))
         state, entries, hand, rooms, step = map(ctypes.create_string_buffer, (
-            RUN_SIZE, count * ENTRY_SIZE, SECTORS_IN_HAND * SECTOR_SIZE, ROOMS_SIZE, _FIELDS.size + LINE_SIZE))
-        library.cdpatch_run_begin(state, text, text.size, base, image_size, _CARRY if carry else 0, entries, count)
+            run_size, count * entry_size, SECTORS_IN_HAND * SECTOR_SIZE, rooms_size, step_size))
+        library.cdpatch_run_begin(state, text, text.size, base, image_size, RunFlag.CARRY if carry else 0, entries, count)
         given = (state, done, c_void_p(text.place), c_size_t(text.size), entries, c_size_t(count), hand, c_size_t(SECTORS_IN_HAND),
                  rooms, step)
         first, line = ctypes.addressof(hand), memoryview(step)[_FIELDS.size:]
@@ -66,6 +65,6 @@ def run(client: Client, image_size: int, script: ReadableBuffer, base: int, carr
                 is_error, done.value = number == 0, size
             else:
                 break
-    if status != FAILED:
-        return Report(log.decode(), status == FOUND)
+    if status != Status.FAILED:
+        return Report(log.decode(), status == Status.FOUND)
     raise Failed(log.decode().rstrip('\n')) if is_error else ValueError('the script has changed since it was read')

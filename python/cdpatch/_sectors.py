@@ -4,20 +4,18 @@ from __future__ import annotations
 
 import ctypes
 from operator import index
-from typing import TYPE_CHECKING, Callable, NamedTuple, Optional, Union
+from typing import TYPE_CHECKING, Callable, NamedTuple, Optional, Tuple, Union
 
-from . import _library
 from ._errors import refusal
-from ._library import ADDRESS_SIZE, SECTOR_SIZE, USER_SIZE, Record, library, records_type
+from ._library import LARGEST_NUMBER, LARGEST_SIZE, Record, library, records_type
 from ._memory import Held, lent, lent_whole
+from ._numbers import ADDRESS_SIZE, COLUMNS, DIAGONALS, SECTOR_SIZE, USER_SIZE, DefectStruct, SectorKind
 
 if TYPE_CHECKING:
     from _typeshed import ReadableBuffer
 
-KINDS = ('nosync', 'mode0', 'mode1', 'mode2', 'other')
+KINDS: Tuple[str, ...] = tuple(kind.name.lower() for kind in SectorKind)
 
-_LARGEST_NUMBER = 2 ** 32 - 1
-_LARGEST_SIZE = 2 ** 64 - 1
 
 Argument = Union[int, bytes, Held]
 _Sector = ctypes.c_char * SECTOR_SIZE
@@ -64,14 +62,15 @@ def edc(data: ReadableBuffer) -> int:
 
 def kind(sector: ReadableBuffer) -> str:
     """Returns the kind of a sector of 2352 bytes, one of KINDS. Raises ValueError for another size."""
-    return KINDS[library.cdpatch_kind(lent(sector, SECTOR_SIZE))]
+    found: int = library.cdpatch_kind(lent(sector, SECTOR_SIZE))
+    return KINDS[found]
 
 
 def address(block: int) -> Optional[bytes]:
     """Returns the 3 bytes of the address of a block, 0 to 449849 (block 0 is 00:02:00), or None for any other number."""
     made = ctypes.create_string_buffer(ADDRESS_SIZE)
     block = index(block)
-    has_one = 0 <= block <= _LARGEST_NUMBER and library.cdpatch_address(block, made)
+    has_one = 0 <= block <= LARGEST_NUMBER and library.cdpatch_address(block, made)
     return made.raw if has_one else None
 
 
@@ -98,7 +97,7 @@ def is_consistent(sector: ReadableBuffer) -> bool:
 
 def defect(sector: ReadableBuffer) -> Defect:
     """Returns what is wrong with a sector of 2352 bytes, read as a Mode 1 sector. Raises ValueError for another size."""
-    found = _library.Defect()
+    found = DefectStruct()
     library.cdpatch_find_defect(lent(sector, SECTOR_SIZE), ctypes.byref(found))
     return Defect(found.zeros, found.edc, found.p, found.q)
 
@@ -107,7 +106,7 @@ def broken(sector: ReadableBuffer) -> Broken:
     """Returns which code words of a sector of any kind, 2352 bytes, are broken. A single wrong byte of 12 to 2247 lies where the broken
     column and the broken diagonal cross; of 2248 to 2351 it breaks only a diagonal, and of 0 to 11 nothing. libcdpatch(3) says which
     bytes each has. Raises ValueError for another size."""
-    columns, diagonals = ctypes.create_string_buffer(86), ctypes.create_string_buffer(52)
+    columns, diagonals = ctypes.create_string_buffer(COLUMNS), ctypes.create_string_buffer(DIAGONALS)
     library.cdpatch_find_broken(lent(sector, SECTOR_SIZE), columns, diagonals)
     return Broken(columns.raw, diagonals.raw)
 
@@ -121,8 +120,8 @@ def survey(sectors: ReadableBuffer, block: int = 0) -> ctypes.Array[Record]:
     with Held(sectors) as held:
         count = held.size // SECTOR_SIZE
         records = records_type(count)()
-        if not 0 <= block <= _LARGEST_NUMBER or not library.cdpatch_survey(held.place, count, block, records, count):
-            raise ValueError(f'{count} sectors from block {block} on, and not blocks 0 to {_LARGEST_NUMBER - 1}')
+        if not 0 <= block <= LARGEST_NUMBER or not library.cdpatch_survey(held.place, count, block, records, count):
+            raise ValueError(f'{count} sectors from block {block} on, and not blocks 0 to {LARGEST_NUMBER - 1}')
     return records
 
 
@@ -140,7 +139,7 @@ def with_user(sector: ReadableBuffer, offset: int, new: ReadableBuffer, carry: b
     of the sector. To replace all 2048 bytes of a sector that is known to be sound, `encode` takes less than half the time."""
     call = library.cdpatch_carry_user if carry else library.cdpatch_change_user
     offset = index(offset)
-    place = offset if 0 <= offset <= _LARGEST_SIZE else _LARGEST_SIZE
+    place = offset if 0 <= offset <= LARGEST_SIZE else LARGEST_SIZE
     return _accepted(*_changed(call, sector, place, *lent_whole(new)))
 
 

@@ -13,7 +13,7 @@ from script import ordered, script
 from sector import COLUMNS, DIAGONALS, SIZE, address_of, edc_bytes, parity, power, syndromes, times
 
 TESTS = Path(__file__).resolve().parent.parent
-sys.path[:0] = [str(TESTS / 'library'), str(TESTS / 'wasm')]
+sys.path[:0] = [str(TESTS / 'library'), str(TESTS / 'modules')]
 import by_lines  # noqa: E402
 import commands  # noqa: E402
 import module  # noqa: E402
@@ -89,6 +89,10 @@ class Library(Commands):
         status, printed, out = self.commands.run(self.path, command, image, base, '--carry' in options, text)
         return Answer(status, printed.decode('utf-8', 'replace'), out)
 
+    def said(self, case):
+        """The status, the text and the new image of a random case."""
+        return self.commands.run(self.path, case.command, case.image, case.base, case.carry, case.script)
+
     def edc(self, digits):
         word = commands.opened(self.path).cdpatch_edc(listed(digits), ctypes.c_size_t(len(listed(digits))))
         return (word % 2 ** 32).to_bytes(4, 'little').hex().upper()
@@ -137,12 +141,20 @@ class Program(Commands):
         self.name = 'the program'
 
     def run(self, command, image, base, options, text):
+        words = [command, 'image'] + ['script'] * (command in ('check', 'apply')) + ['out'] * (command == 'apply')
+        status, printed, out = self.ended(words + ['--base', str(base)] * (base > 0) + options, image, text)
+        return Answer(status, printed.decode('utf-8', 'replace'), out)
+
+    def said(self, case):
+        """The status, the text and the new image of a random case."""
+        return self.ended(case.words, case.image, case.script, case.image if case.piped else b'')
+
+    def ended(self, words, image, script, given=b''):
+        """The same of a run in a directory with these files."""
         with tempfile.TemporaryDirectory() as name:
             directory = Path(name)
             (directory / 'image').write_bytes(image)
-            (directory / 'script').write_bytes(text)
-            words = [command, 'image'] + ['script'] * (command in ('check', 'apply')) + ['out'] * (command == 'apply')
-            words += ['--base', str(base)] * (base > 0) + options
-            ended = subprocess.run([self.path, *words], cwd=directory, stdin=subprocess.DEVNULL, capture_output=True, timeout=TIME)
+            (directory / 'script').write_bytes(script)
+            ended = subprocess.run([self.path, *words], cwd=directory, input=given, capture_output=True, timeout=TIME, check=False)
             out = (directory / 'out').read_bytes() if (directory / 'out').exists() else None
-        return Answer(ended.returncode, (ended.stdout + ended.stderr).decode('utf-8', 'replace'), out)
+        return ended.returncode, ended.stdout + ended.stderr, out

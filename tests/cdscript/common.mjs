@@ -13,6 +13,9 @@ export const command = process.env.COMMAND ?? join(top, 'cdscript');
 export const vectors = readFileSync(join(top, 'crates/cd_vectors/data/cdrkit-8.bin'));
 const { main } = createRequire(import.meta.url)(command);
 
+/** What is known of each encoding from elsewhere, in the order in which they are listed; tests/core/common.mjs says what that is. */
+export const ENCODINGS_KNOWN = JSON.parse(readFileSync(join(top, 'tests/encodings.json'), 'utf8'));
+
 /** What a process or a call has left: its status, and the bytes of its standard streams. */
 const ended = (status, out, errors) => ({ status, out: out.toString(), errors: errors.toString(), bytes: out });
 

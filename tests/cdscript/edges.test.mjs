@@ -144,5 +144,5 @@ test('what fails at the very end is no finding', () => inDirectory(room => {
     write(room, { image: imageOf(room, 3), 'close.cjs': preload });
     const { status, stderr } = spawnSync(process.execPath, ['-r', './close.cjs', command, 'list', 'image'], { cwd: room, encoding: 'utf8' });
     assert.equal(status, 2);
-    assert.match(stderr, /^cdscript: a fault in cdscript itself: Error: EIO\n/);
+    assert.match(stderr, /^cdscript: internal error: Error: EIO\n/);
 }));

@@ -11,7 +11,7 @@ import { fileURLToPath } from 'node:url';
 
 // Before cdscript is loaded, which takes the calls as they are then.
 const faults = createRequire(import.meta.url)('./faulty.cjs');
-const { call, command, damaged, imageOf, inDirectory, read, sameFile, tool, write } = await import('./common.mjs');
+const { call, command, damaged, imageOf, inDirectory, read, runProcess, sameFile, tool, write } = await import('./common.mjs');
 const { makeDisc } = await import('./discs.mjs');
 
 const preload = fileURLToPath(new URL('./faulty.cjs', import.meta.url));
@@ -159,6 +159,31 @@ test('want of memory is said so, in a thread too', () => inDirectory(room => {
     const env = { ...process.env, NO_MEMORY: '1' };
     const { status, stderr } = spawnSync(process.execPath, ['-r', preload, command, 'audit', 'image'], { cwd: room, env, encoding: 'utf8' });
     assert.deepEqual([status, stderr], [2, 'cdscript: no memory\n']);
+}));
+
+const canBeLimited = process.platform === 'linux' && process.allowedNodeEnvironmentFlags.has('--disable-wasm-trap-handler');
+const LIMITED = ['-c', 'ulimit -v 3000000; exec "$@"', 'bash', process.execPath, command];
+
+test('a limited address space is enough', { skip: !canBeLimited && 'no such process' }, () => inDirectory(async room => {
+    const image = imageOf(room, 9000);
+    write(room, { image, hurt: damaged(image, 0, [7, 100]), script: 'cdpatch 1\nset 3 0 41\n' });
+    for (const words of [['audit', 'hurt'], ['info', 'image'], ['scan', 'hurt'], ['diff', 'image', 'none'], ['apply', 'image', 'script', 'out']]) {
+        const due = runProcess(words, { cwd: room });
+        const file = read(room, 'out');
+        rmSync(join(room, 'out'), { force: true });
+        const came = spawnSync('bash', [...LIMITED, ...words], { cwd: room, encoding: 'utf8' });
+        assert.deepEqual([came.status, came.stdout, came.stderr, read(room, 'out')], [due.status, due.out, due.errors, file], words.join(' '));
+    }
+    tool('mkfifo', ['pipe'], { cwd: room });
+    const there = readdirSync(room).filter(name => name !== 'new');
+    const child = spawn('bash', [...LIMITED, 'user', 'pipe', 'new'], { cwd: room, stdio: 'ignore' });
+    const ended = new Promise(resolve => child.on('exit', (_, by) => resolve(by)));
+    const isBegun = await begun(room, there, 0);
+    child.kill('SIGTERM');
+    const late = setTimeout(() => child.kill('SIGKILL'), 5000);
+    assert.deepEqual([isBegun, await ended], [true, 'SIGTERM']);
+    clearTimeout(late);
+    assert.deepEqual(readdirSync(room), there);
 }));
 
 test('threads read for themselves, and what they can not read is read without them', () => inDirectory(room => inDirectory(async streams => {

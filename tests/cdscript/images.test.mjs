@@ -5,7 +5,7 @@ import { createHash } from 'node:crypto';
 import { existsSync } from 'node:fs';
 import { join } from 'node:path';
 import { test } from 'node:test';
-import { damaged, imageOf, inDirectory, read, run, sameFile, tool, write } from './common.mjs';
+import { ENCODINGS_KNOWN, damaged, imageOf, inDirectory, read, run, sameFile, tool, write } from './common.mjs';
 import { files, makeDisc } from './discs.mjs';
 
 const program = process.env.PROGRAM;
@@ -157,7 +157,7 @@ test('a repair takes what the EDC of the damaged sector fits, and names what it 
     sameFile(read(room, 'one'), good, 'the repaired image');
     const other = await run(['merge', 'old', 'door.bin', 'two'], { cwd: room });
     assert.deepEqual([other.status, other.errors],
-        [1, "cdscript: block 17: taken from door.bin, but OLD's EDC is another: perhaps another version\n"]);
+        [1, "cdscript: block 17: taken from door.bin, but OLD has a different EDC: perhaps another version\n"]);
 }));
 
 test('a repair of many places names the first of them', () => inDirectory(async room => {
@@ -167,7 +167,7 @@ test('a repair of many places names the first of them', () => inDirectory(async 
     good.copy(other, 2352 * 11, 2352 * 12, 2352 * 13);
     write(room, { old: Buffer.concat([damaged(good, 0, ...odd), Buffer.from('a')]), other });
     const { status, out, errors } = await run(['merge', 'old', 'other', 'out'], { cwd: room });
-    assert.deepEqual([status, errors], [1, 'cdscript: the bytes after the last sector are others in other; those of old are kept\n']);
+    assert.deepEqual([status, errors], [1, 'cdscript: the bytes after the last sector differ in other; those of old are kept\n']);
     const lines = out.split('\n');
     const due = odd.map(([block]) => block).filter(block => block !== 11).slice(0, 1000).map(block => `${block}-${block} from other`);
     assert.deepEqual(lines, [...due, 'and so on: 1199 places in all', '11-11 sound only with the address of another block',
@@ -216,20 +216,20 @@ test('a file that exists stays', () => inDirectory(async room => {
 const WRONG_WORDS = {
     '': 'a job is missing; see cdscript --help',
     'frob': "there is no job 'frob'; see cdscript --help",
-    'list': 'list wants IMAGE; see cdscript list --help',
-    'apply a b': 'apply wants IMAGE SCRIPT OUT; see cdscript apply --help',
-    'list a b': 'list wants IMAGE; see cdscript list --help',
-    'replace a 1 b c': 'replace wants IMAGE [BLOCK OFFSET] OLD NEW; see cdscript replace --help',
-    'merge a b': 'merge wants OLD OTHER.. OUT; see cdscript merge --help',
+    'list': 'list needs IMAGE; see cdscript list --help',
+    'apply a b': 'apply needs IMAGE SCRIPT OUT; see cdscript apply --help',
+    'list a b': 'list needs IMAGE; see cdscript list --help',
+    'replace a 1 b c': 'replace needs IMAGE [BLOCK OFFSET] OLD NEW; see cdscript replace --help',
+    'merge a b': 'merge needs OLD OTHER.. OUT; see cdscript merge --help',
     'list --frob a': 'there is no option --frob; a name that begins with - stands after --',
     'list --carry a': 'list has no option --carry; see cdscript list --help',
-    'list --base': '--base wants N',
+    'list --base': '--base needs N',
     'list --base 449850 a': "--base is a number from 0 to 449849, not '449850'",
     'list --base=x a': "--base is a number from 0 to 449849, not 'x'",
-    'list --base 1 --base 1 a': '--base stands there twice',
+    'list --base 1 --base 1 a': '--base was given twice',
     'check --carry=1 a b': '--carry takes no value',
-    'find a b --encoding latin': "there is no encoding 'latin' here; there are hex, CP932, EUC-JP, UTF-8, UTF-16LE, UTF-16BE, " +
-        'Big5, GBK, EUC-KR',
+    'find a b --encoding latin': "there is no encoding 'latin' here; there are " +
+        ENCODINGS_KNOWN.map(({ name }) => name).join(', '),
     'find a b --encoding hex --table t': '--encoding and --table exclude each other',
     'diff a b --skip-damaged --fields': '--fields and --skip-damaged exclude each other',
     'replace a 1 0 b c --all': '--all and a place exclude each other',

@@ -90,9 +90,9 @@ test('a list is TSV or CSV, in UTF-8 or UTF-16, and has to name its columns', ()
     write(room, { none: 'block\toffset\ttext\tnew\n2\t100\tアイ\t\n', headless: '2\t100\tアイ\tok\n' });
     assert.equal(await said(['replace', 'image', '--list', 'none']), 'cdscript: no row of the list has a new text\n');
     assert.equal(await said(['replace', 'image', '--list', 'headless']), 'cdscript: the first row of the list names no column block, offset, text, new\n');
-    assert.match(await said(['replace', 'image', '--list', 'none', 'アイ', 'ok']), /^cdscript: replace wants IMAGE; /);
+    assert.match(await said(['replace', 'image', '--list', 'none', 'アイ', 'ok']), /^cdscript: replace needs IMAGE; /);
     assert.match(await said(['replace', 'image', '--list', 'none', '--all']), /exclude each other/);
-    assert.match(await said(['replace', 'image', 'a', 'b', '--partial']), /--partial wants --list/);
+    assert.match(await said(['replace', 'image', 'a', 'b', '--partial']), /--partial needs --list/);
     const fill = await run(['replace', 'image', '--list', 'list', '--fill', '00'], { cwd: room });
     assert.equal(fill.out, wanted.replace('2020', '0000'));
 }));

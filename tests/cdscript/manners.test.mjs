@@ -3,7 +3,7 @@
 import assert from 'node:assert/strict';
 import { spawnSync } from 'node:child_process';
 import { test } from 'node:test';
-import { command, damaged, imageOf, inDirectory, read, run, runProcess, tool, write } from './common.mjs';
+import { ENCODINGS_KNOWN, command, damaged, imageOf, inDirectory, read, run, runProcess, tool, write } from './common.mjs';
 import { makeDisc } from './discs.mjs';
 
 const hasDisc = tool('genisoimage', ['--version']) !== null;
@@ -17,8 +17,8 @@ test('a mistyped job, option or encoding is answered by what was meant', async (
         'frobnicate x': "there is no job 'frobnicate'; see cdscript --help",
         'list --bsae 0 x': 'there is no option --bsae; did you mean --base?',
         'list --frobnicate x': 'there is no option --frobnicate; a name that begins with - stands after --',
-        'find x y --encoding latin1': "there is no encoding 'latin1' here; there are hex, CP932, EUC-JP, UTF-8, UTF-16LE, UTF-16BE, " +
-        'Big5, GBK, EUC-KR',
+        'find x y --encoding latin1': "there is no encoding 'latin1' here; there are " +
+        ENCODINGS_KNOWN.map(({ name }) => name).join(', '),
         'help fnd': "there is no job 'fnd'; did you mean find?; see cdscript --help",
     };
     for (const [words, said] of Object.entries(SAID)) {

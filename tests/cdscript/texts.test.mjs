@@ -6,7 +6,7 @@ import { mkdirSync, readFileSync, writeFileSync } from 'node:fs';
 import { join } from 'node:path';
 import { test } from 'node:test';
 import { deflateRawSync } from 'node:zlib';
-import { inDirectory, read, run, tool, write } from './common.mjs';
+import { ENCODINGS_KNOWN, inDirectory, read, run, tool, write } from './common.mjs';
 
 const program = process.env.PROGRAM;
 const HEAD = 'block\toffset\tbytes\troom\tencoding\tfile\ttext\tnew';
@@ -147,7 +147,8 @@ test('where no text is, none is found; and what cannot be searched is named', t 
     assert.deepEqual([other.status, other.errors], [2, 'cdscript: texts are told by their characters, and hex has none\n']);
     write(room, { 'random.iso': noises()['RANDOM.BIN'] });
     await run(['raw', 'random.iso', 'random'], { cwd: room });
-    for (const name of ['Big5', 'GBK', 'EUC-KR', 'CP932']) {
+    for (const { name, signs } of ENCODINGS_KNOWN) {
+        if (!signs) continue;
         const { out } = await run(['texts', 'random', '--encoding', name], { cwd: room });
         assert.ok(rowsOf(out).length < 3, out);
     }
@@ -197,18 +198,17 @@ test('the texts of a game with a table of its own are found, in UTF-8 and in UTF
 }));
 
 test('the texts of other languages are found by their encoding', t => inDirectory(async room => {
-    const texts = { 'BIG5': ['遊戲開始了，請選擇你的角色', '勇者打開了寶箱，找到一把鑰匙', '離開'], 'GBK': ['游戏开始了请选择你的角色', '勇者打开了宝箱', '离开'],
-        'EUC-KR': ['게임을 시작하시겠습니까', '용사는 문을 열었다', '예'] };
+    const others = ENCODINGS_KNOWN.filter(({ texts }) => texts);
     const dice = diceOf(8);
     const random = Buffer.from(Uint8Array.from({ length: 1 << 18 }, () => dice(256)));
-    const files = Object.entries(texts).map(([name, own]) => {
-        const parts = eachEncoded(own, name === 'BIG5' ? 'CP950' : name === 'EUC-KR' ? 'CP949' : name).flatMap(bytes => [bytes, Buffer.alloc(1)]);
-        return [`${name}.BIN`, Buffer.concat([random, Buffer.alloc(2), ...parts, random])];
+    const files = others.map(({ name, codec, texts }) => {
+        const parts = eachEncoded(texts, codec).flatMap(bytes => [bytes, Buffer.alloc(1)]);
+        return [`${name.toUpperCase()}.BIN`, Buffer.concat([random, Buffer.alloc(2), ...parts, random])];
     });
     if (!await makeFiles(room, Object.fromEntries(files))) return t.skip('no genisoimage');
-    for (const [name, own] of Object.entries(texts)) {
-        const { out } = await run(['texts', 'image', '--encoding', name, '--in', `${name}.BIN`, '--min', '1'], { cwd: room });
-        assert.deepEqual(rowsOf(out).map(row => row[6]), own, name);
+    for (const { name, texts } of others) {
+        const { out } = await run(['texts', 'image', '--encoding', name, '--in', `${name.toUpperCase()}.BIN`, '--min', '1'], { cwd: room });
+        assert.deepEqual(rowsOf(out).map(row => row[6]), texts, name);
     }
 }));
 

@@ -5,15 +5,14 @@ first byte and its size.
 """
 
 import json
-import subprocess
 import sys
-import tempfile
 from functools import partial
 from multiprocessing import Pool
 from pathlib import Path
 
 TESTS = Path(__file__).resolve().parent.parent
 sys.path[:0] = [str(TESTS / 'cases'), str(TESTS / 'model')]
+from answers import Program  # noqa: E402
 from cases import some_case  # noqa: E402
 from forms import COMMANDS, listed, worked_lines  # noqa: E402
 
@@ -54,21 +53,13 @@ def worked(line, question):
 def some(program, seed, number):
     """A random case, and the program's answer."""
     case = some_case(seed, number)
-    with tempfile.TemporaryDirectory() as name:
-        files = Path(name)
-        (files / 'image').write_bytes(case.image)
-        (files / 'script').write_bytes(case.script)
-        given = case.image if case.piped else b''
-        ended = subprocess.run([program, *case.words], cwd=files, input=given, capture_output=True, timeout=60)
-        out = (files / 'out').read_bytes() if (files / 'out').exists() else None
-    return (f'random {seed}/{number}', case.command, case.image, case.base, case.carry, case.script, ended.returncode,
-            ended.stdout + ended.stderr, out)
+    return (f'random {seed}/{number}', case.command, case.image, case.base, case.carry, case.script, *program.said(case))
 
 
 def main(directory, program, count='300', seed='core'):
     questions = [worked(line, question) for line in worked_lines() for question in line.questions]
     with Pool() as pool:
-        questions += pool.map(partial(some, str(Path(program).resolve()), seed), range(int(count)), chunksize=20)
+        questions += pool.map(partial(some, Program(program), seed), range(int(count)), chunksize=20)
     made = Bytes()
     rows = []
     for place, call, image, base, carry, script, status, text, out in filter(None, questions):

@@ -2,14 +2,14 @@
 
 import assert from 'node:assert/strict';
 import { test } from 'node:test';
-import { core, diceOf } from './common.mjs';
+import { ENCODINGS_KNOWN, core, diceOf } from './common.mjs';
 
 const { LOOKED_BACK, bytesInside, charactersFrom } = await core('texts/boundaries.js');
-const { encodingOf, tableOf } = await core('text.js');
+const { encodingOf, tableOf } = await core('texts/encodings.js');
 const { encodeText } = await core('texts/encoding.js');
 
-const SIGNS = { 'CP932': 'aZ 7[ア｡ﾃスト勇者纊―', 'EUC-JP': 'aZ 7[ア｡ﾃスト勇者丂', 'UTF-8': 'aé勇\u{1F600}', 'UTF-16LE': 'a勇\u{1F600}', 'UTF-16BE': 'a勇\u{1F600}',
-    'Big5': 'aZ 7[勇者許功蓋', 'GBK': 'aZ 7[勇者鎔丂狜', 'EUC-KR': 'aZ 7[용사갂힣뢔' };
+/** Signs of each encoding that has characters. */
+const SIGNS = Object.fromEntries(ENCODINGS_KNOWN.filter(({ signs }) => signs).map(({ name, signs }) => [name, signs]));
 
 /** The encodings of which bytes say where characters begin. */
 const TOLD = Object.keys(SIGNS).filter(name => !name.startsWith('UTF-16'));

@@ -5,9 +5,9 @@ import { readFileSync } from 'node:fs';
 import { test } from 'node:test';
 import { calls, core, cutBy, decoded, encoded, joinedPieces, readerOf, sameBytes, surveyed } from './common.mjs';
 
-const { Refusal, readScript } = await core('script.js');
-const { applyPatches, passPatched } = await core('patch.js');
-const { auditText, listText } = await core('survey.js');
+const { Refusal, readScript } = await core('script/script.js');
+const { applyPatches, passPatched } = await core('script/patches.js');
+const { auditText, listText } = await core('sectors/survey.js');
 
 const directory = process.env.ANSWERS;
 const rows = directory === undefined ? [] : JSON.parse(readFileSync(`${directory}/answers.json`, 'utf8'));

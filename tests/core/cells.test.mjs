@@ -6,7 +6,7 @@ import { core } from './common.mjs';
 
 const { rowText, rowsOf } = await core('texts/cells.js');
 const { cellOf, unitsOfCell } = await core('texts/codes.js');
-const { encodingOf, tableOf, textOfFile } = await core('text.js');
+const { encodingOf, tableOf, textOfFile } = await core('texts/encodings.js');
 const { listRows } = await core('texts/list.js');
 
 const cells = text => [...rowsOf(text)].map(row => row.cells);

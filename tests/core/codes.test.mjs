@@ -6,29 +6,11 @@ import { join } from 'node:path';
 import { test } from 'node:test';
 import { calls, core, decoded, newCalls, sameBytes, top } from './common.mjs';
 
-const records = await core('records.js');
-const { MOST_SECTORS, SECTOR_SIZE, addressIn, addressText, blockAt, imageTooLong, sectorOf, userOf } = await core('sector.js');
+const records = await core('module/records.js');
+const { MOST_SECTORS, SECTOR_SIZE, addressIn, addressText, blockAt, imageTooLong, sectorOf, userOf } = await core('sectors/sector.js');
 
 const header = readFileSync(join(top, 'include/cdpatch.h'), 'utf8');
 const vectors = new Uint8Array(readFileSync(join(top, 'crates/cd_vectors/data/cdrkit-8.bin')));
-
-/** The numbers of an enumeration of cdpatch.h. */
-function numbersOf(name) {
-    const names = header.match(new RegExp(`enum ${name} \\{([^}]*)\\}`))[1].match(/\w+/g);
-    return Object.fromEntries(names.map((each, i) => [each.replace('CDPATCH_', ''), i]));
-}
-
-test('the numbers are those of cdpatch.h', () => {
-    assert.deepEqual({ ...records.RESULT }, numbersOf('cdpatch_result'));
-    assert.deepEqual({ ...records.STATUS }, numbersOf('cdpatch_status'));
-    assert.deepEqual({ ...records.SECTOR_KIND }, numbersOf('cdpatch_sector_kind'));
-    assert.deepEqual({ ...records.VERB }, numbersOf('cdpatch_verb'));
-    assert.deepEqual({ ...records.STEP }, numbersOf('cdpatch_step_kind'));
-    const flags = Array.from(header.match(/enum (\{ CDPATCH_CARRY[^}]*\})/)[1].matchAll(/CDPATCH_(\w+) = (\d+)/g), it => [it[1], Number(it[2])]);
-    assert.deepEqual({ ...records.RUN_FLAG, SECTORS_IN_HAND: records.SECTORS_IN_HAND }, Object.fromEntries(flags));
-    const contents = numbersOf('cdpatch_content');
-    for (const [name, number] of Object.entries(records.CONTENT)) assert.equal(number, contents[name], name);
-});
 
 test('the limits are those of the man page', () => {
     const limit = name => Number(readFileSync(join(top, 'man/cdpatch.1'), 'utf8').match(new RegExp(`\\.It ${name}\n(\\d+)`))[1]);
@@ -41,7 +23,7 @@ test('the limits are those of the man page', () => {
 
 test('each call of cdpatch.h that takes no memory has a method', () => {
     const names = header.match(/\bcdpatch_\w+(?=\()/g).filter(name => !/^cdpatch_(check|apply)$/.test(name));
-    const files = ['web/core/codes.js', 'web/page/sha1.js', 'web/page/crossings.js', 'tests/core/calls.mjs'];
+    const files = ['web/core/module/calls.js', 'web/core/module/sector_calls.js', 'tests/core/calls.mjs'];
     const code = files.map(file => readFileSync(join(top, file), 'utf8')).join('');
     for (const name of names) assert.match(code, new RegExp(`\\b${name}\\b`));
 });
@@ -88,6 +70,18 @@ test('changes of a sector in its place', () => {
     assert.equal(calls.rebuild(sector), RESULT.OK);
     assert.ok(calls.isConsistent(sector));
     assert.equal(decoded(calls.resultText(RESULT.DAMAGED)).includes('damaged'), true);
+});
+
+test('the lines of list and of audit', () => {
+    const { MODE1, MODE2, OTHER } = records.SECTOR_KIND;
+    assert.equal(decoded(calls.listLine(16, 18, MODE1)), '16-18 mode1\n');
+    for (const [first, last, kind] of [[16, 15, MODE1], [0, 0, OTHER + 1]]) assert.equal(calls.listLine(first, last, kind).length, 0);
+    assert.equal(decoded(calls.listEnd(8, 3)), 'sectors 8 tail 3\n');
+    assert.equal(decoded(calls.auditLine(17, Uint8Array.of(MODE1, 1, 0, 1, 2, 3))), '17 address edc p=2 q=3\n');
+    assert.equal(decoded(calls.auditLine(4294967295, Uint8Array.of(MODE1, 0, 1, 0, 0, 0))), '4294967295 zeros\n');
+    for (const record of [[MODE1, 0, 0, 0, 0, 0], [MODE2, 1, 1, 1, 1, 1]]) assert.equal(calls.auditLine(17, Uint8Array.from(record)).length, 0);
+    assert.equal(decoded(calls.auditEnd(8, 6, 1, 3)), 'sectors 8 mode1 6 damaged 1 tail 3\n');
+    for (const size of [5, 7]) assert.throws(() => calls.auditLine(0, new Uint8Array(size)), RangeError);
 });
 
 test('addresses and their blocks', () => {

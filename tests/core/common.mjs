@@ -15,9 +15,16 @@ export const coreFile = name => pathToFileURL(join(folder, name)).href;
 /** @param {string} name a module of the core */
 export const core = name => import(coreFile(name));
 
-const codes = await core('codes.js');
+const codes = { ...await core('module/calls.js'), ...await core('module/sector_calls.js') };
 const Calls = withAllCalls(codes.Calls, codes.sized);
 export const module = new WebAssembly.Module(readFileSync(process.env.MODULE ?? join(top, 'library/cdpatch.wasm')));
+
+/**
+ * What is known of each encoding from elsewhere, by the file tests/encodings.json, in the order in which they are listed: its spaces; signs
+ * that are cut in the middle; and of another language the name that the Encoding Standard has for it, the SHA-256 of what that has
+ * beside ASCII (a line with the bytes and the character for each), the name for iconv and Python, and texts.
+ */
+export const ENCODINGS_KNOWN = JSON.parse(readFileSync(join(top, 'tests/encodings.json'), 'utf8'));
 
 /** Calls with a memory of their own. */
 export const newCalls = () => new Calls(module);

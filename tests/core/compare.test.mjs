@@ -6,10 +6,10 @@ import { calls, core, diceOf, readerOf, sameBytes, someImage } from './common.mj
 import { localCrew, withThreads } from './crews.mjs';
 import { CHANGES, RAW, blocksOf, changedImage, countOf, patchedBy, sectorAt, sound, soundImage, textOf } from './pairs.mjs';
 
-const { SECOND_STATE, compareImages, diffRange, differRange } = await core('compare.js');
-const { ScriptParts } = await core('output.js');
-const { RESULT, STATUS, STEP } = await core('records.js');
-const { blocksText } = await core('runs.js');
+const { SECOND_STATE, compareImages, diffRange, differRange } = await core('images/compare.js');
+const { ScriptParts } = await core('script/script_writer.js');
+const { RESULT, STATUS, STEP } = await core('module/records.js');
+const { blocksText } = await core('sectors/runs.js');
 
 const BASE = 33;
 const SAID = ['bytes', 'run', 'whole', 'address', 'both', 'sound'];

@@ -5,7 +5,7 @@ import { core, diceOf, encoded, readerOf } from './common.mjs';
 import { rawOf } from './discs.mjs';
 
 const { FilesAlong, contextOf, contextsOf, filesWith } = await core('texts/context.js');
-const { encodingOf, tableOf } = await core('text.js');
+const { encodingOf, tableOf } = await core('texts/encodings.js');
 
 const USER = 2048;
 const BASE = 225;

@@ -3,7 +3,7 @@ import assert from 'node:assert';
 import { test } from 'node:test';
 import { core } from './common.mjs';
 
-const { sheetOf, tracksOf } = await core('cue.js');
+const { sheetOf, tracksOf } = await core('disc/cue.js');
 
 const RAW = 2352;
 
@@ -90,16 +90,16 @@ test('a sheet that can\'t be used names its line', () => {
             (place === 0 || error.message.startsWith(`line ${place} of the cue sheet: `)));
     refused('', 0, /^the cue sheet has no track$/);
     refused('TRACK 01 AUDIO', 1, /^line 1 of the cue sheet: a track before the first FILE$/);
-    refused('FILE x', 1, /FILE wants a name and a format/);
+    refused('FILE x', 1, /FILE needs a name and a format/);
     refused(sheet('INDEX 01 00:00:00'), 2, /no TRACK stands before this/);
-    refused(sheet('TRACK 01 MODE1'), 2, /MODE1 is no type of a track/);
-    refused(sheet('TRACK one AUDIO'), 2, /TRACK wants a number and a type/);
+    refused(sheet('TRACK 01 MODE1'), 2, /unknown track type MODE1/);
+    refused(sheet('TRACK one AUDIO'), 2, /TRACK needs a number and a type/);
     refused(sheet('TRACK 00 AUDIO'), 2, /track 0 comes after track 0/);
     refused(sheet('TRACK 01 AUDIO', 'INDEX 00 00:00:00'), 2, /track 1 has no INDEX 01/);
     refused(sheet('TRACK 01 AUDIO', 'INDEX 01 00:00:00', 'TRACK 01 AUDIO', 'INDEX 01 00:00:01'), 4, /track 1 comes after track 1/);
-    refused(sheet('TRACK 01 AUDIO', 'INDEX 01 00:00:75'), 3, /00:00:75 is no time/);
-    refused(sheet('TRACK 01 AUDIO', 'INDEX 01 00:60:00'), 3, /is no time/);
-    refused(sheet('TRACK 01 AUDIO', 'INDEX 01'), 3, /INDEX wants a number and a time/);
+    refused(sheet('TRACK 01 AUDIO', 'INDEX 01 00:00:75'), 3, /invalid time 00:00:75/);
+    refused(sheet('TRACK 01 AUDIO', 'INDEX 01 00:60:00'), 3, /invalid time/);
+    refused(sheet('TRACK 01 AUDIO', 'INDEX 01'), 3, /INDEX needs a number and a time/);
     refused(sheet('TRACK 01 AUDIO', 'INDEX 01 00:00:09', 'INDEX 02 00:00:08'), 4, /INDEX 02 goes back in its file/);
     refused(sheet('TRACK 01 AUDIO', 'INDEX 01 00:00:00', 'INDEX 00 00:00:08'), 4, /INDEX 00 comes too late/);
     refused(sheet('TRACK 01 AUDIO', 'INDEX 01 00:02:00'), 2, /track 1 begins after the end of game.bin/);

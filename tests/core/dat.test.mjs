@@ -3,7 +3,7 @@ import assert from 'node:assert';
 import { test } from 'node:test';
 import { core, encoded } from './common.mjs';
 
-const { KnownDumps } = await core('dat.js');
+const { KnownDumps } = await core('disc/dat.js');
 
 const SHA = 'da39a3ee5e6b4b0d3255bfef95601890afd80709';
 const HEAD = '<?xml version="1.0"?>\n<!DOCTYPE datafile PUBLIC "-//Logiqx//DTD ROM Management Datafile//EN" "http://www.logiqx.com/Dats/datafile.dtd">\n';

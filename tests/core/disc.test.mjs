@@ -5,7 +5,7 @@ import { test } from 'node:test';
 import { calls, core, diceOf, encoded, readerOf, sameBytes } from './common.mjs';
 import { CHANGES, RAW, changedImage, sectorAt, soundImage } from './pairs.mjs';
 
-const { dataTrack, openDisc } = await core('disc.js');
+const { dataTrack, openDisc } = await core('disc/disc.js');
 
 const file = (name, bytes) => ({ name, reader: readerOf(bytes) });
 const opened = (...files) => openDisc(calls, files);
@@ -93,9 +93,9 @@ test('what is no raw image is named, with what to do', async () => {
     iso.set(encoded('\x01CD001'), 16 * 2048);
     await assert.rejects(opened(file('game.iso', iso)), { message: 'game.iso is an ISO image, 2048 bytes a sector. Make a raw image of it with cdscript raw, patch that, and make an ISO image of its user data.' });
     await assert.rejects(opened(file('a.zip', encoded('PK\x03\x04 and so on'))), { message: 'a.zip is an archive. Unpack it, and choose the cue sheet or the raw image in it.' });
-    await assert.rejects(opened(file('a.bin', new Uint8Array(0))), /^DiscFault: a.bin is an empty file\./);
+    await assert.rejects(opened(file('a.bin', new Uint8Array(0))), /^Fault: a.bin is an empty file\./);
     const cue = sheet('FILE game.iso BINARY', 'TRACK 01 MODE1/2352', 'INDEX 01 00:00:00');
-    await assert.rejects(opened(cue, file('game.iso', iso)), /^DiscFault: game.iso is an ISO image, 2048 bytes a sector\./);
+    await assert.rejects(opened(cue, file('game.iso', iso)), /^Fault: game.iso is an ISO image, 2048 bytes a sector\./);
     const data = { message: 'The disc has no track of data with 2352 bytes a sector. Choose one that is.' };
     for (const disc of [await opened(file('music.bin', audio(5))), await opened(sheet('FILE a.iso BINARY', 'TRACK 1 MODE1/2048', 'INDEX 1 0:0:0'), file('a.iso', iso))]) {
         assert.throws(() => dataTrack(disc), data);

@@ -7,9 +7,9 @@ import { localCrew, withThreads } from './crews.mjs';
 import { isoOf } from './discs.mjs';
 import { CHANGES, RAW, countOf, patchedBy, sectorAt, sound, soundImage, textOf } from './pairs.mjs';
 
-const { filledUp, replaceBytes } = await core('edit.js');
-const { replaceFile } = await core('replace_file.js');
-const { filesOf, wholeFile } = await core('iso.js');
+const { filledUp, replaceBytes } = await core('script/replace_bytes.js');
+const { replaceFile } = await core('script/replace_file.js');
+const { filesOf, wholeFile } = await core('iso/files.js');
 
 const BASE = 70;
 const imageOf = (bytes, base = BASE) => ({ name: 'image.bin', reader: readerOf(bytes), base, addressed: base, sectors: countOf(bytes), tail: bytes.length % RAW });
@@ -154,7 +154,7 @@ test('a file that shrinks while it is read', async t => {
     const it = await disc(t, '/GAME.DAT');
     if (!it) return;
     const shrunk = { size: 15000, read: async (at, length) => new Uint8Array(Math.max(Math.min(length, 9000 - at), 0)) };
-    await assert.rejects(replaceFile(calls, localCrew(), it.image, it.file, shrunk, {}), { name: 'ImageEnded' });
+    await assert.rejects(replaceFile(calls, localCrew(), it.image, it.file, shrunk, {}), { code: 'image ended' });
 });
 
 test('bytes of sectors with addresses of other blocks keep them', async () => {

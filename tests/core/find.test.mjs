@@ -5,7 +5,7 @@ import { core, diceOf } from './common.mjs';
 import { rawOf } from './discs.mjs';
 
 const { findIn, joinFound, sectorsBeyond } = await core('texts/find.js');
-const { encodingOf, tableOf } = await core('text.js');
+const { encodingOf, tableOf } = await core('texts/encodings.js');
 const { encodeText } = await core('texts/encoding.js');
 
 const RAW = 2352;

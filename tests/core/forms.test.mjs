@@ -20,8 +20,9 @@ test('imports are lines, and what is declared has one name in all files', () => 
     const names = new Map();
     for (const file of files) {
         for (const line of linesOf(file)) {
-            if (/^import\b/.test(line)) assert.match(line, /^import \{ \w+(, \w+)* \} from '\.\.?\/(\w+\/)?\w+\.js';$/, file);
-            if (/^export\b/.test(line)) assert.match(line, /^export (async function\*?|function\*?|class|const) \w/, file);
+            if (/^import\b/.test(line)) assert.match(line, /^import \{ \w+(, \w+)* \} from '\.\.?\/(\.\.\/)?(\w+\/)?\w+\.js';$/, file);
+            if (/^export \{/.test(line)) assert.match(line, /^export \{ \w+(, \w+)* \} from '\.\.?\/(\w+\/)?\w+\.js';$/, file);
+            else if (/^export\b/.test(line)) assert.match(line, /^export (async function\*?|function\*?|class|const) \w/, file);
             const [, name] = line.match(DECLARED) ?? [];
             if (name === undefined) continue;
             assert.match(name, /^\w/, `${file}: ${line}`);

@@ -6,7 +6,7 @@ import { calls, core, diceOf, encoded } from './common.mjs';
 
 const { rowsOf } = await core('texts/cells.js');
 const { listRows, replacedRows } = await core('texts/list.js');
-const { encodingOf, tableOf } = await core('text.js');
+const { encodingOf, tableOf } = await core('texts/encodings.js');
 const { endOfMatch } = await core('texts/find.js');
 
 /** How many characters `indexOf` and expressions have looked at while something was done. */
@@ -108,7 +108,7 @@ test('a table is refused by its size before it is read, and a long line by its b
     };
     try {
         const message = `the table has ${100 << 20} bytes, and one has at most 8388608`;
-        assert.throws(() => tableOf(new Uint8Array(100 << 20)), { name: 'TextFault', message });
+        assert.throws(() => tableOf(new Uint8Array(100 << 20)), { code: 'text', message });
         assert.equal(decoded, 0);
     } finally {
         TextDecoder.prototype.decode = decode;
@@ -131,5 +131,5 @@ test('a table is refused by its size before it is read, and a long line by its b
         String.prototype.slice = slice;
     }
     assert.equal(tableOf(encoded('41=\0\n42=a\n')).text(Uint8Array.of(0x41, 0x42)), '\0a');
-    assert.throws(() => tableOf(encoded('\n'.repeat((8 << 20) + 1))), { name: 'TextFault' });
+    assert.throws(() => tableOf(encoded('\n'.repeat((8 << 20) + 1))), { code: 'text' });
 });

@@ -3,7 +3,9 @@ import assert from 'node:assert';
 import { test } from 'node:test';
 import { calls, core, diceOf, readerOf } from './common.mjs';
 
-const { baseByAddresses, natureOf, sliceOf } = await core('image.js');
+const { sliceOf } = await core('bytes.js');
+const { baseByAddresses } = await core('disc/base.js');
+const { natureOf } = await core('disc/file_type.js');
 
 const RAW = 2352;
 

@@ -4,7 +4,7 @@ import { test } from 'node:test';
 import { core, readerOf } from './common.mjs';
 import { isoOf, rawOf } from './discs.mjs';
 
-const { filesAt, filesOf } = await core('iso.js');
+const { filesAt, filesOf } = await core('iso/files.js');
 
 const RAW = 2352;
 
@@ -232,6 +232,6 @@ test('any single byte of the directories may be wrong: the list ends', async t =
         if (raw[at] === 0x77 || (raw[at] === 0 && at % 13)) continue;
         const wrong = raw.slice();
         wrong[at] ^= 1 << at % 8;
-        await filesOf(readerOf(wrong), 0).catch(fault => assert.strictEqual(fault.constructor.name, 'VolumeFault', fault.stack));
+        await filesOf(readerOf(wrong), 0).catch(fault => assert.strictEqual(fault.code, 'volume', fault.stack));
     }
 });

@@ -6,7 +6,7 @@ import { calls, core, diceOf, joinedPieces, readerOf, sameBytes } from './common
 import { localCrew, withThreads } from './crews.mjs';
 import { CHANGES, RAW, blocksOf, changedImage, countOf, sectorAt, sound, soundImage } from './pairs.mjs';
 
-const { mergeImages } = await core('merge.js');
+const { mergeImages } = await core('images/merge.js');
 
 const BASE = 500;
 const imageOf = (bytes, base = BASE) => ({ name: 'image.bin', reader: readerOf(bytes), base, addressed: base, sectors: countOf(bytes), tail: bytes.length % RAW });

@@ -3,8 +3,8 @@
 import assert from 'node:assert/strict';
 import { calls, core, joinedPieces, readerOf } from './common.mjs';
 
-const { Refusal, readScript } = await core('script.js');
-const { applyPatches } = await core('patch.js');
+const { Refusal, readScript } = await core('script/script.js');
+const { applyPatches } = await core('script/patches.js');
 
 export const RAW = 2352;
 export const sectorAt = (image, i) => image.subarray(RAW * i, RAW * (i + 1));

@@ -4,11 +4,11 @@ import assert from 'node:assert/strict';
 import { test } from 'node:test';
 import { calls, core, decoded, diceOf, encoded, joinedPieces, newCalls, readerOf, sameBytes, someImage } from './common.mjs';
 
-const { readScript } = await core('script.js');
-const { Part, readLines } = await core('long_script.js');
-const { applyPatches, passPatched } = await core('patch.js');
+const { readScript } = await core('script/script.js');
+const { Part, readLines } = await core('script/long_script.js');
+const { applyPatches, passPatched } = await core('script/patches.js');
 const { bytesOfPieces } = await core('bytes.js');
-const { MOST_SECTORS } = await core('sector.js');
+const { MOST_SECTORS } = await core('sectors/sector.js');
 
 const BASE = 30;
 const image = someImage(diceOf(5), 2600, BASE, 123);
@@ -121,6 +121,20 @@ test('patches near one another are read together, and no more where they are far
     assert.ok(apart.reads === 150 && apart.bytes < 150 * 70000, JSON.stringify(apart));
 });
 
+test('what was read between patches goes out with them as far as is asked for', async () => {
+    const text = encoded(`cdpatch 1\n${Array.from({ length: 180 }, (_, i) => `fill ${BASE + 14 * i} 0 1 07\n`).join('')}`);
+    const script = await readScript(calls, [text]);
+    const due = await plainly(text, image, BASE, true);
+    const sizes = async near => {
+        const pieces = [];
+        await passPatched(calls, readerOf(image), script, { base: BASE, carry: true, ...near }, piece => { pieces.push(kept(piece)); });
+        sameBytes(joinedPieces(image, pieces), due.out, 'the image');
+        return { slices: pieces.filter(it => !it.bytes).length, pieces: pieces.length };
+    };
+    const [few, all] = [await sizes({}), await sizes({ near: 1 << 17 })];
+    assert.ok(few.slices > 170 && all.slices < 10 && all.pieces < 40, JSON.stringify({ few, all }));
+});
+
 test('old bytes are not compared if that is asked for', async () => {
     const good = calls.encode(calls.address(0), new Uint8Array(2048));
     const script = await readScript(calls, [encoded('cdpatch 1\nset 0 0 41 was 99\nset 0 5 42 was 00\n')]);
@@ -169,6 +183,9 @@ test('short reads of a door', async () => {
     for (const most of [1, 1000, 2353]) await agrees(someScript(diceOf(11), 3, BASE, 30), image, BASE, true, most);
 });
 
+/** A piece to keep: the bytes of those that are passed on change. */
+const kept = piece => piece.bytes ? { ...piece, bytes: piece.bytes.slice() } : piece;
+
 test('a read that fails, at any place, reaches the caller', async () => {
     const text = someScript(diceOf(12), 60, BASE, 2600);
     const script = await readScript(calls, [text]);
@@ -183,7 +200,7 @@ test('a read that fails, at any place, reaches the caller', async () => {
             return read(at, length);
         } };
         const taken = [];
-        await assert.rejects(passPatched(calls, failing, script, { base: BASE, carry: true }, piece => { taken.push(piece); }), { message: `no read ${fault}` });
+        await assert.rejects(passPatched(calls, failing, script, { base: BASE, carry: true }, piece => { taken.push(kept(piece)); }), { message: `no read ${fault}` });
         const begun = joinedPieces(image, taken);
         sameBytes(begun, due.out.subarray(0, begun.length), 'what was passed on before');
         await assert.rejects(applyPatches(calls, { ...failing, read: () => Promise.reject(new Error('none')) }, script, { base: BASE, carry: true }), /none/);
@@ -193,7 +210,7 @@ test('a read that fails, at any place, reaches the caller', async () => {
 test('an image that shrinks is no shorter image', async () => {
     const script = await readScript(calls, [encoded(`cdpatch 1\nfill ${BASE + 2400} 0 1 07\n`)]);
     const shrunk = { ...readerOf(image.subarray(0, 2400 * 2352 + 100)), size: image.length };
-    const ended = { name: 'ImageEnded', message: `the image ends at byte ${2400 * 2352 + 100}` };
+    const ended = { code: 'image ended', message: `the image ends at byte ${2400 * 2352 + 100}` };
     await assert.rejects(applyPatches(calls, shrunk, script, { base: BASE, carry: true }), ended);
     await assert.rejects(passPatched(calls, shrunk, script, { base: BASE, carry: true }), ended);
     await assert.rejects(async () => { for await (const bytes of bytesOfPieces(shrunk, [{ from: 0, to: image.length }])) assert.ok(bytes); }, ended);
@@ -217,6 +234,10 @@ test('an image of as many sectors as the program takes, and a script without pat
 test('the bytes of pieces', async () => {
     const script = await readScript(calls, [someScript(diceOf(14), 30, BASE, 2600)]);
     const { pieces } = await applyPatches(calls, readerOf(image), script, { base: BASE, carry: true });
+    const passed = [];
+    await passPatched(calls, readerOf(image), script, { base: BASE, carry: true }, piece => { passed.push(kept(piece)); });
+    assert.ok(pieces.filter(it => it.bytes).length > 10);
+    assert.deepEqual(pieces, passed);
     const parts = [];
     for await (const bytes of bytesOfPieces(readerOf(image, 1e6), pieces)) parts.push(bytes);
     sameBytes(Buffer.concat(parts), joinedPieces(image, pieces), 'the image');
@@ -235,7 +256,7 @@ test('several patchings at the same time by the same calls', async () => {
             own.reserve(0);
             own.hold(new Uint8Array(5000).fill(99));
             await null;
-            pieces.push(piece);
+            pieces.push(kept(piece));
         });
         return { text, pieces };
     }));

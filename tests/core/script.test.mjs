@@ -4,9 +4,9 @@ import assert from 'node:assert/strict';
 import { test } from 'node:test';
 import { calls, core, cutAt, cutBy, decoded, encoded, newCalls } from './common.mjs';
 
-const { Refusal, readScript } = await core('script.js');
-const { readLines, scriptParts } = await core('long_script.js');
-const { MOST_PATCHES, MOST_SCRIPT_BYTES, VERB } = await core('records.js');
+const { Refusal, readScript } = await core('script/script.js');
+const { readLines, scriptParts } = await core('script/long_script.js');
+const { MOST_PATCHES, MOST_SCRIPT_BYTES, VERB } = await core('module/records.js');
 
 const SCRIPTS = [
     'cdpatch 2\r\n# a note\n\n \tset 7 0 4142 was 6162\r\nfill 3 9 12 00\nrebuild 7\n\r\naddress 3 00:02:05\nset 7 1 43',
@@ -49,7 +49,7 @@ test('a long script is the same if what is cut at a time ends at any byte of it'
 });
 
 test('a script is refused by the same line whether it may be long or not', async () => {
-    for (const script of [...SCRIPTS, ...SCRIPTS.map(it => `${it}\nset 1`), 'cdpatch 1', 'cdpatch 3\n', 'rebuild 1\ncdpatch 1\n']) {
+    for (const script of [...SCRIPTS, ...SCRIPTS.map(it => `${it}\nset 1`), 'cdpatch 1', 'cdpatch 9\n', 'rebuild 1\ncdpatch 1\n']) {
         const [due, came] = [await read([encoded(script)]), await read([encoded(script)], true)];
         assert.equal(came.refused, due.refused, script);
     }
@@ -70,12 +70,12 @@ test('a later version of the language is no fault', async () => {
     const later = newCalls();
     const readLine = later.readLine.bind(later);
     later.readLine = (version, number, earlier, from, size) => {
-        const head = decoded(later.held(from, from + size)) === 'cdpatch 3';
+        const head = decoded(later.held(from, from + size)) === 'cdpatch 9';
         return version === 0 && head ? 256 : readLine(version === 256 ? 2 : version, number, earlier, from, size);
     };
-    const lines = readLines(later, encoded('cdpatch 3\naddress 3 00:02:05\n'));
+    const lines = readLines(later, encoded('cdpatch 9\naddress 3 00:02:05\n'));
     assert.deepEqual(lines.patches, readLines(calls, encoded('cdpatch 2\naddress 3 00:02:05\n')).patches);
-    assert.equal(decoded(scriptParts(lines)[0].text()), 'cdpatch 3\naddress 3 00:02:05\n');
+    assert.equal(decoded(scriptParts(lines)[0].text()), 'cdpatch 9\naddress 3 00:02:05\n');
 });
 
 test('what a patch says', async () => {
@@ -87,10 +87,10 @@ test('what a patch says', async () => {
         calls.readLine(2, 1, 0, 0, line.length);
         return calls.patchRead();
     });
-    assert.deepEqual([fill.verb, fill.offset, fill.count, fill.value, fill.fresh.length, fill.old], [VERB.FILL, 9, 12, 0, 0, null]);
+    assert.deepEqual([fill.verb, fill.offset, fill.size, fill.value, fill.fresh.length, fill.old], [VERB.FILL, 9, 12, 0, 0, null]);
     assert.deepEqual([address.verb, ...address.address], [VERB.ADDRESS, 0, 2, 5]);
     assert.deepEqual([set.verb, decoded(set.fresh), decoded(set.old)], [VERB.SET, 'AB', 'ab']);
-    assert.deepEqual([rebuild.verb, rebuild.block, rebuild.offset, rebuild.count], [VERB.REBUILD, 7, 0, 0]);
+    assert.deepEqual([rebuild.verb, rebuild.block, rebuild.offset, rebuild.size], [VERB.REBUILD, 7, 0, 0]);
     assert.deepEqual([plain.offset, decoded(plain.fresh), plain.old], [1, 'C', null]);
 });
 

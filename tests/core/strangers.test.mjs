@@ -6,12 +6,15 @@ import { core, coreFile, readerOf } from './common.mjs';
 import { rawOf } from './discs.mjs';
 import { SHEETS, TABLES, continuing, crowded, harmlessVolume, nested, overlapping, recordOf, volumeOf } from './strangers.mjs';
 
-const { sheetOf } = await core('cue.js');
-const { natureOf } = await core('image.js');
+const { sheetOf } = await core('disc/cue.js');
+const { natureOf } = await core('disc/file_type.js');
 const { findIn } = await core('texts/find.js');
-const { filesOf } = await core('iso.js');
-const { tableOf } = await core('text.js');
+const { filesOf } = await core('iso/files.js');
+const { tableOf } = await core('texts/encodings.js');
 const { calls } = await import('./common.mjs');
+
+// A processor that other tests share takes up to twice as long.
+const SHARED = 2;
 
 /** What a call answers, or how it fails, and the seconds of a processor that it takes. @param {() => any} called */
 async function timed(called) {
@@ -39,7 +42,7 @@ for (const [what, sheet] of Object.entries(SHEETS)) {
             const { kind } = await natureOf(calls, readerOf(sheet));
             if (kind === 'cue') sheetOf(new TextDecoder().decode(sheet));
         });
-        assert.ok(seconds < 2, `${seconds} s`);
+        assert.ok(seconds < 2 * SHARED, `${seconds} s`);
     });
 }
 
@@ -50,13 +53,13 @@ for (const [what, { table, text, fault: due = '' }] of Object.entries(TABLES)) {
             own.characterAt(new Uint8Array(USER), 0);
             return findIn(rawOf(new Uint8Array(64 * USER)), 0, { texts: [own.units(text)], count: 64, limit: 5 })[0].count;
         });
-        assert.ok(seconds < 4, `${seconds} s`);
-        assert.deepStrictEqual([answer, fault], due === '' ? [0, ''] : [null, `TextFault: ${due}`]);
+        assert.ok(seconds < 4 * SHARED, `${seconds} s`);
+        assert.deepStrictEqual([answer, fault], due === '' ? [0, ''] : [null, `Fault: ${due}`]);
     });
 }
 
 test('a long text that is no UTF-8 is read in little memory', () => {
-    const read = `const { textOfFile } = await import(${JSON.stringify(coreFile('text.js'))});
+    const read = `const { textOfFile } = await import(${JSON.stringify(coreFile('texts/encodings.js'))});
         console.log(textOfFile(new Uint8Array(16000000).fill(0x0A).fill(0xFF, 7, 8)).length);`;
     const { stdout, status } = spawnSync(process.execPath, ['--max-old-space-size=100', '--input-type=module', '-e', read], { encoding: 'utf8' });
     assert.deepStrictEqual([stdout, status], ['16000000\n', 0]);
@@ -71,7 +74,7 @@ test('a harmless volume is listed', async () => {
 
 test('a sector belongs to one directory only', async () => {
     const { files, faults, seconds } = await listed(overlapping(400));
-    assert.ok(seconds < 2, `${seconds} s`);
+    assert.ok(seconds < 2 * SHARED, `${seconds} s`);
     assert.ok(files.length === 0 && faults.length === 1001, `${faults.length} faults`);
     assert.match(faults[0], /^\/D\d+_\d+: the directory in block \d+ is also another one$/);
     assert.ok(faults.some(text => /^(\/D\d+_\d+)+: the directory in blocks \d+ to 399 has sectors of another one$/.test(text)));
@@ -80,14 +83,14 @@ test('a sector belongs to one directory only', async () => {
 
 test('directories are read down to a depth', async () => {
     const { files, faults, seconds } = await listed(nested(2000, 20));
-    assert.ok(seconds < 2, `${seconds} s`);
+    assert.ok(seconds < 2 * SHARED, `${seconds} s`);
     assert.strictEqual(files.length, 256);
     assert.match(faults.join('\n'), /^(\/N{20}){255}: its directories are not read: they are more than 255 deep$/);
 });
 
 test('a list has no more entries than its image can have', async () => {
     const { files, faults, seconds } = await listed(crowded(1300));
-    assert.ok(seconds < 2, `${seconds} s`);
+    assert.ok(seconds < 2 * SHARED, `${seconds} s`);
     assert.strictEqual(files.length, 65536);
     assert.deepStrictEqual(faults, ['/: from here on nothing is listed: the volume has more than 65536 files and directories']);
 });
@@ -98,13 +101,13 @@ test('a list has no more characters than its image can have', async () => {
         if (sector < 118) return [recordOf('N'.repeat(200), sector + 1, sector === 117 ? 8000 * USER : USER)];
         return names.map(name => recordOf(name, 18, 0, { flags: 0 }));
     }));
-    assert.ok(seconds < 2, `${seconds} s`);
+    assert.ok(seconds < 2 * SHARED, `${seconds} s`);
     assert.match(faults.join('\n'), /^(\/N{200}){100}: from here on nothing is listed: its paths have more than 8388608 characters$/);
 });
 
 test('records that go on and on end', async () => {
     const { files, faults, seconds } = await listed(continuing(200));
-    assert.ok(seconds < 2, `${seconds} s`);
+    assert.ok(seconds < 2 * SHARED, `${seconds} s`);
     assert.ok(files.length > 500);
     assert.deepStrictEqual(faults, ['/: from here on nothing is listed: its records are continued in more than 32768 places']);
 });

@@ -4,7 +4,8 @@ import assert from 'node:assert/strict';
 import { test } from 'node:test';
 import { calls, core, decoded, diceOf, someImage, surveyed } from './common.mjs';
 
-const { auditText, isDamaged, isSound, kindRuns, listText, surveyCounts } = await core('survey.js');
+const { SECTOR_KIND } = await core('module/records.js');
+const { auditText, findingOf, isDamaged, isSound, kindRuns, listText, surveyCounts } = await core('sectors/survey.js');
 
 function agrees(image, base, step) {
     const [survey, tail] = [surveyed(image, base, step), image.length % 2352];
@@ -40,4 +41,12 @@ test('counts and runs', () => {
     const places = [0, 6, 12, 18, 24];
     assert.deepEqual(places.map(at => isDamaged(survey.records, at)), [true, false, false, false, false]);
     assert.deepEqual(places.map(at => isSound(survey.records, at)), [false, true, true, true, false]);
+});
+
+test('what audit says of one sector is its line without the block', () => {
+    const { MODE1, MODE2 } = SECTOR_KIND;
+    const found = [[MODE1, 1, 0, 1, 2, 3], [MODE1, 0, 1, 0, 0, 0], [MODE1, 0, 0, 0, 0, 0], [MODE2, 0, 0, 0, 0, 0]];
+    for (const block of [0, 449849]) {
+        assert.deepEqual(found.map(record => findingOf(calls, block, Uint8Array.from(record))), ['address edc p=2 q=3', 'zeros', '', '']);
+    }
 });

@@ -5,17 +5,16 @@ import { test } from 'node:test';
 import { core, diceOf } from './common.mjs';
 
 const { TextTeller, keptOf } = await core('texts/telling.js');
-const { encodingOf } = await core('text.js');
+const { encodingOf } = await core('texts/encodings.js');
 const { encodeText } = await core('texts/encoding.js');
 
-const ALL = 31;
 const teller = new TextTeller();
 const noise = (size, seed) => {
     const dice = diceOf(seed);
     return Buffer.from(Uint8Array.from({ length: size }, () => dice(256)));
 };
 const bytesOf = (name, text) => Buffer.from(encodeText(encodingOf(name), text));
-const found = (bytes, bits = ALL) => teller.tell(bytes, bits).map(({ start, end, scores }) => [start, end, scores.encoding.name]);
+const found = bytes => teller.tell(bytes).map(({ start, end, scores }) => [start, end, scores.encoding.name]);
 
 test('a sentence in noise is found in each encoding, at its place', () => {
     for (const name of ['CP932', 'EUC-JP', 'UTF-8', 'UTF-16LE', 'UTF-16BE']) {
@@ -31,6 +30,37 @@ test('random bytes, sound, and one character over and over are no texts', () => 
         assert.deepEqual(found(Buffer.concat([Buffer.alloc(4), bytesOf(name, text), Buffer.alloc(4)])), [], `${name} ${text}`);
     }
     assert.deepEqual(found(Buffer.from(Int16Array.from({ length: 1 << 18 }, (_, i) => 12000 * Math.sin(i / 30)).buffer)), []);
+});
+
+/** Texts in noise, each by itself between two 00. */
+const alone = (name, texts) => Buffer.concat(texts.flatMap((text, i) => [noise(300, i), Buffer.alloc(2), bytesOf(name, text), Buffer.alloc(2), noise(60, i)]));
+
+test('a text of kanji only is found by itself between 00', () => {
+    const texts = ['国立図書館', '最終決戦場', '経験値獲得量', '記録消去確認', '攻撃力防御力', '初期設定', '全国大会', '前代未聞'];
+    for (const name of ['CP932', 'EUC-JP', 'UTF-16LE']) {
+        assert.deepEqual(found(alone(name, texts)).map(([start, end]) => end - start), texts.map(text => bytesOf(name, text).length), name);
+    }
+    assert.equal(found(alone('CP932', ['はい', 'なし', 'した', 'です'])).length, 4);
+});
+
+test('characters in the order of Unicode are a table, and no text but between 00', () => {
+    for (const characters of ['こしたどぱぷめん', 'ブノテゾザギ', 'きすっづにぱふもめろわん']) {
+        for (const name of ['CP932', 'EUC-JP', 'UTF-16BE', 'UTF-16LE']) {
+            const bytes = bytesOf(name, characters);
+            assert.deepEqual(found(Buffer.concat([Buffer.alloc(300, 0x15), bytes, Buffer.alloc(300, 0x15)])), [], `${name} ${characters}`);
+            assert.equal(found(Buffer.concat([Buffer.alloc(300), bytes, Buffer.alloc(300)])).length, 1, `${name} ${characters}`);
+        }
+    }
+});
+
+test('in sound in which many bytes are characters only texts are found that are surer than chance', () => {
+    const dice = diceOf(4);
+    const halves = [10, 10, 10, 4, 5, 11, 12];
+    const sound = Buffer.from(Uint8Array.from({ length: 1 << 20 }, () => halves[dice(7)] << 4 | halves[dice(7)]));
+    assert.deepEqual(found(sound), []);
+    const text = bytesOf('EUC-JP', '城の地下に宝があるらしい。旅の商人からそう聞いた。');
+    const [place, ...others] = found(Buffer.concat([sound, text, sound]));
+    assert.ok(place[0] <= sound.length && place[1] >= sound.length + text.length && others.length === 0, `${place} ${others}`);
 });
 
 test('short texts are taken beside others, over the 00 between them', () => {

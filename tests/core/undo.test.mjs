@@ -6,10 +6,10 @@ import { calls, core, decoded, diceOf, encoded, joinedPieces, readerOf, sameByte
 import { localCrew } from './crews.mjs';
 import { RAW, blocksOf, changedImage, countOf, patchedBy, sectorAt, sound, soundImage, textOf } from './pairs.mjs';
 
-const { undoScript } = await core('undo.js');
-const { compareImages } = await core('compare.js');
-const { Refusal, readScript } = await core('script.js');
-const { applyPatches } = await core('patch.js');
+const { undoScript } = await core('script/undo.js');
+const { compareImages } = await core('images/compare.js');
+const { Refusal, readScript } = await core('script/script.js');
+const { applyPatches } = await core('script/patches.js');
 
 const BASE = 60;
 const undone = (image, script, how = {}) => undoScript(calls, readerOf(image), Array.isArray(script) ? script : [encoded(script)], { base: BASE, ...how });
@@ -156,5 +156,5 @@ test('a script with a fault, a long one, and a read that fails', async () => {
         await assert.rejects(undoScript(calls, failing, [encoded(script)], { base: BASE }), { message: `no read ${fault}` });
     }
     const shrunk = { ...readerOf(image.subarray(0, 3 * RAW)), size: image.length };
-    await assert.rejects(undoScript(calls, shrunk, [encoded(script)], { base: BASE }), { name: 'ImageEnded' });
+    await assert.rejects(undoScript(calls, shrunk, [encoded(script)], { base: BASE }), { code: 'image ended' });
 });

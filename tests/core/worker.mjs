@@ -3,7 +3,7 @@
 import { parentPort, workerData } from 'node:worker_threads';
 import { core } from './common.mjs';
 
-const { Calls } = await core('codes.js');
+const { Calls } = await core('module/calls.js');
 const { serving, transfersOf } = await core('jobs.js');
 const serve = serving(new Calls(workerData));
 parentPort.on('message', message => {

@@ -95,6 +95,13 @@ static void patch_set_4096(uint8_t n) { apply_patch(CDPATCH_SET, 4096, n, false)
 static void outcome_line(uint8_t n) { cdpatch_outcome_line(n, CDPATCH_DIFFERS, 449849, 2047, text); }
 static void last_line(uint8_t n) { cdpatch_last_line(UINT32_MAX, n, text); }
 static void fault_line(uint8_t n) { cdpatch_fault_line(UINT32_MAX, n % 10 + CDPATCH_NO_HEAD, text); }
+static void list_line(uint8_t n) { cdpatch_list_line(n, UINT32_MAX, n % 5, text); }
+static void list_end(uint8_t n) { cdpatch_list_end(UINT32_MAX, n, text); }
+static void audit_line(uint8_t n) {
+    struct cdpatch_record record = {CDPATCH_MODE1, true, true, true, 86, n};
+    cdpatch_audit_line(UINT32_MAX, &record, text);
+}
+static void audit_end(uint8_t n) { cdpatch_audit_end(UINT32_MAX, UINT32_MAX, UINT32_MAX, n, text); }
 static void survey_16(uint8_t n) { cdpatch_survey(image, SECTORS, n, records, SECTORS); }
 static void find_broken(uint8_t n) { sector[20] = n; cdpatch_find_broken(sector, columns, diagonals); }
 static void sha1_begin(uint8_t n) { hashed.count = n; cdpatch_sha1_begin(&hashed); }
@@ -161,7 +168,8 @@ static const struct row { const char *name; void (*round)(uint8_t n); const char
     {"patch_address", patch_address, "apply_patch"}, {"outcome_line", outcome_line, "outcome_line"}, {"last_line", last_line, "last_line"},
     {"run_begin_1", run_begin_1, "run_begin"}, {"run_begin_16", run_begin_16, "run_begin"}, {"run_copy", run_copy, "run_next"},
     {"run_read", run_read, "run_next"}, {"run_log", run_log, "run_next"}, {"run_write", run_write, "run_next"},
-    {"run_last_line", run_last_line, "run_next"}, {"run_end", run_end, "run_next"}, {"fault_line", fault_line, "fault_line"}, {"sha1_begin", sha1_begin, "sha1_begin"}, {"sha1_2352", sha1_2352, "sha1_add"},
+    {"run_last_line", run_last_line, "run_next"}, {"run_end", run_end, "run_next"}, {"fault_line", fault_line, "fault_line"}, {"list_line", list_line, "list_line"},
+    {"list_end", list_end, "list_end"}, {"audit_line", audit_line, "audit_line"}, {"audit_end", audit_end, "audit_end"}, {"sha1_begin", sha1_begin, "sha1_begin"}, {"sha1_2352", sha1_2352, "sha1_add"},
     {"sha1_end", sha1_end, "sha1_end"}, {"list_16", list_16, "list"}, {"audit_16", audit_16, "audit"}, {"check_16", check_16, "check"},
     {"check_all_verbs", check_all_verbs, "check"}, {"apply_16", apply_16, "apply"}, {"apply_all_verbs", apply_all_verbs, "apply"},
 };

@@ -8,7 +8,7 @@ from itertools import groupby
 SIZE = 2352
 HAND = 3  # sectors that a patch can meet
 LINE_SIZE, PATCH_SIZE = 96, 4096
-KINDS = ('nosync', 'mode0', 'mode1', 'mode2', 'other')
+MODE1 = 2
 OK = 0
 NOTHING, PATCH, NO_HEAD, NO_VERSION = 0, 3, 4, 14
 KEPT = b'\xA5'
@@ -44,7 +44,11 @@ def opened(path):
               'survey': (ctypes.c_bool, pointer, size, number, pointer, size),
               'outcome_line': (size, number, number, number, ctypes.c_uint16, pointer),
               'last_line': (size, number, number, pointer),
-              'fault_line': (size, number, number, pointer)}
+              'fault_line': (size, number, number, pointer),
+              'list_line': (size, number, number, number, pointer),
+              'list_end': (size, number, ctypes.c_uint16, pointer),
+              'audit_line': (size, number, pointer, pointer),
+              'audit_end': (size, number, number, number, ctypes.c_uint16, pointer)}
     for name, (answer, *arguments) in shapes.items():
         call = getattr(library, 'cdpatch_' + name)
         call.restype, call.argtypes = answer, arguments
@@ -137,29 +141,23 @@ def surveyed(library, image, base):
     return records[:count]
 
 
-def finding(record):
-    """What an audit says of a record."""
-    return ((' address' if record.address else '') + (' zeros' if record.zeros else '') + (' edc' if record.edc else '')
-            + (f' p={record.p}' if record.p else '') + (f' q={record.q}' if record.q else ''))
-
-
 def listed(library, image, base):
     """The status and the text of `list`."""
-    text, block = '', base
+    lines, block = [], base
     for kind, together in groupby(record.kind for record in surveyed(library, image, base)):
         first, block = block, block + len(list(together))
-        text += f'{first}-{block - 1} {KINDS[kind]}\n'
-    return 0, f'{text}sectors {block - base} tail {len(image) % SIZE}\n'.encode(), None
+        lines.append(line_by(library.cdpatch_list_line, first, block - 1, kind))
+    return 0, b''.join([*lines, line_by(library.cdpatch_list_end, block - base, len(image) % SIZE)]), None
 
 
 def audited(library, image, base):
     """The status and the text of `audit`."""
     records = surveyed(library, image, base)
-    findings = [f'{block}{finding(record)}\n' for block, record in enumerate(records, base) if finding(record)]
-    mode1 = sum(KINDS[record.kind] == 'mode1' for record in records)
+    lines = [line_by(library.cdpatch_audit_line, block, ctypes.byref(record)) for block, record in enumerate(records, base)]
+    mode1 = sum(record.kind == MODE1 for record in records)
     damaged = sum(record.zeros or record.edc or record.p > 0 or record.q > 0 for record in records)
-    text = ''.join(findings) + f'sectors {len(records)} mode1 {mode1} damaged {damaged} tail {len(image) % SIZE}\n'
-    return int(bool(findings)), text.encode(), None
+    end = line_by(library.cdpatch_audit_end, len(records), mode1, damaged, len(image) % SIZE)
+    return int(any(lines)), b''.join([*lines, end]), None
 
 
 def run(path, command, image, base, carry, script):

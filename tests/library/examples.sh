@@ -1,4 +1,4 @@
-# The examples, on images of which the program says what is right. tests/library.sh has what these functions use.
+# The examples, on images of which the program says what is right. tests/library/run has what these functions use.
 
 # audit_as_program IMAGE: whether examples/audit.c prints what `cdpatch audit` does, with the same status.
 audit_as_program() {
@@ -142,17 +142,17 @@ later_library() {
     gcc -shared -Wl,--whole-archive later.a -Wl,--no-whole-archive -o later.so 2> errors
 }
 
-# names_a_later_line PROGRAM: whether patch_map.c, as this program of the later library, reads on after `cdpatch 3`.
+# names_a_later_line PROGRAM: whether patch_map.c, as this program of the later library, reads on after `cdpatch 9`.
 names_a_later_line() {
-    printf 'cdpatch 3\naddress 0 12:34:56\n' > later
+    printf 'cdpatch 9\naddress 0 12:34:56\n' > later
     ends_with 2 "$1" later damaged && grep -qx 'patch_map: line 2 of the script names no old bytes' errors
 }
 
 # A client of the later library by lines, in Python.
 takes_a_later_version_by_lines() {
-    printf 'cdpatch 3\naddress 0 12:34:56\n' > later
+    printf 'cdpatch 9\naddress 0 12:34:56\n' > later
     PYTHONPATH=$tests/library python3 -B -c 'import sys; from by_lines import run; image = open(sys.argv[1], "rb").read()
-status, log, out = run("./later.so", "apply", image, 0, False, b"cdpatch 3\naddress 0 12:34:56\n")
+status, log, out = run("./later.so", "apply", image, 0, False, b"cdpatch 9\naddress 0 12:34:56\n")
 sys.exit((status, log, out[12:15]) != (0, b"line 2: applied\napplied 1 refused 0\n", b"\x12\x34\x56"))' "$vectors"
 }
 

@@ -1,4 +1,4 @@
-# Clients of the library as it is installed from a tarball, and clients of release 1.1.0. tests/library.sh has what these use.
+# Clients of the library as it is installed from a tarball, and clients of release 1.1.0. tests/library/run has what these use.
 
 # with_package PREFIX COMMAND..: a command that finds the installed package.
 with_package() {
@@ -152,6 +152,9 @@ has_what_a_wheel_must() {
 
 test_wheel() {
     local python=$1
+    cp -r root/usr/share/cdpatch/python bare
+    rm bare/cdpatch/_numbers.py
+    judge 'a wheel without the numbers of the header is refused' refuses wheel "$python" ./bare
     cp -r root/usr/share/cdpatch/python bundle
     cp library/libcdpatch.so.1 bundle/cdpatch
     judge 'a wheel with the library and no notices is refused' refuses wheel "$python" ./bundle
@@ -183,7 +186,7 @@ test_editable() {
     "$python" -m venv --system-site-packages venv > log 2>&1 || return
     judge 'pip installs it to be edited' holds venv/bin/python -m pip --disable-pip-version-check install --no-index --no-build-isolation \
         --quiet -e ./edited
-    sed -i "s/^KINDS = .*/KINDS = ('edited',)/" edited/cdpatch/_sectors.py
+    sed -i "s/^KINDS: .*/KINDS = ('edited',)/" edited/cdpatch/_sectors.py
     judge 'and what is edited is taken' eval "[ \"\$(LD_LIBRARY_PATH=root/usr/lib venv/bin/python -B -c 'import cdpatch; print(*cdpatch.KINDS)')\" = edited ]"
 }
 

@@ -1,4 +1,4 @@
-# The calls of the builds and of the WebAssembly modules against each other, null pointers in the modules, and their page. tests/library.sh
+# The calls of the builds and of the WebAssembly modules against each other, null pointers in the modules, and their page. tests/library/run
 # has what these functions use.
 
 random_calls=20000
@@ -7,10 +7,10 @@ page_of_modules=$top/docs/MODULES.md
 # recorded LIBRARY: random calls by a build.
 recorded() { LD_LIBRARY_PATH=${1%/*} ./random_calls 1 $random_calls; }
 
-# replays MODULE RECORDS: whether a module makes each recorded call in the same way, and at least 27 calls 100 times.
+# replays MODULE RECORDS: whether a module makes each recorded call in the same way, and at least 31 calls 100 times.
 replays() {
     node "$tests/library/replay.mjs" "$1" < "$2" > replayed || { cat replayed; false; } &&
-        [ "$(grep ', ' replayed | head -n 1 | tr ',' '\n' | awk '$2 >= 100' | wc -l)" = 27 ]
+        [ "$(grep ', ' replayed | head -n 1 | tr ',' '\n' | awk '$2 >= 100' | wc -l)" = 31 ]
 }
 
 test_random_calls() {
@@ -36,7 +36,7 @@ test_wrong_calls() {
     for name in "$@"; do
         call=$(wrong_call "$name")
         objcopy --redefine-sym "cdpatch_$call=right_$call" library/libcdpatch.a "random_$name.a"
-        gcc -O2 -I "$top/include" "-D$name" "$tests/library/random_calls.c" "$tests/library/wrong.c" "random_$name.a" -o "random_$name" 2> errors
+        gcc -O2 -I "$top/include" "-D$name" "$tests/library/random_calls.c" "$tests/wrong/library/wrong.c" "random_$name.a" -o "random_$name" 2> errors
         "./random_$name" 1 $random_calls > wrong_records
         judge "a library is refused by a module in which $name" refuses replays "${modules[0]}" wrong_records
     done
@@ -73,6 +73,44 @@ test_page_of_modules() {
     judge 'a page without a struct is refused' refuses has_the_structs wrong.md
 }
 
+# has_the_numbers NUMBERS: whether a compiler gives each enumerator, struct and field of the header the number that NUMBERS has for it.
+has_the_numbers() {
+    node "$tests/library/numbers.mjs" "$1" > numbers.c && gcc -std=c11 -I "$top/include" -c numbers.c -o numbers.o &&
+        [ -z "$(comm -23 <(enumerators) <(grep -oE 'CDPATCH_\w+' numbers.c | sort -u))" ] &&
+        [ "$(grep -c sizeof numbers.c)" = "$(grep -c '^struct .*{' "$header")" ]
+}
+enumerators() {
+    sed -n '/^enum .*{/{:more;/};/!{N;b more};p}' "$header" | grep -oE '\bCDPATCH_\w+' | sort -u
+}
+
+# numbers_by NUMBERS.PY: the numbers that a script makes of the header, in `made`.
+numbers_by() { rm -rf made && python3 -B "$1" "$header" made; }
+
+# The numbers of JavaScript and of Python are made of the header: so only how they are made can be wrong.
+test_numbers() {
+    missing node nodejs 'the numbers for JavaScript' && return
+    missing python3 python3 'the numbers for JavaScript and Python' && return
+    compiler gcc 'gcc and libc6-dev' || return
+    judge 'the numbers for JavaScript and Python are made of the header' numbers_by "$top/tools/header_numbers.py"
+    judge 'those for JavaScript are the numbers of the header, and a compiler lays the structs out so' holds has_the_numbers \
+        made/web/core/module/numbers.js
+    wrong_versions 'wrong numbers' || return
+    wrong_numbers 'fields without gaps' 's/-(-end \/\/ size) \* size, max/end, max/'
+    wrong_numbers 'an enum that counts from 1' 's/made, last = {}, -1/made, last = {}, 0/'
+    wrong_numbers 'one number of each enum without a name' 's/in enumerators(body).items()}/in list(enumerators(body).items())[:1]}/'
+}
+
+# wrong_numbers WHAT EXPRESSION: numbers by a script that sed's expression has changed are refused.
+wrong_numbers() {
+    sed "$2" "$top/tools/header_numbers.py" > wrong_numbers.py
+    judge "a script for $1 is another" refuses cmp -s "$top/tools/header_numbers.py" wrong_numbers.py
+    if numbers_by wrong_numbers.py 2> errors; then
+        judge "numbers with $1 are refused" refuses has_the_numbers made/web/core/module/numbers.js
+    else
+        judge "numbers with $1 are refused" true
+    fi
+}
+
 test_modules() {
     modules=()
     if [ ! -f "$top/library/cdpatch.wasm" ]; then
@@ -82,4 +120,5 @@ test_modules() {
     fi
     test_random_calls
     test_page_of_modules
+    test_numbers
 }

@@ -1,7 +1,7 @@
 // A null pointer for no bytes, in each call of a module that takes bytes and their size: `node nulls.mjs MODULE`. Prints what differs
 // from the same call with a pointer to no bytes.
 
-import { Calls, Room, Size } from '../wasm/calls.mjs';
+import { Calls, Room, Size } from '../modules/calls.mjs';
 
 const calls = new Calls(process.argv[2]);
 const NONE = new Uint8Array(0);

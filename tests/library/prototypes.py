@@ -25,12 +25,15 @@ ENUMS = {'cdpatch_kind': 'cdpatch_sector_kind', 'cdpatch_read_line': 'cdpatch_co
 FAULTS = {'Head': 'NO_HEAD', 'Verb': 'UNKNOWN_VERB', 'Words': 'WORD_COUNT', 'Number': 'BAD_NUMBER', 'Hex': 'BAD_HEX',
           'Length': 'BAD_LENGTH', 'Offset': 'BAD_OFFSET', 'Address': 'BAD_ADDRESS', 'TooMany': 'TOO_MANY',
           'NoMemory': 'NO_MEMORY'}
+KINDS = ('NOSYNC', 'MODE0', 'MODE1', 'MODE2', 'OTHER')
 OUTCOMES = {'Applied': 'OK', 'NotMode1': 'NOT_MODE1', 'Damaged': 'DAMAGED', 'NoBlock': 'NO_BLOCK', 'Differs': 'DIFFERS'}
 SIZES = {'CDPATCH_SECTOR_SIZE': ['SECTOR_SIZE'], 'CDPATCH_USER_SIZE': ['USER_SIZE'], 'CDPATCH_PATCH_SIZE': ['MAX_BYTES'],
-         'CDPATCH_LINE_SIZE': ['LINE_SIZE', 'TEXT_SIZE'], 'CDPATCH_CARRY': ['CARRY'], 'CDPATCH_NO_COPY': ['NO_COPY'],
-         'CDPATCH_WITHOUT_OLD': ['WITHOUT_OLD'], 'CDPATCH_SECTORS_IN_HAND': ['MAX_BLOCKS_MET']}
-# How many columns and diagonals a sector has, and bytes a digest.
-COUNTS = {'COLUMNS': '86', 'DIAGONALS': '52', 'DIGEST_LEN': '20'}
+         'CDPATCH_LINE_SIZE': ['LINE_SIZE'], 'CDPATCH_SECTORS_IN_HAND': ['MAX_BLOCKS_MET'],
+         'CDPATCH_MOST_SECTORS': ['MAX_SECTORS'], 'CDPATCH_MOST_SCRIPT_BYTES': ['MAX_TEXT'], 'CDPATCH_MOST_PATCHES': ['MAX_PATCHES'],
+         'CDPATCH_LAST_BLOCK': ['MAX_NUMBER'], 'CDPATCH_LAST_BASE': ['MAX_BASE', 'MAX_BLOCK'], 'CDPATCH_COLUMNS': ['COLUMNS']}
+# Those that no constant of the sources has as a number: of the arrays that calls take.
+COUNTS = {'DIAGONALS': '52', 'DIGEST_LEN': '20'}
+ARRAYS = {'CDPATCH_ADDRESS_SIZE': ['3'], 'CDPATCH_DIAGONALS': ['52'], 'CDPATCH_DIGEST_SIZE': ['20']}
 
 
 def spaced(text):
@@ -112,21 +115,23 @@ def exports(source):
         made[f'struct {name}'] = fields_of(struct, body) if body else None
     for struct, name in WORDS.items():
         made[f'struct {name}'] = [f'uint64_t state[{words_of(struct, source)}]']
-    results = [(name, number) for name, number in re.findall(r'pub const (\w+): u32 = (\d+);', source) if name != 'VERSION']
+    results = [(name, number) for name, number in re.findall(r'pub const (\w+): u32 = (\d+);', source)
+               if name not in ('VERSION', *KINDS)]
     results += [(OUTCOMES[name], number) for name, number in re.findall(r'Outcome::(\w+)(?:\([_.]+\))? => (\d+),', source)]
     results += [('NO_PATCH', number) for name, number in constants if name == 'NO_PATCH']
     contents = [(FAULTS[name], number) for name, number in re.findall(r'ScriptFault::(\w+)(?:\(_\))? => (\d+),', source)]
     contents += [('NOTHING', number) for number in re.findall(r'LineContent::PassedOver\) => (\d+),', source)]
-    contents += [({'One': 'VERSION_1', 'Two': 'VERSION_2'}[name], number)
-                 for name, number in re.findall(r'LineContent::Head\(Version::(\w+)\)\) => (\d+),', source)]
+    contents += [(f'VERSION_{place}', number) for place, number in enumerate(re.findall(r'Version::\w+ => (\d+),', source), 1)]
     contents += [pair for pair in constants if pair[0] in ('PATCH', 'NO_VERSION')]
     made['enum cdpatch_result'], made['enum cdpatch_content'] = numbered(results), numbered(contents)
     made['enum cdpatch_status'] = numbered(pair for pair in constants if pair[0] in ('DONE', 'FOUND', 'FAILED'))
     made['enum cdpatch_verb'] = numbered(pair for pair in constants if pair[0] in ('SET', 'FILL', 'REBUILD', 'ADDRESS'))
     made['enum cdpatch_step_kind'] = numbered(pair for pair in constants if pair[0] in ('END', 'READ', 'COPY', 'WRITE', 'LOG'))
-    made['enum cdpatch_sector_kind'] = numbered(re.findall(r'SectorKind::(\w+) => (\d),', source))
+    made['enum cdpatch_sector_kind'] = numbered(pair for pair in constants if pair[0] in KINDS)
     for name, sources in SIZES.items():
         made[name] = sorted({number.replace('_', '') for each, number in constants if each in sources})
+    made.update(ARRAYS)
+    made['enum cdpatch_run_flag'] = numbered(pair for pair in constants if pair[0] in ('CARRY', 'NO_COPY', 'WITHOUT_OLD'))
     made['CDPATCH_VERSION_NUMBER'] = [number for name, number in constants if name == 'VERSION']
     made['CDPATCH_VERSION'] = [f'{int(number) // 10000}.{int(number) // 100 % 100}.{int(number) % 100}'
                                for number in made['CDPATCH_VERSION_NUMBER']]

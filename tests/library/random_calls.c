@@ -10,7 +10,7 @@
 #include <stdlib.h>
 #include <string.h>
 
-enum { SECTOR = CDPATCH_SECTOR_SIZE, MOST_SECTORS = 6, MOST_BYTES = MOST_SECTORS * SECTOR + 5000, MOST_ARGUMENTS = 16, CALLS = 29 };
+enum { SECTOR = CDPATCH_SECTOR_SIZE, MOST_SECTORS = 6, MOST_BYTES = MOST_SECTORS * SECTOR + 5000, MOST_ARGUMENTS = 16, CALLS = 33 };
 
 static uint64_t state;
 static uint8_t sectors[MOST_BYTES], bytes[MOST_BYTES], old_bytes[MOST_BYTES], out[MOST_BYTES], address[3], address_room[3];
@@ -275,6 +275,21 @@ static void on_lines(uint64_t which) {
     end(which == 0 ? cdpatch_outcome_line(first, second, block, offset, text) : which == 1 ? cdpatch_last_line(first, second, text) :
         which == 2 ? cdpatch_fault_line(first, second, text) : cdpatch_result_text(second, text));
 }
+static void on_report_lines(uint64_t which) {
+    uint32_t first = (uint32_t)some_number(), second = once_in(3) ? (uint32_t)some_number() : first + (uint32_t)some(9);
+    uint32_t kind = (uint32_t)(once_in(5) ? some_number() : some(6));
+    uint16_t tail = (uint16_t)some(once_in(5) ? 65536 : SECTOR);
+    begin((const char *const[]){"list_line", "list_end", "audit_line", "audit_end"}[which]);
+    *records = (struct cdpatch_record){(uint8_t)(once_in(3) ? some(6) : CDPATCH_MODE1), once_in(2), once_in(2), once_in(2),
+                                       (uint8_t)(once_in(2) ? 0 : some(256)), (uint8_t)(once_in(2) ? 0 : some(256))};
+    number(first);
+    switch (which) {
+    case 0: number(second), number(kind), room(text, CDPATCH_LINE_SIZE), end(cdpatch_list_line(first, second, kind, text)); break;
+    case 1: number(tail), room(text, CDPATCH_LINE_SIZE), end(cdpatch_list_end(first, tail, text)); break;
+    case 2: input(records, sizeof *records), room(text, CDPATCH_LINE_SIZE), end(cdpatch_audit_line(first, records, text)); break;
+    default: number(second), number(kind), number(tail), room(text, CDPATCH_LINE_SIZE), end(cdpatch_audit_end(first, second, kind, tail, text));
+    }
+}
 static void on_codes(uint64_t which) {
     size_t count = once_in(9) ? 0 : some(3000);
     uint8_t *from = (uint8_t *)lent(sectors, count);
@@ -313,7 +328,8 @@ static void make_call(uint64_t which) {
     case 15: begin("sha1_end"), input(&sha1, sizeof sha1), room(digest, 20), cdpatch_sha1_end(&sha1, digest), end(0); break;
     case 16: begin("version"), end(cdpatch_version()); break;
     case 17: case 18: case 19: case 20: on_lines(which - 17); break;
-    default: on_codes(which - 21);
+    case 21: case 22: case 23: case 24: on_report_lines(which - 21); break;
+    default: on_codes(which - 25);
     }
 }
 

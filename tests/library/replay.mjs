@@ -1,8 +1,8 @@
 // Makes the calls that random_calls.c has recorded again by a module: `replay.mjs MODULE < RECORDS`. Prints the first that differ, and how
 // many of each call were made; those that the module has not are passed over.
 
-import { Calls, Room, Size } from '../wasm/calls.mjs';
-import { Input } from '../wasm/input.mjs';
+import { Calls, Room, Size } from '../modules/calls.mjs';
+import { Input } from '../modules/input.mjs';
 
 const SHOWN = 10;
 

@@ -79,6 +79,42 @@ static void check_texts(const struct room *it) {
     judge(has_text(it->text, cdpatch_last_line(UINT32_MAX, 0, it->text), "applied 4294967295 refused 0\n"), "last_line", 0);
 }
 
+/* The lines of `list` and of `audit`: the longest, each part alone, and those that there are not. */
+static void check_report_lines(const struct room *it, bool at_end) {
+    static const char *const kinds[] = {"nosync", "mode0", "mode1", "mode2", "other"};
+    static const struct { uint32_t block; struct cdpatch_record record; const char *line; } findings[] = {
+        {UINT32_MAX, {CDPATCH_MODE1, true, true, true, 255, 255}, "4294967295 address zeros edc p=255 q=255\n"},
+        {0, {CDPATCH_MODE1, true, false, false, 0, 0}, "0 address\n"}, {1, {CDPATCH_MODE1, false, true, false, 0, 0}, "1 zeros\n"},
+        {2, {CDPATCH_MODE1, false, false, true, 0, 0}, "2 edc\n"}, {3, {CDPATCH_MODE1, false, false, false, 86, 0}, "3 p=86\n"},
+        {4, {CDPATCH_MODE1, false, false, false, 0, 1}, "4 q=1\n"}, {5, {CDPATCH_MODE1, false, false, false, 0, 0}, ""},
+        {6, {CDPATCH_MODE2, true, true, true, 1, 1}, ""}, {7, {CDPATCH_MODE0, true, true, true, 1, 1}, ""},
+        {8, {255, true, true, true, 1, 1}, ""}};
+    struct cdpatch_record *record = (struct cdpatch_record *)fenced(sizeof *record, at_end);
+    char wanted[CDPATCH_LINE_SIZE];
+    for (uint32_t kind = 0; kind < 8; kind++) {
+        uint32_t any = kind < 7 ? kind : UINT32_MAX;
+        wanted[0] = 0;
+        if (any <= CDPATCH_OTHER)
+            snprintf(wanted, sizeof wanted, "16-4294967295 %s\n", kinds[any]);
+        blank(it);
+        judge(has_text(it->text, cdpatch_list_line(16, UINT32_MAX, any, it->text), wanted), "list_line", any);
+    }
+    blank(it);
+    judge(has_text(it->text, cdpatch_list_line(7, 7, CDPATCH_MODE2, it->text), "7-7 mode2\n"), "a run of one sector", 0);
+    blank(it);
+    judge(has_text(it->text, cdpatch_list_line(7, 6, CDPATCH_MODE2, it->text), ""), "a run of no sector", 0);
+    blank(it);
+    judge(has_text(it->text, cdpatch_list_end(UINT32_MAX, 2351, it->text), "sectors 4294967295 tail 2351\n"), "list_end", 0);
+    for (unsigned i = 0; i < sizeof findings / sizeof *findings; i++) {
+        *record = findings[i].record;
+        blank(it);
+        judge(has_text(it->text, cdpatch_audit_line(findings[i].block, record, it->text), findings[i].line), "audit_line", i);
+    }
+    blank(it);
+    judge(has_text(it->text, cdpatch_audit_end(UINT32_MAX, 3, 2, UINT16_MAX, it->text),
+                   "sectors 4294967295 mode1 3 damaged 2 tail 65535\n"), "audit_end", 0);
+}
+
 /* ---- lines */
 
 /* Reads a line from memory of its own length, and judges that what has no patch writes nothing. */
@@ -99,7 +135,7 @@ static void check_contents(const struct room *it, bool at_end) {
     static const struct { uint32_t version; size_t earlier; const char *text; uint32_t content; } lines[] = {
         {0, 0, "", CDPATCH_NOTHING}, {2, 65535, " \t", CDPATCH_NOTHING}, {0, 0, "# set", CDPATCH_NOTHING},
         {0, 0, "cdpatch 1", CDPATCH_VERSION_1}, {0, SIZE_MAX, "\tcdpatch  2 ", CDPATCH_VERSION_2},
-        {0, 0, "cdpatch 3", CDPATCH_NO_HEAD}, {0, 0, "rebuild 1", CDPATCH_NO_HEAD}, {0, 0, "cdpatch 1\r", CDPATCH_NO_HEAD},
+        {0, 0, "cdpatch 9", CDPATCH_NO_HEAD}, {0, 0, "rebuild 1", CDPATCH_NO_HEAD}, {0, 0, "cdpatch 1\r", CDPATCH_NO_HEAD},
         {1, 0, "cdpatch 1", CDPATCH_UNKNOWN_VERB}, {1, 0, "address 1 00:02:00", CDPATCH_UNKNOWN_VERB},
         {2, 0, "address 1", CDPATCH_WORD_COUNT}, {1, 0, "set 1 2 41 is 42", CDPATCH_WORD_COUNT},
         {1, 0, "rebuild 1234567890", CDPATCH_BAD_NUMBER}, {1, 0, "set x 9999 4", CDPATCH_BAD_NUMBER},
@@ -379,6 +415,7 @@ int main(int count, char **arguments) {
     for (int at_end = 0; at_end < 2; at_end++) {
         struct room room = rooms(at_end);
         check_texts(&room);
+        check_report_lines(&room, at_end);
         check_cutting(&room, at_end);
         check_contents(&room, at_end);
         check_patches_read(&room, at_end);

@@ -106,7 +106,7 @@ static void some_script(uint64_t *dice, struct some_case *it) {
     size_t room = 1 << 16;
     it->script = more(NULL, room);
     it->without_old = more(NULL, room);
-    it->script_size = (size_t)snprintf((char *)it->script, room, "%s", below(dice, 30) ? "cdpatch 2\n" : "cdpatch 3\n");
+    it->script_size = (size_t)snprintf((char *)it->script, room, "%s", below(dice, 30) ? "cdpatch 2\n" : "cdpatch 9\n");
     memcpy(it->without_old, it->script, it->without_old_size = it->script_size);
     for (uint32_t line = below(dice, MOST_LINES + 1); line > 0; line--)
         add_line(dice, it, room);

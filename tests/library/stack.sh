@@ -1,4 +1,4 @@
-# The stack of each call, and of the program, beside what the man pages say. tests/library.sh has what these functions use.
+# The stack of each call, and of the program, beside what the man pages say. tests/library/run has what these functions use.
 
 # stated_stacks PAGE: of each call the bytes of stack that libcdpatch(3) states; `each` is every call that it does not name.
 stated_stacks() {

@@ -23,6 +23,8 @@ def on_images(image: mmap.mmap, script: bytes, out: mmap.mmap) -> bytearray:
     report: cdpatch.Report = cdpatch.apply(image, script, out=out)
     text: str = cdpatch.listing(image) + report.text + cdpatch.audit(image).text + cdpatch.check(image, script).text
     found: bool = cdpatch.survey(image)[0].address or report.found
+    lines: str = cdpatch.listing_line(0, 15, 'mode1') + cdpatch.audit_line(0, cdpatch.survey(image)[0]) + cdpatch.listing_end(16, 0)
+    cdpatch.audit_line(0, lines)  # type: ignore[arg-type]
     cdpatch.apply(image, script, out=out).image  # type: ignore[attr-defined]
     cdpatch.apply(image, script, out=7)  # type: ignore[call-overload]
     return made.image if found else bytearray(text.encode())

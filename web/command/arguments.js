@@ -1,11 +1,11 @@
 // The arguments of the command line.
 
 import { Fault } from '../core/faults.js';
-import { ENCODINGS, encodingOf } from '../core/text.js';
+import { LAST_BASE, LAST_BLOCK } from '../core/module/numbers.js';
+import { ENCODINGS, encodingOf } from '../core/texts/encodings.js';
 import { bytesOfHex } from '../core/texts/hex.js';
 import { FORMS, OPTION_FORMS } from './forms.js';
-import { LAST_BASE } from '../core/sector.js';
-import { MOST_BLOCKS, numberOf } from './numbers.js';
+import { numberOf } from './numbers.js';
 import { didYouMean } from './suggesting.js';
 
 /**
@@ -48,8 +48,8 @@ function knownEncoding(name) {
 const VALUES = {
     base: text => numberOf(text.replace(/^\+(?=\d)/, ''), '--base', 0, LAST_BASE),
     track: text => numberOf(text, '--track', 1, LAST_TRACK),
-    limit: text => numberOf(text, '--limit', 0, MOST_BLOCKS),
-    min: text => numberOf(text, '--min', 1, MOST_BLOCKS),
+    limit: text => numberOf(text, '--limit', 0, LAST_BLOCK),
+    min: text => numberOf(text, '--min', 1, LAST_BLOCK),
     first: text => numberOf(text, '--first', 0, LAST_BASE),
     fill: fillOf,
     encoding: knownEncoding,
@@ -89,9 +89,9 @@ function takeOption(options, word, left) {
     const form = OPTION_FORMS[name];
     const isFlag = form.value === '';
     if (isFlag && given !== undefined) throw new Fault(`${spelled} takes no value`);
-    if (name in options && !REPEATED.includes(name)) throw new Fault(`${form.word} stands there twice`);
+    if (name in options && !REPEATED.includes(name)) throw new Fault(`${form.word} was given twice`);
     const text = isFlag || given !== undefined ? given : left.next().value;
-    if (!isFlag && text === undefined) throw new Fault(`${form.word} wants ${form.value}`);
+    if (!isFlag && text === undefined) throw new Fault(`${form.word} needs ${form.value}`);
     const value = isFlag || (name in VALUES ? VALUES[name](text) : text);
     options[name] = REPEATED.includes(name) ? [...options[name] || [], value] : value;
 }
@@ -118,7 +118,7 @@ function checkNames(job, names, options) {
     const least = takes.filter(name => !/^\[|\?$/.test(name)).length;
     const most = takes.some(name => name.endsWith('..')) ? Infinity : takes.length + together;
     if (names.length >= least && names.length <= most && (names.length - least) % (together + 1) === 0) return;
-    throw new Fault(`${job} wants ${usageOf(takes)}; see cdscript ${job} --help`);
+    throw new Fault(`${job} needs ${usageOf(takes)}; see cdscript ${job} --help`);
 }
 
 /**
@@ -146,7 +146,7 @@ export function argumentsOf(words) {
     }
     const foreign = Object.keys(options).find(name => name !== 'help' && !FORMS[job].options.includes(name));
     if (foreign) throw new Fault(`${job} has no option ${OPTION_FORMS[foreign].word}; see cdscript ${job} --help`);
-    if (job === 'replace' && options.partial && options.list === undefined) throw new Fault('--partial wants --list');
+    if (job === 'replace' && options.partial && options.list === undefined) throw new Fault('--partial needs --list');
     for (const [one, other] of EXCLUDING) {
         if (!(one in options && other in options)) continue;
         throw new Fault(`${OPTION_FORMS[one].word} and ${OPTION_FORMS[other].word} exclude each other`);

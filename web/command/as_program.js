@@ -1,32 +1,29 @@
 // The jobs that are the program's: `list`, `audit`, `check` and `apply`, with its texts, statuses and limits.
 
-import { ImageEnded } from '../core/bytes.js';
-import { Fault } from '../core/faults.js';
-import { sampledBase } from '../core/image.js';
-import { passPatched } from '../core/patch.js';
-import { STATUS } from '../core/records.js';
-import { Refusal, readScript } from '../core/script.js';
-import { SECTOR_SIZE, imageTooLong } from '../core/sector.js';
-import { auditText, listText } from '../core/survey.js';
-import { FileFault } from './failures.js';
+import { sampledBase } from '../core/disc/base.js';
+import { FAULT, Fault, failedBy } from '../core/faults.js';
+import { STATUS } from '../core/module/records.js';
+import { NEAR_WRITTEN } from '../core/script/patch_run.js';
+import { passPatched } from '../core/script/patches.js';
+import { Refusal, readScript } from '../core/script/script.js';
+import { SECTOR_SIZE, imageTooLong } from '../core/sectors/sector.js';
+import { auditText, listText } from '../core/sectors/survey.js';
 import { MESSAGES } from './messages.js';
 import { assertBase, openTrack } from './opening.js';
 
 /** @typedef {import('../core/bytes.js').Piece} Piece */
 /** @typedef {import('../core/bytes.js').Reader} Reader */
-/** @typedef {import('../core/script.js').ReadScript} ReadScript */
+/** @typedef {import('../core/script/script.js').ReadScript} ReadScript */
 /** @typedef {import('./run.js').Run} Run */
 
-/** What the program says, on standard output as it does. */
-class ProgramFault extends Fault {
-    /**
-     * @param {string | Uint8Array} text one of MESSAGES, or a line of the module
-     * @param {string} [why] what it does not say
-     */
-    constructor(text, why = '') {
-        super(typeof text === 'string' ? `cdpatch: ${text}\n` : new TextDecoder().decode(text));
-        this.why = why;
-    }
+/**
+ * What the program says, on standard output as it does.
+ * @param {string | Uint8Array} text one of MESSAGES, or a line of the module
+ * @param {string} [advice] what it does not say
+ */
+function programFault(text, advice = '') {
+    const message = typeof text === 'string' ? `cdpatch: ${text}\n` : new TextDecoder().decode(text);
+    return new Fault(message, FAULT.PROGRAM, { advice });
 }
 
 /**
@@ -39,10 +36,10 @@ function asProgram(job) {
         try {
             return await job(run);
         } catch (error) {
-            if (!(error instanceof ProgramFault)) throw error;
+            if (!failedBy(error, FAULT.PROGRAM)) throw error;
             run.files.removeUnfinished();
             await run.output.write(new TextEncoder().encode(error.message));
-            if (error.why !== '') run.say(error.why);
+            if (error.facts.advice) run.say(error.facts.advice);
             return STATUS.FAILED;
         }
     };
@@ -65,13 +62,14 @@ async function orSay(messages, tried) {
     try {
         return await tried();
     } catch (error) {
-        if (error instanceof ImageEnded) throw new ProgramFault(messages.read);
-        if (!(error instanceof FileFault)) throw error;
-        throw new ProgramFault(messages[error.attempt], error.attempt === 'make' ? error.message : '');
+        if (failedBy(error, FAULT.IMAGE_ENDED)) throw programFault(messages.read);
+        if (!failedBy(error, FAULT.FILE)) throw error;
+        const { attempt = 'open' } = error.facts;
+        throw programFault(messages[attempt], attempt === 'make' ? error.message : '');
     }
 }
 
-/** If at least so many addresses are looked at, what most of them say is not passed over. */
+/** The fewest addresses of which most decide. */
 const FEWEST_ADDRESSES = 16;
 
 /**
@@ -111,7 +109,7 @@ async function openImage(run) {
  */
 async function report(run, textOf, job) {
     const { reader, base } = await openImage(run);
-    if (imageTooLong(reader.size)) throw new ProgramFault(MESSAGES.long_image);
+    if (imageTooLong(reader.size)) throw programFault(MESSAGES.long_image);
     const survey = await orSay(OF_IMAGES, () => run.survey(reader, base, job));
     const { status, text } = textOf(run.calls, survey, reader.size % SECTOR_SIZE);
     await run.output.write(text);
@@ -130,7 +128,7 @@ export const auditJob = asProgram(run => report(run, auditText, 'survey'));
 async function scriptNamed(run) {
     const pieces = run.files.piecesOf(run.names[1]);
     const script = await orSay(OF_SCRIPTS, () => readScript(run.calls, pieces, run.options.long));
-    if (script instanceof Refusal) throw new ProgramFault(script.text);
+    if (script instanceof Refusal) throw programFault(script.text);
     return script;
 }
 
@@ -154,9 +152,10 @@ async function imageForScript(run, { bases }) {
  */
 async function patch(run, { reader, base }, script, take) {
     const { carry = false } = run.options;
-    const taken = imageTooLong(reader.size) ? undefined : take; // of such an image nothing is written, only said
-    const made = await orSay(OF_IMAGES, () => passPatched(run.calls, run.watched(reader), script, { base, carry }, taken));
-    if (made.status === STATUS.FAILED) throw new ProgramFault(made.text);
+    const taken = imageTooLong(reader.size) ? null : take; // of such an image nothing is written, only said
+    const how = { base, carry, near: NEAR_WRITTEN };
+    const made = await orSay(OF_IMAGES, () => passPatched(run.calls, run.watched(reader), script, how, taken));
+    if (made.status === STATUS.FAILED) throw programFault(made.text);
     await run.output.write(made.text);
     run.output.flush();
     return made.status;

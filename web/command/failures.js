@@ -1,16 +1,16 @@
 // Files that fail, and what the codes of the system mean to a person. Whatever fails, the status is 2.
 
-import { Fault } from '../core/faults.js';
+import { FAULT, Fault } from '../core/faults.js';
 
 /** @type {Record<string, string>} */
 const REASONS = {
     EACCES: 'no permission',
     EBADF: 'it is not open',
     EEXIST: 'it exists',
-    EINTR: 'the system broke off',
+    EINTR: 'interrupted',
     EIO: 'the disk or the drive has an error',
     EISDIR: 'it is a directory',
-    ELOOP: 'its links lead round',
+    ELOOP: 'too many levels of symbolic links',
     EMFILE: 'too many files are open',
     ENOENT: 'there is no such file or directory',
     ENOMEM: 'no memory',
@@ -42,21 +42,18 @@ export function hasCode(error, code) {
     return codeOf(error) === code;
 }
 
-/** What was tried with a file and failed. */
-export class FileFault extends Fault {
-    /**
-     * @param {Attempt} attempt
-     * @param {string} name
-     * @param {unknown} error
-     */
-    constructor(attempt, name, error) {
-        super(`cannot ${attempt} ${name}: ${reasonOf(error)}`);
-        this.attempt = attempt;
-    }
+/**
+ * That a file failed.
+ * @param {Attempt} attempt
+ * @param {string} name
+ * @param {unknown} error
+ */
+export function fileFault(attempt, name, error) {
+    return new Fault(`cannot ${attempt} ${name}: ${reasonOf(error)}`, FAULT.FILE, { attempt });
 }
 
 /**
- * What is tried with a file. Throws FileFault.
+ * What is tried with a file. Throws a Fault, FILE.
  * @template T
  * @param {Attempt} attempt
  * @param {string} name
@@ -67,6 +64,6 @@ export async function tryFile(attempt, name, tried) {
     try {
         return await tried();
     } catch (error) {
-        throw new FileFault(attempt, name, error);
+        throw fileFault(attempt, name, error);
     }
 }

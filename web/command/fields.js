@@ -1,12 +1,12 @@
 // How many bytes of which fields differ between two images: `diff --fields`.
 
 import { bytesOfLines } from '../core/bytes.js';
-import { FIELD_COUNT, tailsDiffer } from '../core/compare.js';
 import { Fault } from '../core/faults.js';
-import { FIELDS } from '../core/sector.js';
+import { FIELD_COUNT, tailsDiffer } from '../core/images/compare.js';
+import { FIELDS } from '../core/sectors/sector.js';
 
-/** @typedef {import('../core/compare.js').Differing} Differing */
-/** @typedef {import('../core/disc.js').DiscImage} DiscImage */
+/** @typedef {import('../core/images/compare.js').Differing} Differing */
+/** @typedef {import('../core/disc/disc.js').DiscImage} DiscImage */
 /** @typedef {import('./run.js').Run} Run */
 /** @typedef {import('./run.js').Target} Target */
 

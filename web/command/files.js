@@ -1,15 +1,15 @@
 // Files: images as readers, scripts in pieces, and files that are made new.
 
 import { closeSync, constants, fstatSync, open, read, readFileSync, readSync, readdirSync } from 'node:fs';
-import { Fault } from '../core/faults.js';
-import { MOST_SECTORS, SECTOR_SIZE } from '../core/sector.js';
+import { Fault, inMemory } from '../core/faults.js';
+import { MOST_SECTORS, SECTOR_SIZE } from '../core/sectors/sector.js';
 import { hasCode, tryFile } from './failures.js';
 import { NewFile } from './new_file.js';
 import { later, letSignalsIn, pause } from './pausing.js';
 import { STREAM_STEP, readerOfPieces } from './pieces.js';
 
 /** @typedef {import('../core/bytes.js').Reader} Reader */
-/** @typedef {import('../core/disc.js').DiscFile} DiscFile */
+/** @typedef {import('../core/disc/disc.js').DiscFile} DiscFile */
 
 /** A stream is read to its end, but not much further than the longest image. */
 const LONGEST_STREAM = MOST_SECTORS * SECTOR_SIZE + 1;
@@ -40,7 +40,7 @@ async function readSome(descriptor, bytes, done) {
  * @param {Uint8Array} [room] for as many bytes
  */
 async function readFully(length, readMore, room) {
-    const bytes = room ? room.subarray(0, length) : new Uint8Array(Buffer.allocUnsafeSlow(length).buffer);
+    const bytes = room ? room.subarray(0, length) : new Uint8Array(inMemory(() => Buffer.allocUnsafeSlow(length)).buffer);
     for (let done = 0; done < length;) {
         const count = await readMore(bytes, done);
         if (count === 0) return bytes.subarray(0, done);
@@ -73,7 +73,7 @@ function diskReader(name, descriptor, size, start) {
  * The place up to which a descriptor has been read, or null if the system does not say.
  * @param {number} descriptor
  */
-function startOf(descriptor) {
+function readSoFar(descriptor) {
     try {
         const found = /^pos:\s*(\d+)/m.exec(readFileSync(`/proc/self/fdinfo/${descriptor}`, 'latin1'));
         return found && Number(found[1]);
@@ -158,7 +158,7 @@ export class Files {
      */
     async readerOf(name, descriptor) {
         const stat = await tryFile('read', name, () => fstatSync(descriptor));
-        const start = descriptor === this.input ? startOf(descriptor) : 0;
+        const start = descriptor === this.input ? readSoFar(descriptor) : 0;
         if (stat.isFile() && stat.size > 0 && start !== null) return diskReader(name, descriptor, Math.max(stat.size - start, 0), start);
         const pieces = [];
         let taken = 0;

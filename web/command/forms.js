@@ -1,6 +1,7 @@
 // The jobs and the options of the command line, and what help says of each.
 
-import { ENCODINGS } from '../core/text.js';
+import { LAST_BASE } from '../core/module/numbers.js';
+import { ENCODINGS } from '../core/texts/encodings.js';
 import { applyJob, auditJob, checkJob, listJob } from './as_program.js';
 import { extractJob, mergeJob, rawJob, userJob } from './images.js';
 import { infoJob } from './informing.js';
@@ -22,7 +23,7 @@ import { textsJob } from './texting.js';
 
 /** @type {Record<string, OptionForm>} */
 export const OPTION_FORMS = {
-    base: { word: '--base', value: 'N', does: 'the block number of the first sector, 0 to 449849' },
+    base: { word: '--base', value: 'N', does: `the block number of the first sector, 0 to ${LAST_BASE}` },
     track: { word: '--track', value: 'N', does: 'the data track of that number, not the first one' },
     encoding: { word: '--encoding', value: 'NAME', does: `how texts are written: ${ENCODINGS.map(({ name }) => name).join(', ')}` },
     table: { word: '--table', value: 'FILE', does: "a game's own table of characters (.tbl)" },

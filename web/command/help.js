@@ -3,9 +3,9 @@
 import { usageOf } from './arguments.js';
 import { FORMS, OPTION_FORMS } from './forms.js';
 
-/** As much of a text as a line takes, and as one beside an option. */
+/** Breaks a text at 79 columns, and beside an option at 54. */
 const LINE = /\S.{0,78}(?= |$)/g;
-const BESIDE = /\S.{0,53}(?= |$)/g;
+const BESIDE_OPTION = /\S.{0,53}(?= |$)/g;
 const COLUMN = 25;
 
 /** @type {Record<string, string>} */
@@ -19,7 +19,7 @@ function optionRow(name, own) {
     const { word, value, does } = OPTION_FORMS[name];
     const spelled = word.startsWith('--') ? `    ${word}` : word;
     const option = BOTH_WORDS[name] || `${spelled} ${value}`;
-    return `  ${option}`.padEnd(COLUMN) + ((own || does).match(BESIDE) || []).join(`\n${' '.repeat(COLUMN)}`);
+    return `  ${option}`.padEnd(COLUMN) + ((own || does).match(BESIDE_OPTION) || []).join(`\n${' '.repeat(COLUMN)}`);
 }
 
 /** @param {string} job */

@@ -1,29 +1,30 @@
 // The jobs that write images: `merge`, `raw`, `user` and `extract`.
 
 import { createHash } from 'node:crypto';
-import { bytesOfLines } from '../core/bytes.js';
+import { bytesOfLines, sliceOf } from '../core/bytes.js';
+import { natureOf } from '../core/disc/file_type.js';
 import { Fault } from '../core/faults.js';
-import { holesOf, mode1Tracks } from '../core/holes.js';
-import { natureOf, sliceOf } from '../core/image.js';
-import { mergeImages } from '../core/merge.js';
-import { kindName } from '../core/records.js';
-import { addToRuns, blocksIn, blocksText } from '../core/runs.js';
-import { SECTOR_SIZE, USER_SIZE } from '../core/sector.js';
-import { fileNamed } from './looking.js';
+import { mergeImages } from '../core/images/merge.js';
+import { LAST_BASE } from '../core/module/numbers.js';
+import { kindName } from '../core/module/records.js';
+import { holesOf, mode1Tracks } from '../core/sectors/holes.js';
+import { addToRuns, blocksIn, blocksText } from '../core/sectors/runs.js';
+import { SECTOR_SIZE, USER_SIZE } from '../core/sectors/sector.js';
+import { fileAtPath } from './looking.js';
 import { openTrack } from './opening.js';
-import { linesOfRuns, sayLong, sayOfRuns, visible } from './words.js';
+import { linesOfRuns, sayLong, sayOfRuns, visible } from './printed.js';
 
-/** @typedef {import('../core/merge.js').Repair} Repair */
-/** @typedef {import('../core/disc.js').DiscImage} DiscImage */
-/** @typedef {import('../core/convert.js').KindRun} KindRun */
+/** @typedef {import('../core/images/merge.js').Repair} Repair */
+/** @typedef {import('../core/disc/disc.js').DiscImage} DiscImage */
+/** @typedef {import('../core/images/convert.js').KindRun} KindRun */
 /** @typedef {import('../core/bytes.js').Reader} Reader */
-/** @typedef {import('../core/runs.js').Run} BlockRun */
+/** @typedef {import('../core/sectors/runs.js').Run} BlockRun */
 /** @typedef {import('./run.js').Run} Run */
 /** @typedef {import('./run.js').Target} Target */
 
-const BLOCKS_WITH_ADDRESS = 449850;
-const DOUBT = "OLD's EDC is another: perhaps another version";
-const TAILS = 'the bytes after the last sector are others';
+const BLOCKS_WITH_ADDRESS = LAST_BASE + 1;
+const OTHER_EDC = "OLD has a different EDC: perhaps another version";
+const TAILS = 'the bytes after the last sector differ';
 
 /**
  * What was taken, and what could not be repaired, in lines.
@@ -71,7 +72,7 @@ export async function mergeJob(run) {
         const sha1 = hash.digest('hex');
         run.say(`${out.name}: ${known.said(image.reader.size, sha1) || `no dump of this size and SHA-1 is in the DAT: ${sha1}`}`);
     }
-    sayOfRuns(run, repair.doubtful, it => `${blocksText([it])}: taken from ${others[it.other].name}, but ${DOUBT}`);
+    sayOfRuns(run, repair.doubtful, it => `${blocksText([it])}: taken from ${others[it.other].name}, but ${OTHER_EDC}`);
     return Number(repair.damaged.length > 0 || repair.doubtful.length > 0 || holes.length > 0);
 }
 
@@ -129,7 +130,7 @@ export async function extractJob(run) {
     const out = await run.files.make(run.names[2]);
     const { part } = await openTrack(run, run.names[0]);
     let has = false;
-    for (const { block, size } of (await fileNamed(part, run.names[1])).extents) {
+    for (const { block, size } of (await fileAtPath(part, run.names[1])).extents) {
         const [first, count] = [block - part.base, Math.ceil(size / USER_SIZE)];
         const sectors = sliceOf(part.reader, first * SECTOR_SIZE, (first + count) * SECTOR_SIZE);
         has = await writeUser(run, out, sectors, block, size) || has;

@@ -1,16 +1,16 @@
 // The job `info`: what a file is, with all that is found in it.
 
 import { bytesOfLines } from '../core/bytes.js';
-import { natureOf } from '../core/image.js';
-import { SECTOR_KIND } from '../core/records.js';
-import { blocksIn } from '../core/runs.js';
-import { kindRuns, listText } from '../core/survey.js';
+import { natureOf } from '../core/disc/file_type.js';
+import { SECTOR_KIND } from '../core/module/records.js';
+import { blocksIn } from '../core/sectors/runs.js';
+import { kindRuns, listText } from '../core/sectors/survey.js';
 import { openDiscOf } from './opening.js';
+import { linesOfRuns, sayLong, visible } from './printed.js';
 import { foundInFiles } from './surveying.js';
-import { linesOfRuns, sayLong, visible } from './words.js';
 
-/** @typedef {import('../core/disc.js').Disc} Disc */
-/** @typedef {import('../core/disc.js').DiscTrack} DiscTrack */
+/** @typedef {import('../core/disc/disc.js').Disc} Disc */
+/** @typedef {import('../core/disc/disc.js').DiscTrack} DiscTrack */
 /** @typedef {import('./run.js').Run} Run */
 /** @typedef {{ found: boolean, lines: string[] }} Found whether something is wrong, and what is printed */
 /** @typedef {import('./surveying.js').FileFound} FileFound */

@@ -2,13 +2,13 @@
 
 import { wholeOf } from '../core/bytes.js';
 import { Fault } from '../core/faults.js';
-import { ScriptParts } from '../core/output.js';
-import { encodingOf, textOfFile } from '../core/text.js';
+import { ScriptParts } from '../core/script/script_writer.js';
+import { encodingOf, textOfFile } from '../core/texts/encodings.js';
 import { listRows, replacedRows } from '../core/texts/list.js';
 import { openTexts } from './looking.js';
+import { sayOfRuns } from './printed.js';
 import { assertFits, writeScript } from './scripts.js';
 import { encodingsOf } from './searching.js';
-import { sayOfRuns } from './words.js';
 
 /** @typedef {import('./run.js').Run} Run */
 

@@ -1,24 +1,25 @@
 // The jobs that look into a data track: `files`, `find` and `show`.
 
 import { bytesOfLines } from '../core/bytes.js';
-import { sectorsOfRange } from '../core/edit.js';
-import { Fault } from '../core/faults.js';
-import { fileOrder } from '../core/file_order.js';
-import { VolumeFault, filesOf, wholeFile } from '../core/iso.js';
-import { kindName } from '../core/records.js';
-import { FIELDS, USER_SIZE, addressIn, addressText } from '../core/sector.js';
+import { FAULT, Fault, failedBy } from '../core/faults.js';
+import { fileOrder } from '../core/iso/file_order.js';
+import { filesOf, wholeFile } from '../core/iso/files.js';
+import { kindName } from '../core/module/records.js';
+import { sectorsOfRange } from '../core/script/replace_bytes.js';
+import { FIELDS, USER_SIZE, addressIn, addressText } from '../core/sectors/sector.js';
+import { findingOf } from '../core/sectors/survey.js';
 import { LONGEST_CHARACTER, LOOKED_BACK, bytesInside, charactersFrom } from '../core/texts/boundaries.js';
 import { FilesAlong, bytesAround, contextsOf } from '../core/texts/context.js';
 import { hexText } from '../core/texts/hex.js';
-import { placeOf } from './numbers.js';
+import { placeGiven } from './numbers.js';
 import { openTrack } from './opening.js';
+import { visible } from './printed.js';
 import { encodingsOf, hitsOf } from './searching.js';
 import { nearest } from './suggesting.js';
-import { visible } from './words.js';
 
-/** @typedef {import('../core/disc.js').DiscImage} DiscImage */
-/** @typedef {import('../core/edit.js').Place} Place */
-/** @typedef {import('../core/iso.js').FileEntry} FileEntry */
+/** @typedef {import('../core/disc/disc.js').DiscImage} DiscImage */
+/** @typedef {import('../core/script/replace_bytes.js').Place} Place */
+/** @typedef {import('../core/iso/files.js').FileEntry} FileEntry */
 /** @typedef {import('../core/texts/encoding.js').Encoding} Encoding */
 /** @typedef {import('../core/texts/find.js').Hit} Hit */
 /** @typedef {import('../core/texts/context.js').Context} Context */
@@ -29,14 +30,14 @@ const DEFAULT_LIMIT = 1000;
 
 /** The bytes of a row of `show`, and how many are shown from an offset on. */
 const ROW = 16;
-const SHOWN = 128;
+const BYTES_SHOWN = 128;
 
 /**
  * The file of a path, and what names the files of its volume. Throws a Fault if there is none.
  * @param {DiscImage} part
  * @param {string} path
  */
-export async function fileNamed(part, path) {
+export async function fileAtPath(part, path) {
     const { files, ...names } = await filesOf(part.reader, part.base);
     const rooted = (/** @type {string} */ name) => `/${name}`.replace(/^\/+/, '/');
     const named = files.filter(file => [file.path, visible(file.path)].map(rooted).includes(rooted(path)));
@@ -66,7 +67,7 @@ export async function filesIfAny(part) {
         const { files } = await filesOf(part.reader, part.base);
         return { files, why: [] };
     } catch (error) {
-        if (!(error instanceof VolumeFault)) throw error;
+        if (!failedBy(error, FAULT.VOLUME)) throw error;
         return { files: [], why: [`no file is named: ${error.message}`] };
     }
 }
@@ -148,14 +149,14 @@ export async function findJob(run) {
  * @param {DiscImage} image
  * @param {Encoding} encoding
  * @param {Place} place of the first byte
- * @param {number} size how many bytes are shown, if there are so many
+ * @param {number} size how many bytes are shown, or all that there are
  */
 async function rowLines(image, encoding, place, size) {
     const { at, bytes } = await bytesAround(image, place, LOOKED_BACK, size + LONGEST_CHARACTER);
     const shown = bytes.subarray(at, at + size);
     const texts = new Array(Math.ceil(shown.length / ROW)).fill('');
     for (const it of charactersFrom(encoding, bytes, at + bytesInside(encoding, bytes, at))) {
-        if (encoding.name !== 'hex' && it.at < at + shown.length) texts[Math.floor((it.at - at) / ROW)] += visible(it.text);
+        if (encoding.hasCharacters && it.at < at + shown.length) texts[Math.floor((it.at - at) / ROW)] += visible(it.text);
     }
     return texts.flatMap((text, i) => {
         const offset = place.offset + i * ROW;
@@ -173,13 +174,13 @@ async function rowLines(image, encoding, place, size) {
  * @param {Place} place
  */
 async function sectorLines(run, part, sector, place) {
-    const [found] = new TextDecoder().decode(run.calls.audit(sector, place.block).text).split('\n');
+    const found = findingOf(run.calls, place.block, run.calls.survey(sector, place.block));
     const { files, why } = await filesIfAny(part);
     why.forEach(text => run.say(text));
     const [kind, edc] = [kindName(run.calls.kind(sector)), hexText(sector.subarray(FIELDS.edc, FIELDS.zeros))];
     return [
         `block ${place.block} address ${addressText(addressIn(sector, 0))} ${kind} edc ${edc}`,
-        ...found.startsWith('sectors ') ? [] : [`wrong: ${found.replace(/^\d+ /, '')}`],
+        ...found === '' ? [] : [`wrong: ${found}`],
         `file ${filesText(printedFiles(files), place)}`,
     ];
 }
@@ -187,10 +188,10 @@ async function sectorLines(run, part, sector, place) {
 /** @param {Run} run */
 export async function showJob(run) {
     const [name, blockText, offsetText = '0'] = run.names;
-    const place = placeOf(blockText, offsetText);
+    const place = placeGiven(blockText, offsetText);
     const [encoding] = await encodingsOf(run);
     const first = Math.floor(place.offset / ROW) * ROW;
-    const size = run.names.length < 3 ? USER_SIZE : SHOWN;
+    const size = run.names.length < 3 ? USER_SIZE : BYTES_SHOWN;
     const target = await run.target();
     const { image, part } = await openTrack(run, name, true);
     const lines = await sectorLines(run, part, await sectorsOfRange(image, place, 1), place);

@@ -2,25 +2,26 @@
 
 import { isMainThread, workerData } from 'node:worker_threads';
 import { gunzipSync } from 'node:zlib';
-import { Fault } from '../core/faults.js';
-import { STATUS } from '../core/records.js';
+import { FAULT, Fault, failedBy } from '../core/faults.js';
+import { STATUS } from '../core/module/records.js';
+import { isLimited, runAgain } from './again.js';
 import { argumentsOf } from './arguments.js';
 import { Files } from './files.js';
 import { FORMS } from './forms.js';
 import { helpText } from './help.js';
 import { MESSAGES } from './messages.js';
-import { Messages, ReaderEnded } from './output.js';
+import { visible } from './printed.js';
 import { Run } from './run.js';
 import { SCANNING, serveScan } from './scan_thread.js';
+import { Messages } from './stdout.js';
 import { serveHash, serveThread } from './threads.js';
-import { visible } from './words.js';
 
 /** @typedef {import('./arguments.js').Given} Given */
 /** @typedef {import('./run.js').Streams} Streams */
 
 const STANDARD = { input: 0, output: 1, errors: 2 };
 /** @type {('SIGHUP' | 'SIGINT' | 'SIGTERM')[]} */
-const ENDING = ['SIGHUP', 'SIGINT', 'SIGTERM'];
+const END_SIGNALS = ['SIGHUP', 'SIGINT', 'SIGTERM'];
 
 /** @param {number} number of a version, as 10200 */
 function versionText(number) {
@@ -42,10 +43,9 @@ async function printHelp({ job, options }, run) {
 /** @param {unknown} error */
 function messageOf(error) {
     if (!(error instanceof Error)) return String(error);
+    if (failedBy(error, FAULT.NO_MEMORY)) return MESSAGES.no_memory;
     if (error instanceof Fault) return visible(error.message);
-    // As node and the engine say it, in a thread too.
-    if (/allocation failed|out of memory|memory\.grow/i.test(error.message)) return MESSAGES.no_memory;
-    return `a fault in cdscript itself: ${(error.stack || '').split('\n').map(visible).join('\n')}`;
+    return `internal error: ${(error.stack || '').split('\n').map(visible).join('\n')}`;
 }
 
 /**
@@ -67,7 +67,7 @@ export async function main(words, streams = STANDARD, files = new Files(streams.
         await files.finish();
         return status;
     } catch (error) {
-        if (!(error instanceof ReaderEnded)) messages.say(messageOf(error));
+        if (!failedBy(error, FAULT.READER_ENDED)) messages.say(messageOf(error));
         return STATUS.FAILED;
     } finally {
         if (run !== null) run.crew.close();
@@ -80,7 +80,7 @@ export async function main(words, streams = STANDARD, files = new Files(streams.
  * @param {Files} files
  */
 function endOnSignals(files) {
-    for (const signal of ENDING) {
+    for (const signal of END_SIGNALS) {
         process.once(signal, () => {
             files.removeUnfinished();
             process.kill(process.pid, signal);
@@ -96,11 +96,16 @@ export function start() {
         else serveThread();
         return;
     }
+    const failed = (/** @type {unknown} */ error) => {
+        new Messages(STANDARD.errors).say(messageOf(error));
+        return STATUS.FAILED;
+    };
+    if (isLimited()) {
+        runAgain(END_SIGNALS, error => process.exit(failed(error)));
+        return;
+    }
     // Before a file is made, a signal ends the process by itself, even while that waits for who reads its output.
     /** @type {Files} */
     const files = new Files(STANDARD.input, () => endOnSignals(files));
-    main(process.argv.slice(2), STANDARD, files).catch(error => {
-        new Messages(STANDARD.errors).say(messageOf(error));
-        return STATUS.FAILED;
-    }).then(status => process.exit(status));
+    main(process.argv.slice(2), STANDARD, files).catch(failed).then(status => process.exit(status));
 }

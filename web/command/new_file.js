@@ -5,14 +5,14 @@ import { randomBytes } from 'node:crypto';
 import { closeSync, fstatSync, fsync, linkSync, lstatSync, openSync, unlinkSync, writeSync } from 'node:fs';
 import { basename, dirname, join } from 'node:path';
 import { READ_SIZE, bytesOfPieces } from '../core/bytes.js';
-import { FileFault, hasCode, tryFile } from './failures.js';
+import { fileFault, hasCode, tryFile } from './failures.js';
 import { later, letSignalsIn } from './pausing.js';
 
 /** @typedef {import('../core/bytes.js').Piece} Piece */
 /** @typedef {import('../core/bytes.js').Reader} Reader */
 
-/** When so many bytes are written the disk is told to begin with them. */
-const SYNCED = 1 << 26;
+/** Bytes after which the disk is told to begin writing. */
+const SYNC_SIZE = 1 << 26;
 
 /**
  * Writes all bytes, by more writes if the first are short.
@@ -71,7 +71,7 @@ function openedNew(name) {
     return isName && openedBeside(name) || { place: name, descriptor: openSync(name, 'wx') };
 }
 
-/** A file that did not exist before. Until it is finished it is removed if anything fails. */
+/** A new output file; it is deleted on failure unless it was finished. */
 export class NewFile {
     /**
      * @param {string} name of a file that must not exist
@@ -94,7 +94,7 @@ export class NewFile {
         await letSignalsIn();
         await tryFile('write', this.name, () => writeFully(this.descriptor, bytes));
         this.unsynced += bytes.length;
-        if (this.unsynced < SYNCED) return;
+        if (this.unsynced < SYNC_SIZE) return;
         await this.synced();
         this.sync();
     }
@@ -130,7 +130,7 @@ export class NewFile {
     /** Waits until it has. A failure is said once by the system. A file system that knows nothing of it (EINVAL) has none. */
     async synced() {
         const error = await this.syncing;
-        if (error && !hasCode(error, 'EINVAL')) throw new FileFault('write', this.name, error);
+        if (error && !hasCode(error, 'EINVAL')) throw fileFault('write', this.name, error);
     }
 
     /** The file is complete, and on the disk. It gets its name, which no file may have got meanwhile. */

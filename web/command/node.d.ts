@@ -7,14 +7,27 @@ declare const Buffer: {
 };
 
 declare const process: {
+    allowedNodeEnvironmentFlags: Set<string>;
     argv: string[];
+    execArgv: string[];
+    execPath: string;
     pid: number;
     exit(status: number): never;
     kill(pid: number, signal: string): void;
+    off(signal: string, listener: (signal: string) => void): void;
+    on(signal: string, listener: (signal: string) => void): void;
     once(signal: string, listener: () => void): void;
 };
 
 declare function setImmediate(callback: (value: unknown) => void): void;
+
+declare module 'node:child_process' {
+    export function spawn(command: string, words: string[], how: { stdio: 'inherit' }): {
+        kill(signal: string): boolean,
+        on(event: 'error', listener: (error: unknown) => void): void,
+        on(event: 'exit', listener: (status: number, signal: string | null) => void): void,
+    };
+}
 
 declare module 'node:crypto' {
     export function createHash(name: 'sha1'): { update(bytes: Uint8Array): void, digest(form: 'hex'): string };

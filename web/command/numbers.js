@@ -1,8 +1,7 @@
 // Numbers of the command line.
 
 import { Fault } from '../core/faults.js';
-
-export const MOST_BLOCKS = 999999999;
+import { LAST_BLOCK, USER_SIZE } from '../core/module/numbers.js';
 
 /**
  * A number of decimal digits within its limits.
@@ -22,6 +21,6 @@ export function numberOf(text, name, least, most) {
  * @param {string} block
  * @param {string} offset
  */
-export function placeOf(block, offset) {
-    return { block: numberOf(block, 'a block', 0, MOST_BLOCKS), offset: numberOf(offset, 'an offset', 0, 2047) };
+export function placeGiven(block, offset) {
+    return { block: numberOf(block, 'a block', 0, LAST_BLOCK), offset: numberOf(offset, 'an offset', 0, USER_SIZE - 1) };
 }

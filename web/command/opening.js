@@ -2,18 +2,18 @@
 
 import { basename, dirname, join } from 'node:path';
 import { wholeOf } from '../core/bytes.js';
-import { sheetOf } from '../core/cue.js';
-import { MissingFiles, dataTrack, openDisc } from '../core/disc.js';
-import { Fault } from '../core/faults.js';
-import { natureOf } from '../core/image.js';
-import { baseFault } from '../core/base_said.js';
-import { imageTooLong } from '../core/sector.js';
-import { textOfFile } from '../core/text.js';
+import { sheetOf } from '../core/disc/cue.js';
+import { dataTrack, openDisc } from '../core/disc/disc.js';
+import { natureOf } from '../core/disc/file_type.js';
+import { FAULT, Fault, failedBy } from '../core/faults.js';
+import { baseFault } from '../core/script/base_said.js';
+import { imageTooLong } from '../core/sectors/sector.js';
+import { textOfFile } from '../core/texts/encodings.js';
 import { MESSAGES } from './messages.js';
 
-/** @typedef {import('../core/disc.js').Disc} Disc */
-/** @typedef {import('../core/disc.js').DiscFile} DiscFile */
-/** @typedef {import('../core/disc.js').DiscImage} DiscImage */
+/** @typedef {import('../core/disc/disc.js').Disc} Disc */
+/** @typedef {import('../core/disc/disc.js').DiscFile} DiscFile */
+/** @typedef {import('../core/disc/disc.js').DiscImage} DiscImage */
 /** @typedef {import('./run.js').Run} Run */
 
 /**
@@ -25,7 +25,7 @@ export async function openDiscOf(run, name) {
     const file = await run.files.image(name);
     const { kind } = await natureOf(run.calls, file.reader);
     const others = kind === 'cue' ? await filesOfSheet(run, file) : [];
-    const disc = await openFiles(run, [file, ...others]);
+    const disc = await openNamedFiles(run, [file, ...others]);
     const long = disc.files.find(({ reader }) => imageTooLong(reader.size));
     if (long) throw new Fault(`${long.name}: ${MESSAGES.long_image}`);
     return disc;
@@ -36,12 +36,12 @@ export async function openDiscOf(run, name) {
  * @param {Run} run
  * @param {DiscFile[]} files
  */
-async function openFiles(run, files) {
+async function openNamedFiles(run, files) {
     try {
         return await openDisc(run.calls, files);
     } catch (error) {
-        if (!(error instanceof MissingFiles)) throw error;
-        throw new Fault(`${error.found} It is not in the directory of the cue sheet.`);
+        if (!failedBy(error, FAULT.MISSING_FILES)) throw error;
+        throw new Fault(`${error.facts.found} It is not in the directory of the cue sheet.`);
     }
 }
 
@@ -97,7 +97,7 @@ export function sayUnknownBase(run, { name, base, addressed }) {
 
 /**
  * Throws a Fault if a script is for another base.
- * @param {import('../core/base_said.js').BaseSaid[]} bases
+ * @param {import('../core/script/base_said.js').BaseSaid[]} bases
  * @param {number} base of the image
  */
 export function assertBase(bases, base) {

@@ -1,13 +1,13 @@
 // Waiting: for signals, for calls of node, and before a pipe that is full or empty is tried again.
 
-/** After so many milliseconds the signals that have come are looked at. */
-const TURN = 50;
+/** How often to yield so that pending signals run, in milliseconds. */
+const YIELD_INTERVAL = 50;
 
 let lastTurn = 0;
 
 /** Lets signals in, if none was let in for a while. What node does at once would keep them out until its end. */
 export async function letSignalsIn() {
-    if (Date.now() - lastTurn < TURN) return;
+    if (Date.now() - lastTurn < YIELD_INTERVAL) return;
     lastTurn = Date.now();
     await new Promise(resolve => setImmediate(resolve));
 }
@@ -21,7 +21,7 @@ export function later(begin) {
     return new Promise((resolve, reject) => begin((error, value) => error ? reject(error) : resolve(value)));
 }
 
-/** So many milliseconds it takes. */
+/** In milliseconds. */
 const PAUSE = 2;
 
 const pausing = new Int32Array(new SharedArrayBuffer(4));

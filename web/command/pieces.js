@@ -2,7 +2,7 @@
 
 /** @typedef {import('../core/bytes.js').Reader} Reader */
 
-/** So many bytes of a stream are read at a time. */
+/** Bytes of a stream that are read at a time. */
 export const STREAM_STEP = 1 << 20;
 
 /**

@@ -1,10 +1,10 @@
 // The jobs that write scripts for a text or a file: `replace` and `replace-file`. The core has applied each before it is written.
 
-import { filledUp, replaceBytes } from '../core/edit.js';
 import { Fault } from '../core/faults.js';
-import { leftText } from '../core/lines.js';
-import { ScriptParts } from '../core/output.js';
-import { replaceFile } from '../core/replace_file.js';
+import { filledUp, replaceBytes } from '../core/script/replace_bytes.js';
+import { replaceFile } from '../core/script/replace_file.js';
+import { ScriptParts } from '../core/script/script_writer.js';
+import { leftText } from '../core/script/sector_lines.js';
 import { unitsAlike } from '../core/texts/alike.js';
 import { bytesAround, contextOf } from '../core/texts/context.js';
 import { spaceIn, usualBytes } from '../core/texts/encoding.js';
@@ -13,24 +13,24 @@ import { hexText } from '../core/texts/hex.js';
 import { leftHitText, replacedHits } from '../core/texts/replace.js';
 import { encodingsWith } from '../core/texts/search.js';
 import { replaceListJob } from './listing.js';
-import { fileNamed, openTexts } from './looking.js';
-import { placeOf } from './numbers.js';
+import { fileAtPath, openTexts } from './looking.js';
+import { placeGiven } from './numbers.js';
 import { openTrack } from './opening.js';
+import { sayOfRuns } from './printed.js';
 import { assertFits, writeScript } from './scripts.js';
 import { encodingsOf, hitsOf } from './searching.js';
-import { sayOfRuns } from './words.js';
 
-/** @typedef {import('../core/disc.js').DiscImage} DiscImage */
-/** @typedef {import('../core/edit.js').Place} Place */
-/** @typedef {import('../core/output.js').Script} Script */
+/** @typedef {import('../core/disc/disc.js').DiscImage} DiscImage */
+/** @typedef {import('../core/script/replace_bytes.js').Place} Place */
+/** @typedef {import('../core/script/script_writer.js').Script} Script */
 /** @typedef {import('../core/texts/encoding.js').Encoding} Encoding */
 /** @typedef {import('../core/texts/find.js').Hit} Hit */
 /** @typedef {import('./run.js').Run} Run */
 /** @typedef {import('./searching.js').Opened} Opened */
 /** @typedef {{ image: DiscImage, encoding: Encoding, hits: Hit[], inside: boolean }} Places `inside`: in the middle of characters too */
 
-/** So many places are listed if there are more than the one that was wanted. */
-const LISTED = 20;
+/** Most places that are listed if there are more than the one that was wanted. */
+const MOST_LISTED = 20;
 const MOST_PLACES = 1000000;
 
 /**
@@ -63,10 +63,10 @@ async function placeOfText(run, image, place, text) {
  * @param {string} text
  * @returns {Promise<Places>}
  */
-async function placesOf(run, opened, text) {
+async function wantedPlaces(run, opened, text) {
     const { part: image } = opened;
     const { all, inside = false } = run.options;
-    const found = await hitsOf(run, opened, text, all ? MOST_PLACES : LISTED);
+    const found = await hitsOf(run, opened, text, all ? MOST_PLACES : MOST_LISTED);
     if (found === null) throw new Fault('the text is not found');
     const { count, hits, encoding } = found;
     if (count === 1 && !all && !inside) await assertBegins(image, encoding, hits[0]);
@@ -91,7 +91,7 @@ async function assertBegins(image, encoding, hit) {
 }
 
 /**
- * The new bytes for so many old ones, by their number.
+ * The new bytes for a number of old ones.
  * @param {Run} run
  * @param {Places} places
  * @param {string} text
@@ -140,12 +140,12 @@ export async function replaceJob(run) {
     if (run.options.list !== undefined) return replaceListJob(run, run.options.list);
     const [name, ...more] = run.names;
     const [after, before, offset, block] = more.reverse();
-    const given = block === undefined ? null : placeOf(block, offset);
+    const given = block === undefined ? null : placeGiven(block, offset);
     if (given !== null && run.options.all) throw new Fault('--all and a place exclude each other');
     const target = await run.target();
     const opened = await openTexts(run, name, given !== null);
     const { image } = opened;
-    const places = given === null ? await placesOf(run, opened, before) : await placeOfText(run, image, given, before);
+    const places = given === null ? await wantedPlaces(run, opened, before) : await placeOfText(run, image, given, before);
     if (given !== null) {
         const [hit] = places.hits;
         const { doubt } = await contextOf(image, places.encoding, hit, 0);
@@ -162,7 +162,7 @@ export async function replaceFileJob(run) {
     if (fill && fill.length !== 1) throw new Fault('--fill is one byte here');
     const target = await run.target();
     const { image, part } = await openTrack(run, run.names[0]);
-    const file = await fileNamed(part, run.names[1]);
+    const file = await fileAtPath(part, run.names[1]);
     const { reader } = await run.files.image(run.names[2]);
     const made = await replaceFile(run.calls, run.crew, part, file, reader, fill && { fill: fill[0] });
     sayOfRuns(run, made.left, left => leftText([left], part.name));

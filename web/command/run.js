@@ -2,19 +2,18 @@
 
 import { gunzipSync } from 'node:zlib';
 import { joinedBytes } from '../core/bytes.js';
-import { Calls } from '../core/codes.js';
-import { KnownDumps } from '../core/dat.js';
-import { Fault } from '../core/faults.js';
-import { SECTOR_SIZE, sectorCount } from '../core/sector.js';
-import { FileFault } from './failures.js';
-import { Output } from './output.js';
+import { KnownDumps } from '../core/disc/dat.js';
+import { FAULT, Fault, failedBy } from '../core/faults.js';
+import { Calls } from '../core/module/calls.js';
+import { SECTOR_SIZE, sectorCount } from '../core/sectors/sector.js';
+import { visible } from './printed.js';
+import { Output } from './stdout.js';
 import { Threads } from './threads.js';
-import { visible } from './words.js';
 
 /** @typedef {import('../core/bytes.js').Reader} Reader */
 /** @typedef {import('./arguments.js').Given} Given */
 /** @typedef {import('./files.js').Files} Files */
-/** @typedef {import('./output.js').Messages} Messages */
+/** @typedef {import('./stdout.js').Messages} Messages */
 /** @typedef {{ input: number, output: number, errors: number }} Streams the descriptors of the standard streams */
 /** @typedef {{ write(bytes: Uint8Array): Promise<void> }} Target what a script or a list is written to */
 
@@ -83,7 +82,7 @@ export class Run {
         const known = new KnownDumps();
         for (const name of dat) {
             await known.add(this.files.piecesOf(name)).catch(error => {
-                throw error instanceof FileFault || !(error instanceof Fault) ? error : new Fault(`${name}: ${error.message}`);
+                throw failedBy(error, FAULT.FILE) || !(error instanceof Fault) ? error : new Fault(`${name}: ${error.message}`);
             });
         }
         return dat.length > 0 ? known : null;

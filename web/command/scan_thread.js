@@ -1,11 +1,11 @@
 // A thread that looks into one image after the other, each by itself, for `scan`.
 
 import { parentPort } from 'node:worker_threads';
+import { natureOf } from '../core/disc/file_type.js';
 import { Fault } from '../core/faults.js';
-import { natureOf } from '../core/image.js';
-import { kindName } from '../core/records.js';
-import { blocksIn } from '../core/runs.js';
-import { kindRuns } from '../core/survey.js';
+import { kindName } from '../core/module/records.js';
+import { blocksIn } from '../core/sectors/runs.js';
+import { kindRuns } from '../core/sectors/survey.js';
 import { Files } from './files.js';
 import { openDiscOf } from './opening.js';
 import { Run } from './run.js';
@@ -23,7 +23,7 @@ import { foundInFiles } from './surveying.js';
 export const SCANNING = 'scan';
 
 /** Who says and shows nothing. */
-const SILENT = /** @type {import('./output.js').Messages} */ (/** @type {unknown} */ ({ say() {}, progress() {}, hideProgress() {} }));
+const SILENT = /** @type {import('./stdout.js').Messages} */ (/** @type {unknown} */ ({ say() {}, progress() {}, hideProgress() {} }));
 
 /**
  * How many sectors of which kind there are, as 'mode1 20,nosync 3'.

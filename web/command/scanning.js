@@ -4,15 +4,15 @@ import { closeSync, ftruncateSync, openSync, readFileSync, readdirSync, realpath
 import { cpus } from 'node:os';
 import { basename, dirname, join } from 'node:path';
 import { bytesOfLines } from '../core/bytes.js';
-import { sheetOf } from '../core/cue.js';
+import { sheetOf } from '../core/disc/cue.js';
 import { Fault } from '../core/faults.js';
-import { textOfFile } from '../core/text.js';
+import { textOfFile } from '../core/texts/encodings.js';
 import { reasonOf, tryFile } from './failures.js';
 import { writeFully } from './new_file.js';
 import { SCANNING, scanOne } from './scan_thread.js';
 import { begunThread } from './threads.js';
 
-/** @typedef {import('../core/dat.js').KnownDumps} KnownDumps */
+/** @typedef {import('../core/disc/dat.js').KnownDumps} KnownDumps */
 /** @typedef {import('./run.js').Run} Run */
 /** @typedef {import('./run.js').Target} Target */
 /** @typedef {import('./scan_thread.js').Answer} Answer */
@@ -110,7 +110,7 @@ class Collection {
 
     /** Cue sheets first, so that what they name is not looked at twice. */
     names() {
-        return [...this.found.values()].sort((a, b) => Number(isSheet(b.name)) - Number(isSheet(a.name)));
+        return [...this.found.values()].sort((a, b) => Number(isSheetName(b.name)) - Number(isSheetName(a.name)));
     }
 }
 
@@ -120,7 +120,7 @@ function newScanner() {
     /** @type {(answer: Answer) => void} */
     let settle = () => {};
     const failed = (/** @type {unknown} */ error) =>
-        settle({ files: [], missing: [], fault: `a fault in cdscript itself: ${error}`, isOther: false });
+        settle({ files: [], missing: [], fault: `internal error: ${error}`, isOther: false });
     if (thread) thread.worker.on('message', answer => settle(answer));
     if (thread) thread.worker.on('error', failed);
     return {
@@ -195,7 +195,7 @@ class Scan {
      * @param {string} name
      */
     isSheetTold(name) {
-        const named = this.done.size > 0 && isSheet(name) ? filesNamedBy(name) : [];
+        const named = this.done.size > 0 && isSheetName(name) ? filesNamedBy(name) : [];
         if (named.length === 0 || !named.every(it => this.done.has(listedName(it)))) return false;
         named.forEach(it => this.told.add(realName(it)));
         return true;
@@ -203,7 +203,7 @@ class Scan {
 }
 
 /** @param {string} name */
-function isSheet(name) {
+function isSheetName(name) {
     return /\.cue$/i.test(name);
 }
 
@@ -248,7 +248,7 @@ export async function scanJob(run) {
     const collection = new Collection(text => scan.fault(text));
     run.names.forEach(path => collection.add(path));
     const names = collection.names();
-    const sheets = names.filter(({ name }) => isSheet(name));
+    const sheets = names.filter(({ name }) => isSheetName(name));
     try {
         for (const some of [sheets, names.slice(sheets.length)]) await scanAll(scan, some);
     } finally {

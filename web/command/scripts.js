@@ -1,32 +1,32 @@
 // The jobs that write scripts of whole images: `diff`, `rebuilds` and `undo`. The core has applied what it writes.
 
-import { baseComment } from '../core/base_said.js';
-import { compareImages } from '../core/compare.js';
-import { dataTrack } from '../core/disc.js';
+import { dataTrack } from '../core/disc/disc.js';
 import { Fault } from '../core/faults.js';
-import { LineList, leftText } from '../core/lines.js';
-import { ScriptParts } from '../core/output.js';
-import { passPatched } from '../core/patch.js';
-import { MOST_SCRIPT_BYTES, RECORD_SIZE, STATUS } from '../core/records.js';
-import { blocksIn, blocksText } from '../core/runs.js';
-import { Refusal, readScript } from '../core/script.js';
-import { isDamaged } from '../core/survey.js';
-import { undoScript } from '../core/undo.js';
+import { compareImages } from '../core/images/compare.js';
+import { MOST_SCRIPT_BYTES, RECORD_SIZE, STATUS } from '../core/module/records.js';
+import { baseComment } from '../core/script/base_said.js';
+import { passPatched } from '../core/script/patches.js';
+import { Refusal, readScript } from '../core/script/script.js';
+import { ScriptParts } from '../core/script/script_writer.js';
+import { LineList, leftText } from '../core/script/sector_lines.js';
+import { undoScript } from '../core/script/undo.js';
+import { blocksIn, blocksText } from '../core/sectors/runs.js';
+import { isDamaged } from '../core/sectors/survey.js';
 import { differingFields } from './fields.js';
 import { NewFile } from './new_file.js';
 import { openDiscOf, openTrack } from './opening.js';
-import { sayOfRuns } from './words.js';
+import { sayOfRuns } from './printed.js';
 
-/** @typedef {import('../core/compare.js').Comparison} Comparison */
-/** @typedef {import('../core/disc.js').DiscImage} DiscImage */
-/** @typedef {import('../core/output.js').Script} Script */
+/** @typedef {import('../core/images/compare.js').Comparison} Comparison */
+/** @typedef {import('../core/disc/disc.js').DiscImage} DiscImage */
+/** @typedef {import('../core/script/script_writer.js').Script} Script */
 /** @typedef {import('./run.js').Run} Run */
 /** @typedef {import('./run.js').Target} Target */
 
 /** Blocks, or patches, were left out, and that was said. */
-const LEFT = 1;
+const SOME_LEFT_OUT = 1;
 
-const HEALED = 'damage does not come back; address and user data do';
+const DAMAGE_STAYS_OUT = 'damage does not come back; address and user data do';
 
 /**
  * Writes a script, with a comment that says its base if that is not 0.
@@ -69,7 +69,7 @@ function sayOfScript(run, { patches, long, carry }) {
 export async function assertFits(run, image, script) {
     const read = await readScript(run.calls, script.pieces, script.long);
     const made = read instanceof Refusal ? null : await passPatched(run.calls, image.reader, read, { base: image.base });
-    if (made === null || made.status !== STATUS.DONE) throw new Fault('the patches do not fit together, so no script is written');
+    if (made === null || made.status !== STATUS.DONE) throw new Fault('the patches conflict, so no script is written');
 }
 
 /**
@@ -122,7 +122,7 @@ export async function diffJob(run) {
     else await writeScript(run, target, made.script, image.base);
     const left = blocksIn(made.left);
     if (left > 0) run.say(`${partial ? '' : 'damaged '}blocks that are left out: ${left}`);
-    return left > 0 || made.tail ? LEFT : 0;
+    return left > 0 || made.tail ? SOME_LEFT_OUT : 0;
 }
 
 /** @param {Run} run */
@@ -152,7 +152,7 @@ export async function undoJob(run) {
     const why = `${refused === 1 ? '1 patch is' : `${refused} patches are`} refused on ${image.name}: is it the image before the script?`;
     if (refused > 0 && made.script.patches === 0 && made.left.length === 0) throw new Fault(why);
     if (refused > 0) run.say(why);
-    sayOfRuns(run, made.left, left => left.why === 'damaged' ? `${blocksText([left])}: ${HEALED}` : leftText([left], image.name));
+    sayOfRuns(run, made.left, left => left.why === 'damaged' ? `${blocksText([left])}: ${DAMAGE_STAYS_OUT}` : leftText([left], image.name));
     await writeScript(run, target, made.script, image.base);
-    return refused > 0 || made.left.length > 0 ? LEFT : 0;
+    return refused > 0 || made.left.length > 0 ? SOME_LEFT_OUT : 0;
 }

@@ -2,7 +2,7 @@
 
 import { wholeOf } from '../core/bytes.js';
 import { Fault } from '../core/faults.js';
-import { ENCODINGS, encodingOf, tableOf } from '../core/text.js';
+import { SEARCHED, encodingOf, tableOf } from '../core/texts/encodings.js';
 import { encodingsWith, searchText } from '../core/texts/search.js';
 
 /** @typedef {import('../core/texts/encoding.js').Encoding} Encoding */
@@ -17,7 +17,7 @@ import { encodingsWith, searchText } from '../core/texts/search.js';
  */
 export async function encodingsOf({ options: { encoding, table }, files }) {
     if (table !== undefined) return [tableOf(await wholeOf((await files.image(table)).reader))];
-    return encoding === undefined ? ENCODINGS.filter(({ searched }) => searched) : [/** @type {Encoding} */ (encodingOf(encoding))];
+    return encoding === undefined ? SEARCHED : [/** @type {Encoding} */ (encodingOf(encoding))];
 }
 
 /**

@@ -1,6 +1,6 @@
 // What a word that is not known may have been meant to be.
 
-/** So many letters may be wrong, missing or too many. */
+/** Most letters that may be wrong, missing or too many. */
 const MOST_WRONG = 2;
 
 /** Longer words are not compared: they take too long, and nobody mistypes them so. */

@@ -2,18 +2,18 @@
 
 import { createHash } from 'node:crypto';
 import { readBytes } from '../core/bytes.js';
-import { MODE1, holesOf, mode1Tracks, otherRuns } from '../core/holes.js';
-import { sectorCount } from '../core/sector.js';
-import { surveyCounts } from '../core/survey.js';
+import { MODE1, holesOf, mode1Tracks, otherRuns } from '../core/sectors/holes.js';
+import { sectorCount } from '../core/sectors/sector.js';
+import { surveyCounts } from '../core/sectors/survey.js';
 import { openTrack, sayUnknownBase } from './opening.js';
 import { begunThread } from './threads.js';
 
 /** @typedef {import('../core/bytes.js').Reader} Reader */
-/** @typedef {import('../core/disc.js').Disc} Disc */
-/** @typedef {import('../core/disc.js').DiscFile} DiscFile */
-/** @typedef {import('../core/disc.js').DiscImage} DiscImage */
-/** @typedef {import('../core/runs.js').Run} BlockRun */
-/** @typedef {import('../core/survey.js').Survey} Survey */
+/** @typedef {import('../core/disc/disc.js').Disc} Disc */
+/** @typedef {import('../core/disc/disc.js').DiscFile} DiscFile */
+/** @typedef {import('../core/disc/disc.js').DiscImage} DiscImage */
+/** @typedef {import('../core/sectors/runs.js').Run} BlockRun */
+/** @typedef {import('../core/sectors/survey.js').Survey} Survey */
 /** @typedef {import('./run.js').Run} Run */
 /**
  * A track; whether `image` is all of its file; and the tracks that a sheet says are Mode 1 in it.
@@ -22,8 +22,8 @@ import { begunThread } from './threads.js';
 /** @typedef {ReturnType<typeof surveyCounts> & { survey: Survey, holes: BlockRun[], long: BlockRun[] }} Counted */
 /** @typedef {{ file: DiscFile, sha1: string, surveys: (Surveyed & Counted)[] }} FileFound a file of a disc, and what is found in it */
 
-/** So many bytes are hashed at a time. */
-const HASHED = 1 << 22;
+/** Bytes that are hashed at a time. */
+const HASH_STEP = 1 << 22;
 
 /**
  * A reader that hashes what it is read, which has to be all bytes, one after the other; and its SHA-1, after what was not read yet.
@@ -38,13 +38,13 @@ function hashing(reader) {
         size,
         async read(at, length) {
             const bytes = await reader.read(at, length);
-            if (at !== hashed) throw new RangeError(`byte ${at} after ${hashed} bytes`);
+            if (at !== hashed) throw new Error(`byte ${at} after ${hashed} bytes`);
             hash.update(bytes);
             hashed += bytes.length;
             return bytes;
         },
         async digest() {
-            while (hashed < size) await readBytes(this, hashed, Math.min(HASHED, size - hashed));
+            while (hashed < size) await readBytes(this, hashed, Math.min(HASH_STEP, size - hashed));
             return hash.digest('hex');
         },
     };
@@ -57,7 +57,7 @@ function hashing(reader) {
  * @param {Reader} reader of the image
  * @returns {Promise<Counted>}
  */
-async function counted(run, { image, mode1Tracks: tracks }, reader) {
+async function countedSurvey(run, { image, mode1Tracks: tracks }, reader) {
     const survey = await run.survey(reader, image.base);
     const blocks = { first: image.base, last: image.base + image.sectors - 1 };
     return { survey, ...surveyCounts(survey), ...holesOf(otherRuns(survey), blocks, tracks) };
@@ -131,7 +131,7 @@ export async function foundInFiles(run, disc) {
         const isBeside = isHashedBeside(run, file.reader);
         const hashed = hashing(file.reader);
         const surveys = [];
-        for (const it of own) surveys.push({ ...it, ...await counted(run, it, it.isWhole && !isBeside ? hashed : it.image.reader) });
+        for (const it of own) surveys.push({ ...it, ...await countedSurvey(run, it, it.isWhole && !isBeside ? hashed : it.image.reader) });
         found.push({ file, sha1: await beside || await hashed.digest(), surveys });
     }
     return found;

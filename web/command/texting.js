@@ -1,20 +1,18 @@
 // The job `texts`: a table of all texts of a data track, for translators.
 
-import { wholeOf } from '../core/bytes.js';
+import { sliceOf, wholeOf } from '../core/bytes.js';
 import { Fault } from '../core/faults.js';
-import { sliceOf } from '../core/image.js';
-import { SECTOR_SIZE, USER_SIZE } from '../core/sector.js';
-import { encodingOf, tableTextOf } from '../core/text.js';
+import { SECTOR_SIZE, USER_SIZE } from '../core/sectors/sector.js';
 import { rowText } from '../core/texts/cells.js';
 import { bytesBefore } from '../core/texts/context.js';
-import { HEX } from '../core/texts/hex.js';
+import { encodingOf, tableTextOf } from '../core/texts/encodings.js';
 import { BEYOND } from '../core/texts/range.js';
 import { keptOf } from '../core/texts/telling.js';
 import { openTexts } from './looking.js';
-import { visible } from './words.js';
+import { visible } from './printed.js';
 
-/** @typedef {import('../core/disc.js').DiscImage} DiscImage */
-/** @typedef {import('../core/iso.js').FileEntry} FileEntry */
+/** @typedef {import('../core/disc/disc.js').DiscImage} DiscImage */
+/** @typedef {import('../core/iso/files.js').FileEntry} FileEntry */
 /** @typedef {import('../core/texts/range.js').Asked} Asked */
 /** @typedef {import('../core/texts/range.js').Told} Told */
 /** @typedef {import('../core/jobs.js').Sharer} Sharer */
@@ -29,8 +27,8 @@ const COLUMNS = ['block', 'offset', 'bytes', 'room', 'encoding', 'file', 'text',
 
 const LEAST_CHARACTERS = 2;
 
-/** So many stretches are looked at side by side. */
-const TOGETHER = 64;
+/** Stretches that are looked at side by side. */
+const STRETCHES_AT_ONCE = 64;
 
 /**
  * The stretches of a part, in the order of its files.
@@ -93,7 +91,8 @@ function stretchesIn(stretches, paths) {
 /** @param {Run} run */
 export async function textsJob(run) {
     const { encoding, table, csv, min = LEAST_CHARACTERS, in: paths = [] } = run.options;
-    if (encoding !== undefined && encodingOf(encoding) === HEX) throw new Fault('texts are told by their characters, and hex has none');
+    const named = encoding === undefined ? null : encodingOf(encoding);
+    if (named !== null && !named.hasCharacters) throw new Fault(`texts are told by their characters, and ${named.name} has none`);
     const asked = { encoding, table: table && tableTextOf(await wholeOf((await run.files.image(table)).reader)) };
     const target = await run.target();
     const { part, files, why } = await openTexts(run, run.names[0]);
@@ -103,8 +102,8 @@ export async function textsJob(run) {
     const mark = csv ? ',' : '\t';
     let count = 0;
     await target.write(new TextEncoder().encode(`${csv ? '\uFEFF' : ''}${rowText(COLUMNS, mark)}`));
-    for (let i = 0; i < stretches.length; i += TOGETHER) {
-        const some = stretches.slice(i, i + TOGETHER);
+    for (let i = 0; i < stretches.length; i += STRETCHES_AT_ONCE) {
+        const some = stretches.slice(i, i + STRETCHES_AT_ONCE);
         const found = await Promise.all(some.map(stretch => textsOf(crew, part, stretch, asked)));
         const rows = found.flatMap((texts, k) => texts.filter(({ text }) => [...text].length >= min).map(it => cellsOf(part, some[k], it)));
         count += rows.length;

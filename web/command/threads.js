@@ -4,10 +4,11 @@ import { createHash } from 'node:crypto';
 import { readSync } from 'node:fs';
 import { cpus } from 'node:os';
 import { Worker, parentPort, workerData } from 'node:worker_threads';
-import { Calls } from '../core/codes.js';
 import { Crew, JOBS, UNREAD, localHand, serving, transfersOf } from '../core/jobs.js';
-import { sectorCount } from '../core/sector.js';
+import { Calls } from '../core/module/calls.js';
+import { sectorCount } from '../core/sectors/sector.js';
 import { textsOfRange } from '../core/texts/range.js';
+import { isTested } from './again.js';
 
 /** @typedef {import('../core/jobs.js').Hand} Hand */
 /** @typedef {import('../core/jobs.js').Message} Message */
@@ -32,7 +33,7 @@ function readPiece(piece, i) {
     if (piece instanceof Uint8Array) return piece;
     const { descriptor, at, length } = piece;
     if (!rooms[i] || rooms[i].length < length) rooms[i] = new Uint8Array(length);
-    if (readSync(descriptor, rooms[i], 0, length, at) < length) throw new RangeError('fewer bytes');
+    if (readSync(descriptor, rooms[i], 0, length, at) < length) throw new Error('fewer bytes');
     return rooms[i].subarray(0, length);
 }
 
@@ -53,6 +54,7 @@ function replyTo(serve, message) {
  * @param {unknown} data what it begins with
  */
 export function begunThread(data) {
+    if (isTested()) return null;
     try {
         const worker = new Worker(JOINED.file, { workerData: data });
         const begun = new Promise(resolve => {
@@ -101,18 +103,18 @@ export function serveThread() {
     });
 }
 
-/** So many bytes are hashed at a time. */
-const HASHED = 1 << 22;
+/** Bytes that are hashed at a time. */
+const HASH_STEP = 1 << 22;
 
 /** What a thread does that hashes a file: its SHA-1 goes to the main thread, or null if not all of it could be read. */
 export function serveHash() {
     const { descriptor, at, length } = workerData.hashing;
     const hash = createHash('sha1');
-    const room = new Uint8Array(HASHED);
+    const room = new Uint8Array(HASH_STEP);
     let done = 0;
     try {
         for (let count = 1; done < length && count > 0; done += count) {
-            count = readSync(descriptor, room, 0, Math.min(HASHED, length - done), at + done);
+            count = readSync(descriptor, room, 0, Math.min(HASH_STEP, length - done), at + done);
             hash.update(room.subarray(0, count));
         }
     } catch {

@@ -1,6 +1,6 @@
-// Bytes as doors read and write them.
+// Readers, pieces and byte buffers that the page and cdscript share.
 
-import { Fault } from './faults.js';
+import { FAULT, Fault, newBytes } from './faults.js';
 
 /**
  * What an image is read by: bytes from a place on, as many as were asked for or fewer, but none only if the image ends there. They may
@@ -14,14 +14,11 @@ import { Fault } from './faults.js';
  * @typedef {{ at: number, bytes: Uint8Array } | { from: number, to: number }} Piece
  */
 
-/** So many bytes of a slice are read at a time. */
+/** Bytes of a slice that are read at a time. */
 export const READ_SIZE = 1 << 22;
 
-/** An image that ends before its size. */
-export class ImageEnded extends Fault {}
-
 /**
- * Reads so many bytes, by more reads if the first are short. Throws ImageEnded if the image ends before.
+ * Reads bytes, by more reads if the first are short. Throws a Fault, IMAGE_ENDED, if the image ends before.
  * @param {Reader} reader
  * @param {number} at
  * @param {number} length
@@ -32,7 +29,7 @@ export async function readBytes(reader, at, length, room) {
     const parts = [];
     for (let done = 0; done < length;) {
         const part = await reader.read(at + done, length - done, room && room.subarray(done));
-        if (part.length === 0) throw new ImageEnded(`the image ends at byte ${at + done}`);
+        if (part.length === 0) throw new Fault(`the image ends at byte ${at + done}`, FAULT.IMAGE_ENDED);
         parts.push(part);
         done += part.length;
     }
@@ -63,7 +60,7 @@ export async function* bytesOfPieces(reader, pieces, room) {
  * @param {Uint8Array[]} parts
  */
 export function joinedBytes(parts) {
-    const whole = new Uint8Array(parts.reduce((size, part) => size + part.length, 0));
+    const whole = newBytes(parts.reduce((size, part) => size + part.length, 0));
     let at = 0;
     for (const part of parts) {
         whole.set(part, at);
@@ -92,6 +89,23 @@ export function sameBytes(a, b) {
  */
 export function wholeOf(reader) {
     return readBytes(reader, 0, reader.size);
+}
+
+/**
+ * A reader of a part of a file, as of a track.
+ * @param {Reader} reader
+ * @param {number} from
+ * @param {number} to
+ * @returns {Reader}
+ */
+export function sliceOf(reader, from, to) {
+    const size = to - from;
+    const { lent } = reader;
+    return {
+        size,
+        read: (at, length, room) => reader.read(from + at, Math.max(Math.min(length, size - at), 0), room),
+        lent: lent && ((at, length) => lent(from + at, length)),
+    };
 }
 
 /**
@@ -164,7 +178,7 @@ export class ByteList {
         const at = this.size;
         this.size += count;
         if (this.size > this.room.length) {
-            const room = new Uint8Array(Math.max(this.size, 2 * this.room.length));
+            const room = newBytes(Math.max(this.size, 2 * this.room.length));
             room.set(this.room.subarray(0, at));
             this.room = room;
         }

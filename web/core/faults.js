@@ -1,10 +1,66 @@
-// Why something can't be done, for a person to read.
+// Failures that a user may see.
 
-/** Its message says what is wrong, and if that is known what to do. Everything else that is thrown is a defect. */
+/** What kind of failure it is, for who looks for one. A worker's answer carries it. */
+export const FAULT = Object.freeze(/** @type {const} */ ({
+    INPUT: 'input', CANCELLED: 'cancelled', NO_MEMORY: 'no memory', IMAGE_ENDED: 'image ended', UNREAD: 'unread', DISC: 'disc',
+    MISSING_FILES: 'missing files', VOLUME: 'volume', TEXT: 'text', PATCHER: 'patcher', FILE: 'file', UNWRITTEN: 'unwritten',
+    PROGRAM: 'program', READER_ENDED: 'reader ended',
+}));
+
+/** @typedef {typeof FAULT[keyof typeof FAULT]} FaultCode */
+/**
+ * What else is known: where in a text it is (`at`); the files that are missing (`names`); what was found all the same (`found`); what to do
+ * (`advice`); how many bytes were written (`done`) and whether the disk is full (`full`); what was tried with a file (`attempt`).
+ * @typedef {{ at?: number, names?: string[], found?: string, advice?: string, done?: number, full?: boolean,
+ *     attempt?: 'open' | 'read' | 'make' | 'write' }} FaultFacts
+ */
+
+/** An expected failure; its message can be shown to the user. Any other exception is a bug. */
 export class Fault extends Error {
-    /** @param {string} message */
-    constructor(message) {
+    /**
+     * @param {string} message
+     * @param {FaultCode} [code]
+     * @param {FaultFacts} [facts]
+     */
+    constructor(message, code = FAULT.INPUT, facts = {}) {
         super(message);
-        this.name = new.target.name;
+        this.name = 'Fault';
+        this.code = code;
+        this.facts = facts;
     }
+}
+
+/**
+ * Whether an error is a failure of one of some kinds.
+ * @param {unknown} error
+ * @param {...FaultCode} codes
+ * @returns {error is Fault}
+ */
+export function failedBy(error, ...codes) {
+    return error instanceof Fault && codes.includes(error.code);
+}
+
+/** That a job was ended by its signal. */
+export function cancelled() {
+    return new Fault('cancelled', FAULT.CANCELLED);
+}
+
+/**
+ * What a function makes that only takes memory. Engines throw a RangeError if they have none left.
+ * @template Made
+ * @param {() => Made} make
+ * @returns {Made}
+ */
+export function inMemory(make) {
+    try {
+        return make();
+    } catch (error) {
+        if (error instanceof RangeError) throw new Fault('no memory', FAULT.NO_MEMORY);
+        throw error;
+    }
+}
+
+/** @param {number} size */
+export function newBytes(size) {
+    return inMemory(() => new Uint8Array(size));
 }

@@ -1,17 +1,19 @@
 // Jobs over ranges of sectors, and how they are shared out to workers.
 
 import { readBytes } from './bytes.js';
-import { diffRange, differRange } from './compare.js';
-import { userRange } from './convert.js';
-import { replaceRange } from './edit.js';
-import { Fault } from './faults.js';
-import { linesBetween } from './lines.js';
-import { mergeRange } from './merge.js';
-import { SECTOR_SIZE } from './sector.js';
+import { FAULT, Fault, cancelled } from './faults.js';
+import { diffRange, differRange } from './images/compare.js';
+import { userRange } from './images/convert.js';
+import { mergeRange } from './images/merge.js';
+import { replaceRange } from './script/replace_bytes.js';
+import { linesBetween } from './script/sector_lines.js';
+import { SECTOR_SIZE } from './sectors/sector.js';
 import { findIn } from './texts/find.js';
 
-/** @typedef {import('./codes.js').Calls} Calls */
+/** @typedef {import('./module/calls.js').Calls} Calls */
 /** @typedef {import('./bytes.js').Reader} Reader */
+/** @typedef {import('./faults.js').FaultCode} FaultCode */
+/** @typedef {import('./faults.js').FaultFacts} FaultFacts */
 
 /**
  * A pure function of a range of sectors. It is given the range of each image, its first block, and plain data, in which `count` is
@@ -20,10 +22,11 @@ import { findIn } from './texts/find.js';
  */
 /** @typedef {{ reader: Reader, at: number, length: number }} Slice the bytes of a range in an image */
 /** @typedef {{ number: number, job: string, pieces: any[], first: number, args: any }} Message what is not bytes, the hand reads */
-/** @typedef {{ number: number, answer?: any, fault?: { name: string, message: string, isFault?: boolean } }} Reply */
+/** @typedef {{ code?: FaultCode, message: string, facts?: FaultFacts }} ReplyFault without a code it is a bug */
+/** @typedef {{ number: number, answer?: any, fault?: ReplyFault }} Reply */
 /**
- * Who works: a worker, or this thread. The door calls `onreply` with what `serving` has returned, and `onfault` if the worker itself
- * fails.
+ * A hand: a worker thread, or this one, that runs jobs. The door calls `onreply` with what `serving` has returned, and `onfault` if the
+ * worker itself fails.
  * @typedef {{ post(message: Message, transfer: ArrayBuffer[]): void, onreply: (reply: Reply) => void,
  *     onfault: (error: Error) => void }} Hand
  */
@@ -49,21 +52,14 @@ export const JOBS = {
     raw: (calls, [user], first) => calls.encodeBlocks(first, user),
 };
 
-/** So many sectors are a range. */
+/** Sectors per range. */
 const SHARED_STEP = 1024;
 
-/** So many ranges are on their way for each hand. */
+/** Ranges in flight per hand. */
 const RANGES_A_HAND = 2;
 
 /** The fault of a reply if the hand can't read what it is lent. */
-export const UNREAD = Object.freeze({ name: 'Unread', message: '' });
-
-/** A job that `signal` has ended. */
-export class JobAborted extends Fault {
-    constructor() {
-        super('cancelled');
-    }
-}
+export const UNREAD = Object.freeze({ code: FAULT.UNREAD, message: '' });
 
 /**
  * What a worker does.
@@ -85,8 +81,8 @@ export function serving(calls) {
  * @param {unknown} error
  */
 function errorFault(error) {
-    const { name, message } = error instanceof Error ? error : new Error(String(error));
-    return { name, message, isFault: error instanceof Fault };
+    if (error instanceof Fault) return { code: error.code, message: error.message, facts: error.facts };
+    return { message: String(error) };
 }
 
 /**
@@ -203,7 +199,7 @@ export class Crew {
      */
     async lentReply(range, slices) {
         const reply = await this.reply({ ...range, pieces: slices.map(({ reader, at, length }) => reader.lent?.(at, length)) });
-        if (!reply.fault || reply.fault.name !== UNREAD.name) return reply;
+        if (!reply.fault || reply.fault.code !== FAULT.UNREAD) return reply;
         this.lends = false;
         try {
             return await this.reply({ ...range, pieces: await readSlices(slices) });
@@ -213,7 +209,8 @@ export class Crew {
     }
 
     /**
-     * Does a job on bytes that are at hand, which are given away. Throws an error by the name of what the job throws.
+     * Does a job on bytes that are at hand, which are given away. Throws a Fault that the job throws, and for a bug an
+     * Error.
      * @param {string} job
      * @param {Uint8Array[]} pieces
      * @param {Record<string, any>} args
@@ -224,7 +221,7 @@ export class Crew {
 
     /**
      * Does a job on images that have the same number of sectors, and gives its answers to `take` in the order of the ranges. Throws
-     * what a reader throws, ImageEnded if an image shrinks, JobAborted, and an error by the name of what a job throws.
+     * what a reader throws, a Fault if an image shrinks (IMAGE_ENDED) or `signal` ends it (CANCELLED), and what `given` throws.
      * @param {string} job
      * @param {Reader[]} readers what they read is given away
      * @param {Record<string, any>} args
@@ -234,7 +231,7 @@ export class Crew {
     async share(job, readers, args, { base = 0, step = SHARED_STEP, beyond = 0, units, progress, signal }, take) {
         const sizes = units || readers.map(() => SECTOR_SIZE);
         const [all, ...others] = readers.map(({ size }, i) => Math.floor(size / sizes[i]));
-        if (others.some(count => count !== all)) throw new RangeError('images of different lengths');
+        if (others.some(count => count !== all)) throw new Error('images of different lengths');
         const most = RANGES_A_HAND * this.loads.size;
         /** @type {Promise<Reply>[]} */
         const replies = [];
@@ -267,10 +264,10 @@ function answerOf({ answer, fault }, signal) {
     assertWanted(signal);
     if (!fault) return answer;
     if (fault instanceof Error) throw fault;
-    throw Object.assign(fault.isFault ? new Fault(fault.message) : new Error(fault.message), { name: fault.name });
+    throw fault.code ? new Fault(fault.message, fault.code, fault.facts) : new Error(fault.message);
 }
 
 /** @param {{ aborted: boolean }} [signal] */
 function assertWanted(signal) {
-    if (signal && signal.aborted) throw new JobAborted();
+    if (signal && signal.aborted) throw cancelled();
 }

@@ -1,10 +1,11 @@
 // Reads of an image that are near one another, made as one.
 
 import { READ_SIZE, readBytes } from './bytes.js';
+import { newBytes } from './faults.js';
 
 /** @typedef {import('./bytes.js').Reader} Reader */
 
-/** So many bytes are read at a time at least. */
+/** The fewest bytes that are read at a time. */
 const LEAST = 1 << 15;
 
 /** What of an image was read last. If places near its end are asked for next, more is read at a time. */
@@ -46,7 +47,7 @@ export class ReadAhead {
         const gap = at - this.at - this.bytes.length;
         this.wanted = gap < this.wanted ? Math.min(2 * this.wanted, READ_SIZE) : LEAST;
         const length = Math.min(Math.max(size, this.wanted), this.reader.size - at);
-        if (this.room.length < length) this.room = new Uint8Array(length);
+        if (this.room.length < length) this.room = newBytes(length);
         this.bytes = await readBytes(this.reader, at, length, this.room.subarray(0, length));
         this.at = at;
         return this.bytes.subarray(0, size);

@@ -1,13 +1,13 @@
 // What other programs in JavaScript, in node and in browsers, call of cdpatch: the interface of the package for npm.
 
 import { READ_SIZE, bytesOfPieces, readBytes } from '../core/bytes.js';
-import { Calls } from '../core/codes.js';
-import { readLines } from '../core/long_script.js';
-import { passPatched } from '../core/patch.js';
-import { RECORD, RECORD_SIZE, kindName } from '../core/records.js';
-import { Refusal, readScript } from '../core/script.js';
-import { SECTOR_SIZE, sectorCount } from '../core/sector.js';
-import { auditText, listText } from '../core/survey.js';
+import { Calls } from '../core/module/calls.js';
+import { RECORD, RECORD_SIZE, kindName } from '../core/module/records.js';
+import { readLines } from '../core/script/long_script.js';
+import { passPatched } from '../core/script/patches.js';
+import { Refusal, readScript } from '../core/script/script.js';
+import { SECTOR_SIZE, sectorCount } from '../core/sectors/sector.js';
+import { auditText, listText } from '../core/sectors/survey.js';
 
 /** What reads a file: bytes from a place on, as many as were asked for or fewer, and none only at its end. */
 /** @typedef {{ size: number, read(at: number, length: number): Promise<Uint8Array> }} Source */

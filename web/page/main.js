@@ -1,22 +1,18 @@
 // The page: its parts are put together and started.
 
-import { Calls } from '../core/codes.js';
-import { crewOf } from './crew.js';
-import { mountDiscLine } from './disc_line.js';
-import { mountDisc } from './disc_panel.js';
-import { byId, element, fill } from './dom.js';
-import { mountFrame } from './frame.js';
-import { mountHelp } from './help.js';
-import { mountOpening } from './open.js';
-import { joinedParts } from './parts.js';
-import { mountPatchers } from './patcher_page.js';
-import { mountPublish } from './publish_panel.js';
-import { isCancelled, showFailure } from './say.js';
-import { mountScript } from './script_panel.js';
-import { App } from './state.js';
-import { mountText } from './text_panel.js';
+import { Calls } from '../core/module/calls.js';
+import { App, crewOf, packedParts } from './app/index.js';
+import { mountDisc } from './disc/index.js';
+import { mountOpening } from './open/index.js';
+import { mountPatchers } from './player/index.js';
+import { mountPublish } from './publish/index.js';
+import { mountScript } from './script/index.js';
+import { mountDiscLine, mountFrame, mountHelp } from './shell/index.js';
+import { mountText } from './text/index.js';
+import { fill } from './ui/fill.js';
+import { byId, element, isCancelled, showFailure } from './ui/index.js';
 
-/** @typedef {import('./state.js').Parts} Parts */
+/** @typedef {import('./app/state.js').Parts} Parts */
 
 /**
  * Starts the page.
@@ -49,4 +45,4 @@ function refuseFrame() {
     return null;
 }
 
-if (typeof JOINED !== 'undefined') startPage(joinedParts());
+if (typeof JOINED !== 'undefined') startPage(packedParts());

@@ -1,14 +1,14 @@
-// The program of a worker: ranges of jobs, and one long SHA-1 and CRC-32.
+// The program of a worker: ranges of jobs, and one long SHA-1 or CRC-32.
 
-import { Calls } from '../core/codes.js';
 import { UNREAD, serving, transfersOf } from '../core/jobs.js';
-import { crc32 } from './crc32.js';
-import { Sha1 } from './sha1.js';
+import { Calls } from '../core/module/calls.js';
+import { crc32 } from './app/crc32.js';
+import { Sha1 } from './app/sha1.js';
 
 /** @typedef {import('../core/jobs.js').Message} Message */
 /**
- * What a worker is told: the module, before all else; a range of a job; or bytes to hash after those before, null at the end.
- * @typedef {{ module: WebAssembly.Module } | Message | { hash: Uint8Array | null }} Order
+ * What a worker is told: the module, before all else; a range of a job; or bytes that go into a sum after those before, null at the end.
+ * @typedef {{ module: WebAssembly.Module } | Message | { sum: 'sha1' | 'crc32', bytes: Uint8Array | null }} Order
  */
 
 /**
@@ -18,7 +18,7 @@ import { Sha1 } from './sha1.js';
 async function readPiece(piece) {
     if (piece instanceof Uint8Array) return piece;
     const bytes = new Uint8Array(await piece.file.slice(piece.from, piece.from + piece.size).arrayBuffer());
-    if (bytes.length < piece.size) throw new RangeError('the file has become shorter');
+    if (bytes.length < piece.size) throw new Error('the file has become shorter');
     return bytes;
 }
 
@@ -40,11 +40,11 @@ class Bench {
         return self.postMessage(reply, { transfer: transfersOf(reply) });
     }
 
-    /** @param {Uint8Array | null} bytes */
-    hash(bytes) {
-        if (bytes === null) return self.postMessage({ digest: this.sha1.digest(), crc: this.crc });
-        this.sha1.add(bytes);
-        this.crc = crc32(this.crc, bytes);
+    /** @param {{ sum: 'sha1' | 'crc32', bytes: Uint8Array | null }} order */
+    add({ sum, bytes }) {
+        if (bytes === null) return self.postMessage(sum === 'sha1' ? { digest: this.sha1.digest() } : { crc: this.crc });
+        if (sum === 'sha1') this.sha1.add(bytes);
+        else this.crc = crc32(this.crc, bytes);
         return self.postMessage({});
     }
 }
@@ -54,6 +54,6 @@ const bench = { at: /** @type {Bench | null} */ (null) };
 self.onmessage = (/** @type {MessageEvent<Order>} */ { data }) => {
     if ('module' in data) bench.at = new Bench(data.module);
     else if (bench.at === null) throw new Error('a worker was told to work before it had the module');
-    else if ('hash' in data) bench.at.hash(data.hash);
+    else if ('sum' in data) bench.at.add(data);
     else bench.at.work(data);
 };

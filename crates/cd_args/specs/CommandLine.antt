@@ -10,6 +10,8 @@ use Rattle.clap.specs.declared.builder.action.ArgAction.TheVariants.{SetTrue}
 use Rattle.clap.specs.declared.builder.value_parser.ValueParser.TheVariants as vp
 use Rattle.cd_args.specs.declared.job.Job.{Job}
 use Rattle.cd_args.specs.declared.job.Job.TheVariants as job
+use Rattle.cd_args.specs.declared.settings.Settings.{Settings}
+use Rattle.cd_args.specs.Task.{Task, task_of}
 
 -- the largest block number that has an address
 abbrev pub max_base : ℕ
@@ -95,23 +97,27 @@ carry_of rows = is_set (first_of (codes "carry") rows)
 abbrev pub HasText : Text → List Row → Text → Type 0
 HasText id rows text = first_of id rows ≡ Some text
 
+-- the settings are what a command's rows give for its options
+pub record HasSettings (rows : List Row) (settings : Settings) : Type 0 where
+  pub base : base_of rows ≡ Some settings.base
+  pub carry : settings.carry ≡ carry_of rows
+
+-- the task has the name, the texts and the settings of a command's matches
+abbrev pub HasTask : Text × List Row → Task → Type 0
+HasTask p (Task.list base image) =
+    (p.0 ≡ codes "list") × HasText (codes "image") p.1 image × (base_of p.1 ≡ Some base)
+HasTask p (Task.audit base image) =
+    (p.0 ≡ codes "audit") × HasText (codes "image") p.1 image × (base_of p.1 ≡ Some base)
+HasTask p (Task.check settings image script) =
+    (p.0 ≡ codes "check") × HasText (codes "image") p.1 image × HasText (codes "script") p.1 script
+    × HasSettings p.1 settings
+HasTask p (Task.apply settings image script out) =
+    (p.0 ≡ codes "apply") × HasText (codes "image") p.1 image × HasText (codes "script") p.1 script
+    × HasText (codes "out") p.1 out × HasSettings p.1 settings
+
 -- the job has the name, the texts, the base and the flag of a command's matches
 abbrev pub HasMatches : Text × List Row → Job → Type 0
-HasMatches p (job.List image base) =
-    (p.0 ≡ codes "list") × HasText (codes "image") p.1 (string_bytes image)
-    × (base_of p.1 ≡ Some base)
-HasMatches p (job.Audit image base) =
-    (p.0 ≡ codes "audit") × HasText (codes "image") p.1 (string_bytes image)
-    × (base_of p.1 ≡ Some base)
-HasMatches p (job.Check image script base carry) =
-    (p.0 ≡ codes "check") × HasText (codes "image") p.1 (string_bytes image)
-    × HasText (codes "script") p.1 (string_bytes script) × (base_of p.1 ≡ Some base)
-    × (carry ≡ carry_of p.1)
-HasMatches p (job.Apply image script out base carry) =
-    (p.0 ≡ codes "apply") × HasText (codes "image") p.1 (string_bytes image)
-    × HasText (codes "script") p.1 (string_bytes script)
-    × HasText (codes "out") p.1 (string_bytes out)
-    × (base_of p.1 ≡ Some base) × (carry ≡ carry_of p.1)
+HasMatches p j = HasTask p (task_of j)
 
 -- the job is the listing of this image
 abbrev pub IsListJob : Text → ℕ → Job → Type 0
@@ -128,13 +134,6 @@ IsJobOf (w ∷ ws) job = IsSomeAnd (subcommand_of command_line (w ∷ ws)) (λ p
 unfoldable pub IsAccepted : List Text → Type 0
 IsAccepted [] = ⊤
 IsAccepted (w ∷ ws) = takes command_line (w ∷ ws) ≡ true
-
--- the number of the first block, of any job
-abbrev pub base_in : Job → ℕ
-base_in (job.List image base) = base
-base_in (job.Audit image base) = base
-base_in (job.Check image script base carry) = base
-base_in (job.Apply image script out base carry) = base
 
 -- ---- what the matches of accepted arguments have
 

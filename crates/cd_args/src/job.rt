@@ -1,5 +1,10 @@
 //! The jobs of the program.
 
+ghost use Rattle.std.specs.Prelude.{◌≡◌};
+ghost use Rattle.cd_args.specs.Task.{settings_in};
+
+use crate::settings::Settings;
+
 /// What the command line asks for: `image` (`-` is the standard input), and the files `script`
 /// and `out`. The first sector of the image has the block number `base`. With `carry` patches are
 /// accepted on damaged sectors too, whose damage stays.
@@ -30,4 +35,26 @@ pub enum Job {
         base: u32,
         carry: bool,
     },
+}
+
+impl Job {
+    /// What its options say. `list` and `audit` have the base alone.
+    ///
+    /// # Examples
+    ///
+    /// ```
+    /// let job = job_of(rt.alloc(), Vec::new(rt.alloc()))?; // no arguments
+    /// assert_eq!(rt; (job.settings().base, job.settings().carry), (0, false));
+    /// ```
+    pub fn settings(&self) -> Settings
+        ensures { result ≡ settings_in self.now }
+    {
+        match self {
+            Job::List { base, .. } | Job::Audit { base, .. } => Settings::new(*base, false),
+            Job::Check { base, carry, .. } | Job::Apply { base, carry, .. } => Settings {
+                base: *base,
+                carry: *carry,
+            },
+        }
+    }
 }

@@ -25,8 +25,10 @@ mod fault;
 mod help;
 mod job;
 mod parse;
+mod settings;
 
 pub use cli::MAX_BASE;
 pub use fault::{DONE, FAILED, LineFault, NO_MEMORY, refusal_line};
 pub use job::Job;
 pub use parse::job_of;
+pub use settings::Settings;

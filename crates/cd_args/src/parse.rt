@@ -1,13 +1,14 @@
 //! The job that the arguments ask for.
 ghost use Rattle.std.specs.Prelude.{◌≡◌, ◌≤◌, IfOk, IfErr, OnOk, IsSome, Some, [], map, option_map, string_bytes, codes};
 ghost use Rattle.clap.specs.Words.{first_of, found_of, rows_of};
-ghost use Rattle.cd_args.specs.CommandLine.{HasBase, HasMatches, IsAccepted, IsComplete, IsJobOf};
-ghost use Rattle.cd_args.specs.CommandLine.{IsListJob, base_in, base_of, carry_of, is_set};
+ghost use Rattle.cd_args.specs.CommandLine.{HasBase, HasMatches, HasSettings, IsAccepted, IsComplete, IsJobOf};
+ghost use Rattle.cd_args.specs.CommandLine.{IsListJob, base_of, carry_of, is_set};
+ghost use Rattle.cd_args.specs.Task.{base_in};
 ghost use Rattle.cd_args.specs.Fault.{HasKindOf, error_kinds};
 ghost use Rattle.cd_args.specs.declared.fault.LineFault.TheVariants.{NoMemory};
 
 use crate::cli::{MAX_BASE, command_line};
-use crate::{Job, LineFault};
+use crate::{Job, LineFault, Settings};
 use clap::ArgMatches;
 use std::alloc::{AllocError, Global};
 
@@ -48,6 +49,17 @@ fn carry_of(matches: &ArgMatches<'_>) -> bool
     is_set(matches.get_str("carry"))
 }
 
+/// What the options of `check` and `apply` say.
+fn settings_of(matches: &ArgMatches<'_>) -> Settings
+    requires { HasBase (rows_of (found_of matches.now)) }
+    ensures has { HasSettings (rows_of (found_of matches.now)) result }
+    ensures most { result.base ≤ MAX_BASE }
+{
+    let base = base_of(matches);
+    let carry = carry_of(matches);
+    Settings { base, carry }
+}
+
 /// `list IMAGE [--base N]`.
 fn list_job(alloc: Global, matches: &ArgMatches<'_>) -> Result<Job, AllocError>
     requires image { IsSome (first_of (codes "image") (rows_of (found_of matches.now))) }
@@ -82,8 +94,7 @@ fn check_job(alloc: Global, matches: &ArgMatches<'_>) -> Result<Job, AllocError>
 {
     let image = text_of(alloc, matches, "image")?;
     let script = text_of(alloc, matches, "script")?;
-    let base = base_of(matches);
-    let carry = carry_of(matches);
+    let Settings { base, carry } = settings_of(matches);
     Ok(Job::Check {
         image,
         script,
@@ -104,8 +115,7 @@ fn apply_job(alloc: Global, matches: &ArgMatches<'_>) -> Result<Job, AllocError>
     let image = text_of(alloc, matches, "image")?;
     let script = text_of(alloc, matches, "script")?;
     let out = text_of(alloc, matches, "out")?;
-    let base = base_of(matches);
-    let carry = carry_of(matches);
+    let Settings { base, carry } = settings_of(matches);
     Ok(Job::Apply {
         image,
         script,

@@ -1,2 +1,6 @@
+pub mod EnoughRoom
+pub mod ReportLines
 pub mod Results
+pub mod State
+pub mod Survey
 pub mod Texts

@@ -4,16 +4,16 @@ ghost use Rattle.std.specs.Prelude.{◌≡◌, ℕ, ◌++◌, ◌≤◌, ◌<◌
 ghost use Rattle.std.specs.List.{list_any};
 ghost use Rattle.cd_code.specs.Edc.{IsEdc};
 ghost use Rattle.cd_sector.specs.Address.{address, last_block};
-ghost use Rattle.cd_sector.specs.CodeWords.{AllCodeWords};
+ghost use Rattle.cd_code.specs.CodeWords.{AllCodeWords};
 ghost use Rattle.cd_sector.specs.Consistent.{IsConsistent, consistent, header_of, user_of};
 ghost use Rattle.cd_sector.specs.Defect.{defect_of, is_broken, is_nonzero};
 ghost use Rattle.cd_sector.specs.Kind.{kind_number, kind_of};
 ghost use Rattle.cd_c.specs.Results.{as_byte};
 
-use cd_code::edc_of;
+use crate::kinds::kind_number;
+use cd_lanes::edc_of;
 use cd_sector::{
-    Sector, SectorKind, USER_SIZE, address_of, defect, encode_into, fill_parity, is_consistent,
-    kind,
+    Sector, USER_SIZE, address_of, defect, encode_into, fill_parity, is_consistent, kind,
 };
 
 /// Which parts of a sector are wrong, as C's `struct cdpatch_defect`. Its two `bool`s are bytes 0
@@ -45,13 +45,7 @@ pub extern "C" fn cdpatch_edc(bytes: &[u8]) -> u32
 pub extern "C" fn cdpatch_kind(sector: &Sector) -> u32
     ensures { result ≡ kind_number (kind_of sector.now) }
 {
-    match kind(sector) {
-        SectorKind::NoSync => 0,
-        SectorKind::Mode0 => 1,
-        SectorKind::Mode1 => 2,
-        SectorKind::Mode2 => 3,
-        SectorKind::Other => 4,
-    }
+    kind_number(kind(sector))
 }
 
 /// Writes the address of a block to `bcd`, as [`address_of`], and returns whether it has one. Else `bcd` stays.

@@ -4,15 +4,13 @@ ghost use Rattle.std.specs.Prelude.{◌≡◌, ◌++◌, ◌≤◌, drop, length
 ghost use Rattle.cd_c.specs.Texts.{result_text};
 
 use crate::results::{DAMAGED, DIFFERS, NO_BLOCK, NO_PATCH, NOT_MODE1, OK, OUT_OF_RANGE};
-
-/// The largest number of bytes of a text that a call writes.
-pub const TEXT_SIZE: usize = 96;
+use cd_line::LINE_SIZE;
 
 /// The words for a result; none for any other number.
 #[tactic(auto, unfolding(crate::specs::Texts::result_text))]
 fn words_for(number: u32) -> &'static [u8]
     ensures words { result.now ≡ result_text number }
-    ensures room { length result.now ≤ TEXT_SIZE }
+    ensures room { length result.now ≤ LINE_SIZE }
 {
     match number {
         OK => b"done",
@@ -29,7 +27,7 @@ fn words_for(number: u32) -> &'static [u8]
 /// Writes the words for a result to the front of `text`, and returns how many bytes they have: 0 for any other number. The rest
 /// of `text` stays.
 #[unsafe(no_mangle)]
-pub extern "C" fn cdpatch_result_text(number: u32, text: &mut [u8; TEXT_SIZE]) -> usize
+pub extern "C" fn cdpatch_result_text(number: u32, text: &mut [u8; LINE_SIZE]) -> usize
     ensures count { result ≡ length (result_text number) }
     ensures text { text.new ≡ result_text number ++ drop (length (result_text number)) text.old }
 {

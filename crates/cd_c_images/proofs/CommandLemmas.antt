@@ -1,6 +1,7 @@
 -- `check` and `apply` on an image in memory, and the script of a text.
-use Rattle.std.proofs.Common.{◌≡◌, ℕ, ◌≤◌, Bool, List, length, Result, Ok, Err, IfOk, IfErr, OnOk}
+use Rattle.std.proofs.Common.{◌≡◌, ℕ, ◌≤◌, List, length, Result, Ok, Err, IfOk, IfErr, OnOk}
 use Rattle.std.proofs.Common.{OnErr, ap, refl, ◌∙◌}
+use Rattle.cd_args.specs.declared.settings.Settings.{Settings}
 use Rattle.cd_args.specs.Fault.{failed_status}
 use Rattle.cd_run.specs.Messages.{script_fault_line}
 use Rattle.cd_program.specs.Commands.{PrintsLine, script_status}
@@ -9,7 +10,7 @@ use Rattle.cd_program.specs.ScriptLines.{IsFaultOf}
 use Rattle.cd_memory.specs.Memory.{fresh_incoming}
 use Rattle.cd_sector.specs.Image.{base_limit}
 use Rattle.cd_read.specs.declared.fault.Fault.TheVariants.{Log}
-use Rattle.cd_rooms.proofs.RoomLemmas.{Ends-lent, same-room}
+use Rattle.cd_memory.proofs.RoomLemmas.{Ends-lent, same-room}
 use Rattle.cd_script.specs.Limits.{text_limit}
 use Rattle.cd_script.specs.Order.{order}
 use Rattle.cd_script.specs.Script.{script}
@@ -33,24 +34,24 @@ takes-text text log log' (Ok patches) within reads silent status line =
 takes-text text log log' (Err failed) within reads silent status line =
     (script_fault_line line.0, HasNoScript.faulty within line.0 line.1 refl, (line.2, status))
 
-module _ {carry : Bool} {base : ℕ} {image text : List ℕ} {log middle log' : Outgoing} {status : ℕ}
-    (within : base ≤ base_limit) (patches : List Patch)
+module _ {settings : Settings} {image text : List ℕ} {log middle log' : Outgoing} {status : ℕ}
+    (within : settings.base ≤ base_limit) (patches : List Patch)
     (takes : TakesText text log middle (Ok patches)) (source : Incoming)
     (fresh : source ≡ fresh_incoming image) (left : SliceSource) where
-  pub checks-on : RunsCheck carry patches base source (slice_incoming left) middle log' status
-      → ChecksInMemory carry base image text log log' status
+  pub checks-on : RunsCheck settings.carry patches settings.base source (slice_incoming left) middle log' status
+      → ChecksInMemory settings image text log log' status
   checks-on done = ChecksInMemory.checked within patches takes.0 left (rw (fresh, takes.1) at done)
 
   pub applies-on : {out out' : Outgoing}
-      → RunsApply carry patches base source (slice_incoming left) out out' middle log' status
-      → AppliesInMemory carry base image text out out' log log' status
+      → RunsApply settings.carry patches settings.base source (slice_incoming left) out out' middle log' status
+      → AppliesInMemory settings image text out out' log log' status
   applies-on done =
       AppliesInMemory.applied within patches takes.0 left (rw (fresh, takes.1) at done)
 
 -- ---- each sink stands over the same slice
 
-module _ {carry : Bool} {base : ℕ} {image text : List ℕ} {status : ℕ} where
-  pub checks-lent : {log log' : Outgoing} → ChecksInMemory carry base image text log log' status
+module _ {settings : Settings} {image text : List ℕ} {status : ℕ} where
+  pub checks-lent : {log log' : Outgoing} → ChecksInMemory settings image text log log' status
       → log'.lent ≡ log.lent
   checks-lent (ChecksInMemory.outside above failed same) = ap (λ o. o.lent) same
   checks-lent (ChecksInMemory.without_script within line none fails) = fails.0.takes.lent
@@ -59,7 +60,7 @@ module _ {carry : Bool} {base : ℕ} {image text : List ℕ} {status : ℕ} wher
       Ends-lent Log script_status runs.result runs.middle log' status runs.ends ∙ runs.does.3.log_lent
 
   pub applies-lent : {out out' log log' : Outgoing}
-      → AppliesInMemory carry base image text out out' log log' status
+      → AppliesInMemory settings image text out out' log log' status
       → (out'.lent ≡ out.lent) × (log'.lent ≡ log.lent)
   applies-lent (AppliesInMemory.outside above failed same silent) =
       (ap (λ o. o.lent) same, ap (λ o. o.lent) silent)
@@ -74,9 +75,9 @@ module _ {carry : Bool} {base : ℕ} {image text : List ℕ} {status : ℕ} wher
 
   -- the clauses of `apply_to_sinks`
   pub applies-clauses : (out out' log log' : SliceSink)
-      → AppliesInMemory carry base image text (slice_outgoing out) (slice_outgoing out')
+      → AppliesInMemory settings image text (slice_outgoing out) (slice_outgoing out')
       (slice_outgoing log) (slice_outgoing log') status → record {
-        report : AppliesInMemory carry base image text (slice_outgoing out) (slice_outgoing out')
+        report : AppliesInMemory settings image text (slice_outgoing out) (slice_outgoing out')
             (slice_outgoing log) (slice_outgoing log') status;
         same_out : out'.space.ghost_name ≡ out.space.ghost_name;
         same_out_bytes : (lent_to out').now ≡ (lent_to out).now;

@@ -1,11 +1,12 @@
 -- The clauses of the calls: the plain ones follow from the whole one.
-use Rattle.std.proofs.Common.{◌≡◌, ◌≢◌, ℕ, ◌+◌, ◌<◌, ◌⊎◌, Bool, false, List, [], length}
+use Rattle.std.proofs.Common.{◌≡◌, ◌≢◌, ℕ, ◌+◌, ◌<◌, ◌⊎◌, false, List, [], length}
 use Rattle.std.proofs.Common.{inl, inr, refl, ap, ◌∙◌, arith}
+use Rattle.cd_args.specs.declared.settings.Settings.{Settings}
 use Rattle.cd_args.specs.Fault.{failed_status}
 use Rattle.cd_image.specs.Applying.{null_outgoing}
 use Rattle.cd_sector.specs.Image.{image_limit}
-use Rattle.cd_rooms.proofs.RoomLemmas.{holds-text, same-text}
-use Rattle.cd_rooms.specs.Rooms.{FillsCounted, FillsRoom, Holds, fresh_over}
+use Rattle.cd_memory.proofs.RoomLemmas.{holds-text, same-text}
+use Rattle.cd_memory.specs.Rooms.{FillsCounted, FillsRoom, Holds, fresh_over}
 use Rattle.cd_stream.specs.Stream.{Outgoing}
 use Rattle.cd_c_images.specs.Images.{AppliesInMemory, ChecksInMemory}
 use Rattle.cd_c_images.specs.Plain.{ApplyFails, CheckFails, HasShortLog, TakesPatches, WritesLines}
@@ -13,16 +14,16 @@ use Rattle.cd_c_images.proofs.StopLemmas.{apply-fails, why-stopped}
 
 -- ---- `check`
 
-module _ {carry : Bool} {base : ℕ} {image script log log' : List ℕ} {size status : ℕ}
-    (all : FillsCounted (λ lines lines'. ChecksInMemory carry base image script lines lines' status) log
+module _ {settings : Settings} {image script log log' : List ℕ} {size status : ℕ}
+    (all : FillsCounted (λ lines lines'. ChecksInMemory settings image script lines lines' status) log
     log' size) where
-  writes-lines : status ≢ failed_status → TakesPatches carry base image script
+  writes-lines : status ≢ failed_status → TakesPatches settings image script
       (λ patches outcomes last. WritesLines patches image outcomes log log' size status)
   writes-lines done = go all.room_filled.does
     where
-      go : ChecksInMemory carry base image script (fresh_over all.room_filled.lent)
+      go : ChecksInMemory settings image script (fresh_over all.room_filled.lent)
           all.room_filled.after status
-          → TakesPatches carry base image script
+          → TakesPatches settings image script
           (λ patches outcomes last. WritesLines patches image outcomes log log' size status)
       go (ChecksInMemory.outside above failed same) = absurd (done failed)
       go (ChecksInMemory.without_script within line none fails) = absurd (done fails.1)
@@ -38,53 +39,53 @@ module _ {carry : Bool} {base : ℕ} {image script log log' : List ℕ} {size st
             };
       }
 
-  check-fails : status ≡ failed_status → CheckFails carry base image script log size
+  check-fails : status ≡ failed_status → CheckFails settings image script log size
   check-fails failed = go all.room_filled.does
     where
       after : Outgoing
       after = all.room_filled.after
 
-      go : ChecksInMemory carry base image script (fresh_over all.room_filled.lent) after status
-          → CheckFails carry base image script log size
+      go : ChecksInMemory settings image script (fresh_over all.room_filled.lent) after status
+          → CheckFails settings image script log size
       go (ChecksInMemory.outside above is same) = inl above
       go (ChecksInMemory.without_script within line none fails) = inr (inr (inl (line, none)))
       go (ChecksInMemory.checked within patches reads left r) =
-          stops (why-stopped carry patches base image left (null_outgoing 0 0 false)
+          stops (why-stopped settings patches image left (null_outgoing 0 0 false)
           (null_outgoing r.runs.does.0 r.runs.does.1 r.runs.does.2) all.room_filled.lent
           r.runs.middle after log log' size status all.room_filled.fills all.counted r.runs.result
           r.runs.does.3 r.runs.ends failed)
         where
           stops : (image_limit < length image)
               ⊎ ((0 ≡ 0 + 1) × (false ≡ false → length r.runs.does.3.sent < length image))
-              ⊎ HasShortLog carry patches base image log size
-              → CheckFails carry base image script log size
+              ⊎ HasShortLog settings patches image log size
+              → CheckFails settings image script log size
           stops (inl long) = inr (inl long)
           stops (inr (inl (fails, cut))) = absurd (omega (arith, fails))
           stops (inr (inr short)) = inr (inr (inr (patches, reads, short)))
 
   pub check-clauses : record {
-    report : FillsCounted (λ lines lines'. ChecksInMemory carry base image script lines lines' status) log
+    report : FillsCounted (λ lines lines'. ChecksInMemory settings image script lines lines' status) log
         log' size;
-    text : status ≢ failed_status → TakesPatches carry base image script
+    text : status ≢ failed_status → TakesPatches settings image script
         (λ patches outcomes last. WritesLines patches image outcomes log log' size status);
-    failed : status ≡ failed_status → CheckFails carry base image script log size;
+    failed : status ≡ failed_status → CheckFails settings image script log size;
   }
   check-clauses = record { report = all; text = writes-lines; failed = check-fails }
 
 -- ---- `apply`
 
-module _ {carry : Bool} {base : ℕ} {bytes script out out' log log' : List ℕ} {size status : ℕ}
+module _ {settings : Settings} {bytes script out out' log log' : List ℕ} {size status : ℕ}
     (all : FillsRoom (λ made made'. FillsCounted (λ lines lines'.
-    AppliesInMemory carry base bytes script made made' lines lines' status) log log' size) out out')
+    AppliesInMemory settings bytes script made made' lines lines' status) log log' size) out out')
   where
-    writes-image : status ≢ failed_status → TakesPatches carry base bytes script
+    writes-image : status ≢ failed_status → TakesPatches settings bytes script
         (λ patches outcomes last.
         Holds last out out' × WritesLines patches bytes outcomes log log' size status)
     writes-image done = go all.does.room_filled.does
       where
-        go : AppliesInMemory carry base bytes script (fresh_over all.lent) all.after
+        go : AppliesInMemory settings bytes script (fresh_over all.lent) all.after
             (fresh_over all.does.room_filled.lent) all.does.room_filled.after status
-            → TakesPatches carry base bytes script (λ patches outcomes last.
+            → TakesPatches settings bytes script (λ patches outcomes last.
             Holds last out out' × WritesLines patches bytes outcomes log log' size status)
         go (AppliesInMemory.outside above failed same silent) = absurd (done failed)
         go (AppliesInMemory.without_script within line none same fails) = absurd (done fails.1)
@@ -106,12 +107,12 @@ module _ {carry : Bool} {base : ℕ} {bytes script out out' log log' : List ℕ}
 
     pub apply-clauses : record {
       report : FillsRoom (λ made made'. FillsCounted (λ lines lines'.
-          AppliesInMemory carry base bytes script made made' lines lines' status) log log' size) out
+          AppliesInMemory settings bytes script made made' lines lines' status) log log' size) out
           out';
-      image : status ≢ failed_status → TakesPatches carry base bytes script
+      image : status ≢ failed_status → TakesPatches settings bytes script
           (λ patches outcomes last.
           Holds last out out' × WritesLines patches bytes outcomes log log' size status);
       failed : status ≡ failed_status
-          → ApplyFails carry base bytes script out out' log size;
+          → ApplyFails settings bytes script out out' log size;
     }
     apply-clauses = record { report = all; image = writes-image; failed = apply-fails all }

@@ -1,16 +1,17 @@
 -- What an `apply` that failed has sent.
-use Rattle.std.proofs.Common.{◌≡◌, ◌≢◌, ℕ, ◌<◌, ◌==◌, ◌⊎◌, Bool, false, List, []}
+use Rattle.std.proofs.Common.{◌≡◌, ◌≢◌, ℕ, ◌<◌, ◌==◌, ◌⊎◌, false, List, []}
 use Rattle.std.proofs.Common.{length, take, Some, Result, Ok, Err, inl, inr, refl, sym, ap, ◌∙◌}
 use Rattle.std.proofs.Common.{◌+◌, ◌≤◌, ◌++◌, subst, arith, length-append}
 use Rattle.std.specs.Borrow.{MutBor}
 use Rattle.std.proofs.lemmas.Bool.{cases_lt}
+use Rattle.cd_args.specs.declared.settings.Settings.{Settings}
 use Rattle.cd_args.specs.Fault.{failed_status}
 use Rattle.cd_image.specs.Applying.{Applies, streams}
 use Rattle.cd_run.specs.Patched.{EachPatching}
 use Rattle.cd_image.specs.declared.patch_log.Tally.{Tally}
 use Rattle.cd_program.specs.Commands.{Ends, script_status}
 use Rattle.cd_program.proofs.CommandLemmas.{not-failed}
-use Rattle.cd_rooms.proofs.ReportLemmas.{may-be}
+use Rattle.cd_memory.proofs.RoomReportLemmas.{may-be}
 use Rattle.cd_memory.proofs.KnownLemmas.{Appends-Some, Fits-beyond, MayBeImageAtEnd-within}
 use Rattle.cd_memory.proofs.KnownLemmas.{Some-injective}
 use Rattle.cd_memory.specs.Memory.{fresh_incoming}
@@ -24,15 +25,15 @@ use Rattle.cd_stream.specs.Adapters.{slice_incoming}
 use Rattle.cd_stream.specs.declared.adapters.slice_source.SliceSource.{SliceSource}
 use Rattle.cd_c_images.specs.Images.{AppliesInMemory}
 use Rattle.cd_c_images.specs.Plain.{ApplyFails, HasShortLog, SendsFront}
-use Rattle.cd_rooms.specs.Rooms.{FillsCounted, FillsFront, FillsRoom, Holds, fresh_over}
+use Rattle.cd_memory.specs.Rooms.{FillsCounted, FillsFront, FillsRoom, Holds, fresh_over}
 
-module _ (carry : Bool) (patches : List Patch) (base : ℕ) (image : List ℕ) (left : SliceSource)
+module _ (settings : Settings) (patches : List Patch) (image : List ℕ) (left : SliceSource)
     (out made log middle log' : Outgoing) (status : ℕ) (failed : status ≡ failed_status) where
   begins-image : (result : Result Tally Fault)
-      → (a : Applies carry patches base (streams (fresh_incoming image) out log)
+      → (a : Applies settings.carry patches settings.base (streams (fresh_incoming image) out log)
       (streams (slice_incoming left) made middle) result)
       → Ends Log script_status result middle log' status
-      → EachPatching carry patches base (take image_limit image)
+      → EachPatching settings.carry patches settings.base (take image_limit image)
       (λ outcomes last. IsBeginning a.sent last)
   begins-image (Ok tally) a ends = absurd (not-failed (tally.refused == 0) ends.1 failed)
   begins-image (Err Read) a ends = absurd (omega (arith, a.answers.failed.reads))
@@ -57,13 +58,13 @@ beyond-limit image read left is beyond =
 
 -- why a call failed: the image is too long; or a write to the output failed, and if its flush can't
 -- fail, not all of the image was sent; or the log is too long for its memory
-module _ (carry : Bool) (patches : List Patch) (base : ℕ) (image : List ℕ) (left : SliceSource)
+module _ (settings : Settings) (patches : List Patch) (image : List ℕ) (left : SliceSource)
     (out made : Outgoing) (lent : MutBor (List ℕ)) (middle after : Outgoing) (log log' : List ℕ)
     (size status : ℕ) (fills : FillsFront after log log') (counted : size ≡ length fills.text) where
-  short-log : (a : Applies carry patches base
+  short-log : (a : Applies settings.carry patches settings.base
       (streams (fresh_incoming image) out (fresh_over lent))
       (streams (slice_incoming left) made middle) (Err Log))
-      → after ≡ middle → length image ≤ image_limit → HasShortLog carry patches base image log size
+      → after ≡ middle → length image ≤ image_limit → HasShortLog settings patches image log size
   short-log a same small =
       let failed : after.failures ≢ 0 =
       λ none. omega (arith, a.answers.failed.logs, none, ap (λ o. o.failures) same) in
@@ -83,13 +84,13 @@ module _ (carry : Bool) (patches : List Patch) (base : ℕ) (image : List ℕ) (
       }
 
   pub why-stopped : (result : Result Tally Fault)
-      → (a : Applies carry patches base (streams (fresh_incoming image) out (fresh_over lent))
+      → (a : Applies settings.carry patches settings.base (streams (fresh_incoming image) out (fresh_over lent))
       (streams (slice_incoming left) made middle) result)
       → Ends Log script_status result middle after status → status ≡ failed_status
       → (image_limit < length image)
       ⊎ ((made.failures ≡ out.failures + 1)
       × (out.flush_may_fail ≡ false → length a.sent < length image))
-      ⊎ HasShortLog carry patches base image log size
+      ⊎ HasShortLog settings patches image log size
   why-stopped (Ok tally) a ends failed = absurd (not-failed (tally.refused == 0) ends.1 failed)
   why-stopped (Err Read) a ends failed = absurd (omega (arith, a.answers.failed.reads))
   why-stopped (Err Write) a ends failed = inr (inl (
@@ -116,18 +117,18 @@ nothing-sent out out' lent after fills same =
     Some-injective (sym fills.written ∙ ap (λ o. o.written) same) in
     (subst (λ t. Holds t out out') none fills.holds).bytes
 
-pub apply-fails : {carry : Bool} {base : ℕ} {image text out out' log log' : List ℕ}
+pub apply-fails : {settings : Settings} {image text out out' log log' : List ℕ}
     {size status : ℕ}
     → FillsRoom (λ made made'. FillsCounted (λ lines lines'.
-    AppliesInMemory carry base image text made made' lines lines' status) log log' size) out out'
-    → status ≡ failed_status → ApplyFails carry base image text out out' log size
-apply-fails {carry = carry} {base = base} {image = image} {text = text} {out = out} {out' = out'}
+    AppliesInMemory settings image text made made' lines lines' status) log log' size) out out'
+    → status ≡ failed_status → ApplyFails settings image text out out' log size
+apply-fails {settings = settings} {image = image} {text = text} {out = out} {out' = out'}
     {log = log} {log' = log'} {size = size} {status = status} all failed =
     go all.does.room_filled.does
   where
-    go : AppliesInMemory carry base image text (fresh_over all.lent) all.after
+    go : AppliesInMemory settings image text (fresh_over all.lent) all.after
         (fresh_over all.does.room_filled.lent) all.does.room_filled.after status
-        → ApplyFails carry base image text out out' log size
+        → ApplyFails settings image text out out' log size
     go (AppliesInMemory.outside above is same silent) =
         ApplyFails.outside above (nothing-sent out out' all.lent all.after all.fills same)
     go (AppliesInMemory.without_script within line none same fails) =
@@ -135,7 +136,7 @@ apply-fails {carry = carry} {base = base} {image = image} {text = text} {out = o
         (nothing-sent out out' all.lent all.after all.fills same)
     go (AppliesInMemory.applied within patches reads left r) =
         ApplyFails.stopped patches reads front
-        (stops (why-stopped carry patches base image left _ all.after all.does.room_filled.lent
+        (stops (why-stopped settings patches image left _ all.after all.does.room_filled.lent
         r.runs.middle all.does.room_filled.after log log' size status all.does.room_filled.fills
         all.does.counted r.runs.result r.runs.does r.runs.ends failed))
       where
@@ -143,23 +144,23 @@ apply-fails {carry = carry} {base = base} {image = image} {text = text} {out = o
         same = Some-injective (sym (Appends-Some (Some []) all.after.written [] r.runs.does.sent refl
             r.runs.does.appends) ∙ all.fills.written)
 
-        front : SendsFront carry patches base image out out'
+        front : SendsFront settings patches image out out'
         front = record {
           sent = all.fills.text;
           holds = all.fills.holds;
-          begins = subst (λ s. EachPatching carry patches base (take image_limit image)
+          begins = subst (λ s. EachPatching settings.carry patches settings.base (take image_limit image)
               (λ outcomes last. IsBeginning s last)) same
-              (begins-image carry patches base image left _ all.after _ r.runs.middle
+              (begins-image settings patches image left _ all.after _ r.runs.middle
               all.does.room_filled.after status failed r.runs.result r.runs.does r.runs.ends);
         }
 
         stops : (image_limit < length image)
             ⊎ ((all.after.failures ≡ 0 + 1)
             × (false ≡ false → length r.runs.does.sent < length image))
-            ⊎ HasShortLog carry patches base image log size
+            ⊎ HasShortLog settings patches image log size
             → (image_limit < length image)
             ⊎ ((length all.fills.text ≡ length out) × (length out < length image))
-            ⊎ HasShortLog carry patches base image log size
+            ⊎ HasShortLog settings patches image log size
         stops (inl long) = inl long
         stops (inr (inl (fails, cut))) =
             let full = all.fills.full (λ none. omega (arith, fails, none)) in

@@ -1,6 +1,7 @@
 -- What `check` and `apply` do on an image and a script in memory.
-use Rattle.std.specs.Prelude.{◌≡◌, ℕ, ◌<◌, ◌≤◌, Bool, List, length, Result, Ok}
+use Rattle.std.specs.Prelude.{◌≡◌, ℕ, ◌<◌, ◌≤◌, List, length, Result, Ok}
 use Rattle.std.specs.Prelude.{Err}
+use Rattle.cd_args.specs.declared.settings.Settings.{Settings}
 use Rattle.cd_args.specs.Fault.{failed_status}
 use Rattle.cd_program.specs.Messages.{load_fault_line}
 use Rattle.cd_run.specs.Messages.{script_fault_line}
@@ -43,30 +44,30 @@ TakesText text log log' (Err status) =
 
 -- a base that no image has prints nothing; a text that is no script prints just why; else the
 -- command runs, and `left` is what it leaves of the image
-pub data ChecksInMemory (carry : Bool) (base : ℕ) (image text : List ℕ) (log log' : Outgoing)
+pub data ChecksInMemory (settings : Settings) (image text : List ℕ) (log log' : Outgoing)
     (status : ℕ) : Type 0 where
-  outside : base_limit < base → status ≡ failed_status → log' ≡ log
-      → ChecksInMemory carry base image text log log' status
-  without_script : base ≤ base_limit → (line : List ℕ) → HasNoScript text line
-      → PrintsAndFails line log log' status → ChecksInMemory carry base image text log log' status
-  checked : base ≤ base_limit → (patches : List Patch) → HasScript text patches
+  outside : base_limit < settings.base → status ≡ failed_status → log' ≡ log
+      → ChecksInMemory settings image text log log' status
+  without_script : settings.base ≤ base_limit → (line : List ℕ) → HasNoScript text line
+      → PrintsAndFails line log log' status → ChecksInMemory settings image text log log' status
+  checked : settings.base ≤ base_limit → (patches : List Patch) → HasScript text patches
       → (left : SliceSource)
-      → RunsCheck carry patches base (fresh_incoming image) (slice_incoming left) log log' status
-      → ChecksInMemory carry base image text log log' status
+      → RunsCheck settings.carry patches settings.base (fresh_incoming image) (slice_incoming left) log log' status
+      → ChecksInMemory settings image text log log' status
 
 -- ---- `apply`
 
 -- as `check`; without patches nothing goes out
-pub data AppliesInMemory (carry : Bool) (base : ℕ) (image text : List ℕ)
+pub data AppliesInMemory (settings : Settings) (image text : List ℕ)
     (out out' log log' : Outgoing)
     (status : ℕ) : Type 0 where
-  outside : base_limit < base → status ≡ failed_status → out' ≡ out → log' ≡ log
-      → AppliesInMemory carry base image text out out' log log' status
-  without_script : base ≤ base_limit → (line : List ℕ) → HasNoScript text line → out' ≡ out
+  outside : base_limit < settings.base → status ≡ failed_status → out' ≡ out → log' ≡ log
+      → AppliesInMemory settings image text out out' log log' status
+  without_script : settings.base ≤ base_limit → (line : List ℕ) → HasNoScript text line → out' ≡ out
       → PrintsAndFails line log log' status
-      → AppliesInMemory carry base image text out out' log log' status
-  applied : base ≤ base_limit → (patches : List Patch) → HasScript text patches
+      → AppliesInMemory settings image text out out' log log' status
+  applied : settings.base ≤ base_limit → (patches : List Patch) → HasScript text patches
       → (left : SliceSource)
-      → RunsApply carry patches base (fresh_incoming image) (slice_incoming left) out out' log log'
+      → RunsApply settings.carry patches settings.base (fresh_incoming image) (slice_incoming left) out out' log log'
       status
-      → AppliesInMemory carry base image text out out' log log' status
+      → AppliesInMemory settings image text out out' log log' status

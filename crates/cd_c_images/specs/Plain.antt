@@ -1,12 +1,13 @@
 -- What the calls that take a script to an image in memory do, in plain words.
-use Rattle.std.specs.Prelude.{◌≡◌, ℕ, ◌<◌, ◌⊎◌, Bool, List, length, take}
+use Rattle.std.specs.Prelude.{◌≡◌, ℕ, ◌<◌, ◌⊎◌, List, length, take}
+use Rattle.cd_args.specs.declared.settings.Settings.{Settings}
 use Rattle.cd_image.specs.Applying.{patch_tally}
 use Rattle.cd_run.specs.PatchLog.{log_text}
 use Rattle.cd_run.specs.Patched.{EachPatching}
 use Rattle.cd_program.specs.Commands.{script_status}
 use Rattle.cd_patch.specs.declared.outcome.Outcome.{Outcome}
 use Rattle.cd_sector.specs.Image.{base_limit, image_limit}
-use Rattle.cd_rooms.specs.Rooms.{Holds}
+use Rattle.cd_memory.specs.Rooms.{Holds}
 use Rattle.cd_script.specs.PatchForm.{Patch}
 use Rattle.cd_stream.specs.Stream.{IsBeginning}
 use Rattle.cd_c_images.specs.Images.{HasNoScript, HasScript}
@@ -19,47 +20,47 @@ pub record WritesLines (patches : List Patch) (image : List ℕ) (outcomes : Lis
   pub tally : status ≡ script_status (patch_tally image outcomes)
 
 -- the text is a script, and this holds of the way in which its patches are taken on the image
-pub record TakesPatches (carry : Bool) (base : ℕ) (image text : List ℕ)
+pub record TakesPatches (settings : Settings) (image text : List ℕ)
     (Does : List Patch → List Outcome → List ℕ → Type 0) : Type 0 where
   pub patches : List Patch
   pub script : HasScript text patches
-  pub each : EachPatching carry patches base image (Does patches)
+  pub each : EachPatching settings.carry patches settings.base image (Does patches)
 
 -- the memory for the log is full, and the log of the patches is longer than it
-pub record HasShortLog (carry : Bool) (patches : List Patch) (base : ℕ) (image log : List ℕ)
+pub record HasShortLog (settings : Settings) (patches : List Patch) (image log : List ℕ)
     (size : ℕ) : Type 0 where
   pub full : size ≡ length log
-  pub longer : EachPatching carry patches base image
+  pub longer : EachPatching settings.carry patches settings.base image
       (λ outcomes last. length log < length (log_text patches outcomes))
 
 -- why a check fails: no image has its base, the image is too long, the text is no script, or the
 -- log of its patches is too long
-abbrev pub CheckFails : Bool → ℕ → List ℕ → List ℕ → List ℕ → ℕ → Type 0
-CheckFails carry base image text log size =
-    (base_limit < base) ⊎ (image_limit < length image) ⊎ ((line : List ℕ) × HasNoScript text line)
+abbrev pub CheckFails : Settings → List ℕ → List ℕ → List ℕ → ℕ → Type 0
+CheckFails settings image text log size =
+    (base_limit < settings.base) ⊎ (image_limit < length image) ⊎ ((line : List ℕ) × HasNoScript text line)
     ⊎ ((patches : List Patch) × HasScript text patches
-    × HasShortLog carry patches base image log size)
+    × HasShortLog settings patches image log size)
 
 -- what was sent to an output begins the patched image, in each way to patch the image, cut at the
 -- largest size
-pub record SendsFront (carry : Bool) (patches : List Patch) (base : ℕ) (image out out' : List ℕ)
+pub record SendsFront (settings : Settings) (patches : List Patch) (image out out' : List ℕ)
     : Type 0 where
   pub sent : List ℕ
   pub holds : Holds sent out out'
-  pub begins : EachPatching carry patches base (take image_limit image)
+  pub begins : EachPatching settings.carry patches settings.base (take image_limit image)
       (λ outcomes last. IsBeginning sent last)
 
 -- why an `apply` fails: no image has its base, or the text is no script, and then nothing was sent;
 -- or the image is too long, or the output is full, and the image is longer than it, or the log of
 -- the patches is too long
-pub data ApplyFails (carry : Bool) (base : ℕ) (image text out out' log : List ℕ) (size : ℕ)
+pub data ApplyFails (settings : Settings) (image text out out' log : List ℕ) (size : ℕ)
     : Type 0 where
-  outside : base_limit < base → out' ≡ out → ApplyFails carry base image text out out' log size
+  outside : base_limit < settings.base → out' ≡ out → ApplyFails settings image text out out' log size
   without_script : (line : List ℕ) → HasNoScript text line → out' ≡ out
-      → ApplyFails carry base image text out out' log size
+      → ApplyFails settings image text out out' log size
   stopped : (patches : List Patch) → HasScript text patches
-      → (front : SendsFront carry patches base image out out')
+      → (front : SendsFront settings patches image out out')
       → (image_limit < length image)
       ⊎ ((length front.sent ≡ length out) × (length out < length image))
-      ⊎ HasShortLog carry patches base image log size
-      → ApplyFails carry base image text out out' log size
+      ⊎ HasShortLog settings patches image log size
+      → ApplyFails settings image text out out' log size

@@ -3,11 +3,11 @@
 
 ghost use Rattle.std.specs.Prelude.{◌≡◌, ◌<◌};
 ghost use Rattle.cd_c_images.specs.Images.{AppliesInMemory, ChecksInMemory, TakesText};
-ghost use Rattle.cd_rooms.specs.Rooms.{FillsRoom};
+ghost use Rattle.cd_memory.specs.Rooms.{FillsRoom};
 ghost use Rattle.cd_stream.specs.Adapters.{lent_to, slice_outgoing};
 ghost use Rattle.cd_stream.specs.Stream.{CanCountFailure};
 
-use cd_args::{FAILED, MAX_BASE};
+use cd_args::{FAILED, MAX_BASE, Settings};
 use cd_image::{Sink, SliceSink, SliceSource};
 use cd_program::{LoadFault, load_fault_line, print_and_fail, read_script, run_apply, run_check};
 use cd_script::{MAX_TEXT, Script};
@@ -30,21 +30,23 @@ pub(crate) fn check_image(
     alloc: Global,
     image: &[u8],
     script: &[u8],
-    base: u32,
-    carry: bool,
+    settings: Settings,
     log: &mut SliceSink<'_>,
 ) -> u8
     requires { CanCountFailure (slice_outgoing log.old).failures }
-    ensures report { ChecksInMemory carry base image.now script.now (slice_outgoing log.old)
+    ensures report { ChecksInMemory settings image.now script.now (slice_outgoing log.old)
         (slice_outgoing log.new) result }
     ensures same_slice { log.new.space.ghost_name ≡ log.old.space.ghost_name }
     ensures same_bytes { (lent_to log.new).now ≡ (lent_to log.old).now }
 {
-    if base > MAX_BASE {
+    if settings.base > MAX_BASE {
         return FAILED;
     }
     match script_of(alloc, script, log) {
-        Ok(script) => run_check(&mut SliceSource::new(image), &script, base, carry, log),
+        Ok(script) => {
+            let (base, carry) = (settings.base, settings.carry);
+            run_check(&mut SliceSource::new(image), &script, base, carry, log)
+        }
         Err(status) => status,
     }
 }
@@ -54,25 +56,27 @@ fn apply_to_sinks(
     alloc: Global,
     image: &[u8],
     script: &[u8],
-    base: u32,
-    carry: bool,
+    settings: Settings,
     out: &mut SliceSink<'_>,
     log: &mut SliceSink<'_>,
 ) -> u8
     requires out_countable { CanCountFailure (slice_outgoing out.old).failures }
     requires log_countable { CanCountFailure (slice_outgoing log.old).failures }
-    ensures report { AppliesInMemory carry base image.now script.now (slice_outgoing out.old)
+    ensures report { AppliesInMemory settings image.now script.now (slice_outgoing out.old)
         (slice_outgoing out.new) (slice_outgoing log.old) (slice_outgoing log.new) result }
     ensures same_out { out.new.space.ghost_name ≡ out.old.space.ghost_name }
     ensures same_out_bytes { (lent_to out.new).now ≡ (lent_to out.old).now }
     ensures same_log { log.new.space.ghost_name ≡ log.old.space.ghost_name }
     ensures same_log_bytes { (lent_to log.new).now ≡ (lent_to log.old).now }
 {
-    if base > MAX_BASE {
+    if settings.base > MAX_BASE {
         return FAILED;
     }
     match script_of(alloc, script, log) {
-        Ok(script) => run_apply(&mut SliceSource::new(image), &script, base, carry, out, log),
+        Ok(script) => {
+            let (base, carry) = (settings.base, settings.carry);
+            run_apply(&mut SliceSource::new(image), &script, base, carry, out, log)
+        }
         Err(status) => status,
     }
 }
@@ -82,20 +86,19 @@ pub(crate) fn apply_image(
     alloc: Global,
     image: &[u8],
     script: &[u8],
-    base: u32,
-    carry: bool,
+    settings: Settings,
     out: &mut [u8],
     log: &mut SliceSink<'_>,
 ) -> u8
     requires { CanCountFailure (slice_outgoing log.old).failures }
     ensures report { FillsRoom
-        (λ made made'. AppliesInMemory carry base image.now script.now made made'
+        (λ made made'. AppliesInMemory settings image.now script.now made made'
         (slice_outgoing log.old) (slice_outgoing log.new) result) out.old out.new }
     ensures same_slice { log.new.space.ghost_name ≡ log.old.space.ghost_name }
     ensures same_bytes { (lent_to log.new).now ≡ (lent_to log.old).now }
 {
     let mut made = SliceSink::new(out);
-    let status = apply_to_sinks(alloc, image, script, base, carry, &mut made, log);
+    let status = apply_to_sinks(alloc, image, script, settings, &mut made, log);
     let _out = made.space; // so that the contract can name what it holds
     status
 }

@@ -2,11 +2,13 @@
 
 ghost use Rattle.std.specs.Prelude.{◌≡◌, ◌≢◌};
 ghost use Rattle.cd_args.specs.Fault.{failed_status};
+ghost use Rattle.cd_args.specs.Task.{settings_of};
 ghost use Rattle.cd_c_images.specs.Images.{AppliesInMemory, ChecksInMemory};
 ghost use Rattle.cd_c_images.specs.Plain.{ApplyFails, CheckFails, TakesPatches, WritesLines};
-ghost use Rattle.cd_rooms.specs.Rooms.{FillsCounted, FillsRoom, Holds};
+ghost use Rattle.cd_memory.specs.Rooms.{FillsCounted, FillsRoom, Holds};
 
 use crate::commands::{apply_image, check_image};
+use cd_args::Settings;
 use cd_image::SliceSink;
 use std::alloc::Global;
 
@@ -23,16 +25,17 @@ pub extern "C" fn cdpatch_check(
     length: &mut usize,
 ) -> u32
     ensures report { FillsCounted
-        (λ lines lines'. ChecksInMemory carry base image.now script.now lines lines' result)
+        (λ lines lines'. ChecksInMemory (settings_of base carry) image.now script.now lines lines' result)
         log.old log.new length.new }
-    ensures text { result ≢ failed_status → TakesPatches carry base image.now script.now
+    ensures text { result ≢ failed_status → TakesPatches (settings_of base carry) image.now script.now
         (λ patches outcomes last.
         WritesLines patches image.now outcomes log.old log.new length.new result) }
     ensures failed { result ≡ failed_status
-        → CheckFails carry base image.now script.now log.old length.new }
+        → CheckFails (settings_of base carry) image.now script.now log.old length.new }
 {
     let mut lines = SliceSink::new(log);
-    let status = check_image(alloc, image, script, base, carry, &mut lines);
+    let settings = Settings::new(base, carry);
+    let status = check_image(alloc, image, script, settings, &mut lines);
     *length = lines.used;
     let _log = lines.space; // so that the contract can name what it holds
     u32::from(status)
@@ -52,16 +55,17 @@ pub extern "C" fn cdpatch_apply(
     length: &mut usize,
 ) -> u32
     ensures report { FillsRoom (λ made made'. FillsCounted (λ lines lines'.
-        AppliesInMemory carry base image.now script.now made made' lines lines' result)
+        AppliesInMemory (settings_of base carry) image.now script.now made made' lines lines' result)
         log.old log.new length.new) out.old out.new }
-    ensures image { result ≢ failed_status → TakesPatches carry base image.now script.now
+    ensures image { result ≢ failed_status → TakesPatches (settings_of base carry) image.now script.now
         (λ patches outcomes last. Holds last out.old out.new
         × WritesLines patches image.now outcomes log.old log.new length.new result) }
-    ensures failed { result ≡ failed_status → ApplyFails carry base image.now script.now out.old
+    ensures failed { result ≡ failed_status → ApplyFails (settings_of base carry) image.now script.now out.old
         out.new log.old length.new }
 {
     let mut outcomes = SliceSink::new(log);
-    let status = apply_image(alloc, image, script, base, carry, out, &mut outcomes);
+    let settings = Settings::new(base, carry);
+    let status = apply_image(alloc, image, script, settings, out, &mut outcomes);
     *length = outcomes.used;
     let _log = outcomes.space; // so that the contract can name what it holds
     u32::from(status)

@@ -5,7 +5,7 @@ use Rattle.std.specs.Prelude.{All, cond, take, Result}
 use Rattle.std.proofs.lemmas.List.{length-drop}
 use Rattle.std.proofs.lemmas.Option.{get_or_from_slice_get, slice_get_within}
 use Rattle.cd_script.specs.Patch.{IsEditAt, IsPatch, IsPatchList}
-use Rattle.cd_script.specs.PatchForm.{Edit, Patch}
+use Rattle.cd_script.specs.PatchForm.{Edit, Patch, edit_without_old, without_old}
 use Rattle.cd_script.specs.declared.version.Version.{Version}
 use Rattle.cd_script.specs.ByLine.{meaning_at}
 use Rattle.cd_script.specs.declared.by_line.LineContent.{LineContent}
@@ -24,7 +24,7 @@ use Rattle.cd_run.specs.Steps.{IsReady}
 use Rattle.cd_c_scripts.specs.Runs.{Looks, MeetsMore, Steps, is_coming, is_tail}
 use Rattle.cd_c_scripts.specs.declared.entries.Entry.{Entry}
 use Rattle.cd_c_scripts.specs.Entries.{AreEntries, IsEntry, Rereads}
-use Rattle.cd_c_scripts.specs.Flags.{all_as_asked, as_asked, compares, edit_without_old, without_old}
+use Rattle.cd_c_scripts.specs.Flags.{all_as_asked, as_asked, compares}
 
 cons_of : (ps : List Patch) → 0 < length ps → (p : Patch) × (others : List Patch) × (ps ≡ p ∷ others)
 cons_of [] some = absurd (omega arith)

@@ -1,8 +1,7 @@
 -- What the flags of a run mean: 1 that damage is carried, 2 that COPY is not asked for, 4 that old
 -- bytes are not compared. The numbers are those of `cdpatch.h`.
-use Rattle.std.specs.Prelude.{ℕ, ◌/◌, ◌%◌, ◌==◌, Bool, List, None, map, if◌then◌else◌}
-use Rattle.cd_script.specs.PatchForm.{Edit, Patch}
-use Rattle.cd_script.specs.declared.patch.Edit.TheVariants.{Put, Fill, Rebuild, Address}
+use Rattle.std.specs.Prelude.{ℕ, ◌/◌, ◌%◌, ◌==◌, Bool, List, map, if◌then◌else◌}
+use Rattle.cd_script.specs.PatchForm.{Patch, without_old}
 
 -- flags are below this number
 abbrev pub flag_limit : ℕ
@@ -19,17 +18,6 @@ copies flags = flags / 2 % 2 == 0
 -- whether old bytes are compared
 abbrev pub compares : ℕ → Bool
 compares flags = flags / 4 % 2 == 0
-
--- an edit that names no old bytes
-abbrev pub edit_without_old : Edit → Edit
-edit_without_old (Put bytes was) = Put bytes None
-edit_without_old (Fill count value) = Fill count value
-edit_without_old Rebuild = Rebuild
-edit_without_old (Address bcd) = Address bcd
-
--- a patch that names no old bytes
-abbrev pub without_old : Patch → Patch
-without_old p = record p { edit = edit_without_old p.edit }
 
 -- a patch as the flags want it
 abbrev pub as_asked : ℕ → Patch → Patch

@@ -5,17 +5,14 @@ use Rattle.cd_script.specs.declared.by_line.LineContent.TheVariants as content
 use Rattle.cd_script.specs.declared.fault.ScriptFault.{ScriptFault}
 use Rattle.cd_script.specs.declared.fault.ScriptFault.TheVariants as fault
 use Rattle.cd_script.specs.declared.version.Version.{Version}
-use Rattle.cd_script.specs.declared.version.Version.TheVariants.{One, Two}
+use Rattle.cd_script.specs.VersionNumbers.{numbered_version, version_number}
 use Rattle.cd_script.specs.ByLine.{meaning_at}
 use Rattle.cd_script.specs.PatchForm.{Patch}
 
 -- the version that a number means: 0 that there was no head line; none for another number
 abbrev pub version_of : ℕ → Option (Option Version)
 version_of n =
-    if n == 0 then Some None
-    else if n == 1 then Some (Some One)
-    else if n == 2 then Some (Some Two)
-    else None
+    if n == 0 then Some None else option_map (λ v. Some v) (numbered_version n)
 
 -- what a line says in the version of this number, or its fault; none if the number means no version
 abbrev pub line_read : ℕ → ℕ → ℕ → List ℕ → Option (Result LineContent ScriptFault)
@@ -38,8 +35,7 @@ fault_number fault.NoMemory = 13
 -- the number of what a line says
 abbrev pub content_number : LineContent → ℕ
 content_number content.PassedOver = 0
-content_number (content.Head One) = 1
-content_number (content.Head Two) = 2
+content_number (content.Head version) = version_number version
 content_number (content.Patch p) = 3
 
 -- the number of what was read

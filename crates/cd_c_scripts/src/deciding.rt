@@ -12,20 +12,20 @@ ghost use Rattle.cd_sector.specs.declared.sector.TheConstants.{SECTOR_SIZE};
 ghost use Rattle.cd_run.specs.PatchLog.{outcome_line};
 ghost use Rattle.cd_run.specs.Running.{IsRun};
 ghost use Rattle.cd_run.specs.declared.run.Step.TheVariants.{Decide};
-ghost use Rattle.cd_c_scripts.specs.Flags.{as_asked, carries, edit_without_old};
+ghost use Rattle.cd_c_scripts.specs.Flags.{as_asked, carries};
 ghost use Rattle.cd_c_scripts.specs.FlatPatch.{flat_edit};
 ghost use Rattle.cd_c_scripts.specs.Lines.{version_of};
 ghost use Rattle.cd_c_scripts.specs.Entries.{AreEntries, Rereads};
 ghost use Rattle.cd_c_scripts.specs.Runs.{Going, IsLineOf, Steps};
 
 use crate::entries::{Entry, blocks_met};
-use crate::flat_patch::{FlatPatch, edit_of};
-use crate::lending::lend_patch;
+use crate::flat_patch::{FlatPatch, edit_of, lend_patch};
 use crate::lines::version_of;
 use crate::run_state::{Rooms, ScriptRun, carries, compares};
 use cd_patch::Outcome;
 use cd_script::{
-    Edit, HexPatch, LentBytes, LineContent, MAX_BYTES, MAX_PATCHES, Patch, ScriptFault, read_line,
+    HexPatch, LentBytes, LineContent, MAX_BYTES, MAX_PATCHES, Patch, ScriptFault, read_line,
+    without_old,
 };
 use cd_sector::Sector;
 
@@ -104,18 +104,6 @@ fn patch_with<'a>(
     })
 }
 
-/// An edit that names no old bytes.
-fn edit_without_old(edit: Edit<LentBytes<'_>>) -> Edit<LentBytes<'_>>
-    ensures { result ≡ edit_without_old edit.entry }
-{
-    match edit {
-        Edit::Put { bytes, .. } => Edit::Put { bytes, was: None },
-        Edit::Fill { count, value } => Edit::Fill { count, value },
-        Edit::Rebuild => Edit::Rebuild,
-        Edit::Address { bcd } => Edit::Address { bcd },
-    }
-}
-
 /// A patch as the flags want it.
 fn as_asked(patch: Patch<LentBytes<'_>>, flags: u32) -> Patch<LentBytes<'_>>
     ensures { result ≡ as_asked flags patch.entry }
@@ -123,12 +111,7 @@ fn as_asked(patch: Patch<LentBytes<'_>>, flags: u32) -> Patch<LentBytes<'_>>
     if compares(flags) {
         return patch;
     }
-    Patch {
-        line: patch.line,
-        block: patch.block,
-        offset: patch.offset,
-        edit: edit_without_old(patch.edit),
-    }
+    without_old(patch)
 }
 
 /// Whether a patch is that of an entry.

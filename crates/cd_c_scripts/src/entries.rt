@@ -11,13 +11,12 @@ ghost use Rattle.cd_c_scripts.specs.Lines.{version_of};
 ghost use Rattle.cd_c_scripts.specs.Indexing.{IndexesBy};
 ghost use Rattle.cd_script.specs.ByLine.{meaning_at};
 ghost use Rattle.cd_c_scripts.specs.Entries.{AllBelow, AreEntries, IsIndexed, LinesRise, entry_key};
-ghost use Rattle.cd_script.specs.Limits.{bytes_limit, offset_limit, text_limit};
-ghost use Rattle.cd_script.specs.Patch.{IsEditAt, IsPatch};
-ghost use Rattle.cd_patch.specs.Blocks.{block_limit, blocks_met, blocks_spanned};
-ghost use Rattle.cd_patch.specs.EditMeaning.{new_bytes};
+ghost use Rattle.cd_script.specs.Limits.{text_limit};
+ghost use Rattle.cd_script.specs.Patch.{IsPatch};
+ghost use Rattle.cd_patch.specs.Blocks.{block_limit, blocks_met};
 
-use cd_script::{HexEdit, HexPatch, LineContent, ScriptFault, Version, first_line, read_line};
-use cd_sector::USER_SIZE;
+use cd_patch::blocks_met_spelled;
+use cd_script::{HexPatch, LineContent, ScriptFault, Version, first_line, read_line};
 
 /// A patch of a script, as C's `struct cdpatch_entry`.
 #[derive(Clone, Copy)]
@@ -44,31 +43,6 @@ pub(crate) struct ScriptIndex {
     pub count: usize,
 }
 
-/// How many user bytes an edit writes.
-fn written(offset: u16, edit: &HexEdit<'_>) -> usize
-    requires { IsEditAt offset edit.now }
-    ensures number { result ≡ length (new_bytes edit.now) }
-    ensures few { result ≤ bytes_limit }
-{
-    match edit {
-        HexEdit::Put { bytes, .. } => bytes.len(),
-        HexEdit::Fill { count, .. } => *count as usize,
-        HexEdit::Rebuild => 0,
-        HexEdit::Address { .. } => 0,
-    }
-}
-
-/// The number of blocks in which user bytes from an offset on lie; no bytes are of one block.
-fn blocks_spanned(offset: u16, count: usize) -> u32
-    requires offset { offset ≤ offset_limit }
-    requires count { count ≤ bytes_limit }
-    ensures number { result ≡ blocks_spanned offset count }
-    ensures some { 0 < result }
-    ensures few { result ≤ block_limit }
-{
-    ((offset as usize + count).saturating_sub(1) / USER_SIZE + 1) as u32
-}
-
 /// How many blocks a patch meets.
 pub(crate) fn blocks_met(patch: &HexPatch<'_>) -> u32
     requires { IsPatch patch.now }
@@ -76,17 +50,14 @@ pub(crate) fn blocks_met(patch: &HexPatch<'_>) -> u32
     ensures some { 0 < result }
     ensures few { result ≤ block_limit }
 {
-    blocks_spanned(patch.offset, written(patch.offset, &patch.edit))
+    blocks_met_spelled(patch) as u32
 }
 
 /// The number of a version.
 pub(crate) fn version_number(version: Version) -> u32
     ensures { version_of result ≡ Some (Some version) }
 {
-    match version {
-        Version::One => 1,
-        Version::Two => 2,
-    }
+    version.number()
 }
 
 /// Sorts entries by block and line.

@@ -1,22 +1,26 @@
-//! A patch as a flat record, and the patch that such a record is.
+//! A patch as a flat record: the patch that such a record is, and writing a patch into what C has
+//! lent, its record and its bytes to the front of two rooms. The one place here in which the edits
+//! are told apart.
 
-ghost use Rattle.std.specs.Prelude.{◌≡◌, ◌≤◌, take};
+ghost use Rattle.std.specs.Prelude.{◌≡◌, ◌≤◌, List, ℕ, IfSome, Some, [], length, take, unwrap_or};
+ghost use Rattle.cd_script.specs.declared.patch.Edit.TheVariants.{Put};
 ghost use Rattle.cd_script.specs.Limits.{bytes_limit};
-ghost use Rattle.cd_c_scripts.specs.FlatPatch.{flat_edit, flat_patch, set_edit};
+ghost use Rattle.cd_script.specs.Patch.{IsEditAt, IsPatch};
+ghost use Rattle.cd_c_scripts.specs.FlatPatch.{flag_of, flat_edit, flat_patch, new_of, old_of, record_of, set_edit, with_front};
 
-use cd_script::{Edit, LentBytes, MAX_BYTES, Patch};
+use cd_script::{Edit, HexEdit, HexPatch, HexWord, LentBytes, MAX_BYTES, Patch};
 
 /// The verb `set`.
-pub(crate) const SET: u8 = 0;
+const SET: u8 = 0;
 
 /// The verb `fill`.
-pub(crate) const FILL: u8 = 1;
+const FILL: u8 = 1;
 
 /// The verb `rebuild`.
-pub(crate) const REBUILD: u8 = 2;
+const REBUILD: u8 = 2;
 
 /// The verb `address`.
-pub(crate) const ADDRESS: u8 = 3;
+const ADDRESS: u8 = 3;
 
 /// A patch, as C's `struct cdpatch_patch`. The new and the old bytes of a `set` stand at the front of
 /// two rooms.
@@ -105,4 +109,113 @@ pub(crate) fn patch_of<'a>(
         offset: flat.offset,
         edit,
     })
+}
+
+/// Writes the bytes of a hex word to the front of a room, and returns how many they are.
+fn lend_bytes(word: &HexWord<'_>, room: &mut [u8]) -> u16
+    requires most { length word.now ≤ bytes_limit }
+    requires room { bytes_limit ≤ length room.old }
+    ensures count { result ≡ length word.now }
+    ensures bytes { take result room.new ≡ word.now }
+    ensures room { room.new ≡ with_front word.now room.old }
+{
+    word.decode_to(room);
+    word.len() as u16
+}
+
+/// Writes `count` old bytes, if there are some, and returns `has_old`.
+fn lend_old(was: &Option<HexWord<'_>>, count: u16, room: &mut [u8]) -> u8
+    requires same { IfSome was.now (λ old. length old ≡ count) }
+    requires most { count ≤ bytes_limit }
+    requires room { bytes_limit ≤ length room.old }
+    ensures flag { result ≡ flag_of was.now }
+    ensures edit { (new : List ℕ)
+        → set_edit count result new room.new ≡ Some (Put (take count new) was.now) }
+    ensures room { room.new ≡ with_front (unwrap_or was.now []) room.old }
+{
+    match was {
+        Some(word) => {
+            word.decode_to(room);
+            1
+        }
+        None => 0,
+    }
+}
+
+/// What each record begins with.
+const BLANK: FlatPatch = FlatPatch {
+    block: 0,
+    offset: 0,
+    count: 0,
+    verb: 0,
+    has_old: 0,
+    value: 0,
+    address: [0; 3],
+};
+
+/// The record of an edit at a place, whose new and old bytes go to the front of the rooms.
+fn lend_edit(
+    block: u32,
+    offset: u16,
+    edit: &HexEdit<'_>,
+    new: &mut [u8],
+    old: &mut [u8],
+) -> FlatPatch
+    requires edit { IsEditAt offset edit.now }
+    requires new { bytes_limit ≤ length new.old }
+    requires old { bytes_limit ≤ length old.old }
+    ensures edit { flat_edit result new.new old.new ≡ Some edit.now }
+    ensures record { result ≡ record_of block offset edit.now }
+    ensures block { result.block ≡ block }
+    ensures offset { result.offset ≡ offset }
+    ensures new { new.new ≡ with_front (new_of edit.now) new.old }
+    ensures old { old.new ≡ with_front (old_of edit.now) old.old }
+{
+    let place = FlatPatch {
+        block,
+        offset,
+        ..BLANK
+    };
+    match edit {
+        Edit::Put { bytes, was } => {
+            let count = lend_bytes(bytes, new);
+            let has_old = lend_old(was, count, old);
+            FlatPatch {
+                verb: SET,
+                count,
+                has_old,
+                ..place
+            }
+        }
+        Edit::Fill { count, value } => FlatPatch {
+            verb: FILL,
+            count: *count,
+            value: *value,
+            ..place
+        },
+        Edit::Rebuild => FlatPatch {
+            verb: REBUILD,
+            ..place
+        },
+        Edit::Address { bcd } => FlatPatch {
+            verb: ADDRESS,
+            address: *bcd,
+            ..place
+        },
+    }
+}
+
+/// The record of a patch, whose new and old bytes go to the front of the rooms.
+pub(crate) fn lend_patch(patch: &HexPatch<'_>, new: &mut [u8], old: &mut [u8]) -> FlatPatch
+    requires patch { IsPatch patch.now }
+    requires new { bytes_limit ≤ length new.old }
+    requires old { bytes_limit ≤ length old.old }
+    ensures edit { flat_edit result new.new old.new ≡ Some patch.now.edit }
+    ensures record { result ≡ record_of patch.now.block patch.now.offset patch.now.edit }
+    ensures block { result.block ≡ patch.now.block }
+    ensures offset { result.offset ≡ patch.now.offset }
+    ensures new { new.new ≡ with_front (new_of patch.now.edit) new.old }
+    ensures old { old.new ≡ with_front (old_of patch.now.edit) old.old }
+{
+    lend_edit(patch.block, patch.offset, &patch.edit, new, old)
 }

@@ -12,7 +12,6 @@ mod deciding;
 mod entries;
 mod flat_patch;
 mod laws;
-mod lending;
 mod lines;
 mod moving;
 mod patches;

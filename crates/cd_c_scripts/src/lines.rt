@@ -5,14 +5,13 @@ ghost use Rattle.cd_script.specs.FaultNumbers.{line_of};
 ghost use Rattle.cd_c_scripts.specs.FlatPatch.{IsSomePatch, flat_patch, new_of, old_of, record_of, with_front};
 ghost use Rattle.cd_c_scripts.specs.Lines.{answer_number, content_number, fault_number, line_read, patch_read, version_of};
 
-use crate::flat_patch::FlatPatch;
-use crate::lending::lend_patch;
+use crate::flat_patch::{FlatPatch, lend_patch};
 use cd_script::{LineContent, MAX_BYTES, ScriptFault, Version, read_line};
 
 /// The line has a patch.
 const PATCH: u32 = 3;
 
-/// The version is not 0, 1 or 2.
+/// The number means no version.
 const NO_VERSION: u32 = 14;
 
 /// A fault that no line has.
@@ -60,12 +59,10 @@ pub(crate) fn line_of(fault: ScriptFault) -> u32
 pub(crate) fn version_of(version: u32) -> Option<Option<Version>>
     ensures { result ≡ version_of version }
 {
-    match version {
-        0 => Some(None),
-        1 => Some(Some(Version::One)),
-        2 => Some(Some(Version::Two)),
-        _ => None,
+    if version == 0 {
+        return Some(None);
     }
+    Version::of_number(version).map(Some)
 }
 
 /// Reads one line of a script without its end, as [`read_line`], and returns a number of `enum
@@ -102,8 +99,7 @@ pub extern "C" fn cdpatch_read_line(
     };
     match read_line(version, number, earlier, line) {
         Ok(LineContent::PassedOver) => 0,
-        Ok(LineContent::Head(Version::One)) => 1,
-        Ok(LineContent::Head(Version::Two)) => 2,
+        Ok(LineContent::Head(named)) => named.number(),
         Ok(LineContent::Patch(found)) => {
             *patch = lend_patch(&found, new_bytes, old_bytes);
             PATCH

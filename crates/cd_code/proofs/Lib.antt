@@ -8,5 +8,7 @@ pub mod FoldingLemmas
 pub mod LaneLemmas
 pub mod MovingLemmas
 pub mod MovingTableLemmas
+pub mod ParityLemmas
+pub mod PlaceLemmas
 pub mod SyndromeLemmas
 pub mod general

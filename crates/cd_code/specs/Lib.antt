@@ -1,5 +1,7 @@
+pub mod CodeWords
 pub mod Edc
 pub mod Field
+pub mod Filling
 pub mod Folding
 pub mod LaneWords
 pub mod Laws

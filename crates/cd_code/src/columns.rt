@@ -77,7 +77,7 @@ pub fn row_sums(row: &[u8; COLUMNS], sums: &mut ColumnSums)
     add_rest(&mut sums.plain, &mut sums.weighted, row, 64);
 }
 
-/// Both syndromes of 86 columns of rows, in registers (ECMA-130, Annex A). Public for cd_sector,
+/// Both syndromes of 86 columns of rows, in registers (ECMA-130, Annex A). Public for cd_lanes,
 /// whose parity is computed in the same registers. The middle and the back lanes overlap, since 86
 /// columns are not three times 32.
 #[derive(Clone, Copy, Debug)]

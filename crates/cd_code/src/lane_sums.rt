@@ -7,7 +7,7 @@ ghost use Rattle.cd_code.specs.Syndrome.{IsPair};
 use crate::lanes::doubled_lanes;
 use std::simd::prelude::*;
 
-/// Both syndromes of 32 words, by lane (ECMA-130, Annex A). Public for cd_sector, whose diagonals
+/// Both syndromes of 32 words, by lane (ECMA-130, Annex A). Public for cd_lanes, whose diagonals
 /// are computed in the same registers.
 #[derive(Clone, Copy, Debug)]
 pub struct LaneSums {

@@ -19,12 +19,13 @@
 //! ```
 //!
 //! [`column_sums`], [`column_lanes`] and [`LaneSums`] compute many syndromes side by side, for a
-//! sector's 86 columns and 52 diagonals. A list may have any length. No call takes memory.
+//! sector's 86 columns and 52 diagonals; where these stand in a sector is here too. A list may have any
+//! length. No call takes memory.
 //!
 //! [`times`], [`alpha_power`], [`syndromes`], [`pair_from`], [`parity_pair`] and [`row_sums`] are
 //! for other users of the codes: cdpatch calls them only in tests and benchmarks.
 //!
-//! Tests: `crates/cd_patch_tests/src/tests/codes`.
+//! Tests: `crates/cd_low_tests/src/tests/codes`.
 #![tactic(auto)]
 
 mod columns;
@@ -38,6 +39,7 @@ mod lanes;
 mod laws;
 mod moving;
 mod moving_tables;
+mod product_code;
 mod syndrome;
 
 pub use columns::{
@@ -50,4 +52,8 @@ pub use lane_sums::LaneSums;
 pub use lanes::{lanes_at, put_lanes};
 pub use laws::{edc_is_unique, edc_of_sum, pair_is_unique, product_goes_by_bits, sum_goes_by_bits};
 pub use moving::edc_moved;
+pub use product_code::{
+    DIAGONAL_SIZE, DIAGONALS, DiagonalSums, FIRST_P, FIRST_P_ROW, FIRST_Q, HEADER, P_PARITY,
+    PLANE_COLUMNS, Q_PARITY, SECOND_P, SECOND_P_ROW, SECOND_Q, SECTOR_SIZE,
+};
 pub use syndrome::{pair_change, pair_from, parity_pair, syndromes};

@@ -11,7 +11,7 @@ use Rattle.cd_code.specs.Field.{AreBytes}
 use Rattle.cd_code.specs.Syndrome.{SameSums, with_added}
 use Rattle.cd_code.proofs.general.Lists.{front-same}
 use Rattle.cd_code.proofs.general.Xor.{xor_cancel}
-use Rattle.cd_sector.specs.CodeWords.{SameSyndromes}
+use Rattle.cd_code.specs.CodeWords.{SameSyndromes}
 use Rattle.cd_sector.proofs.SectorLemmas.{sector_same}
 use Rattle.cd_delta.specs.declared.changes.Change.{Change}
 use Rattle.cd_delta.specs.ParityChanges.{with_changes}

@@ -6,8 +6,8 @@ use Rattle.std.specs.List.{AllByRecursion, IsDistinct}
 use Rattle.std.proofs.lemmas.Bool.Decides.{nat_tests}
 use Rattle.cd_code.specs.Field.{AreBytes}
 use Rattle.cd_code.specs.Syndrome.{Balances}
-use Rattle.cd_sector.specs.CodeWords.{SameSyndromes, place_of, bytes_at, column_places}
-use Rattle.cd_sector.proofs.PlaceLemmas.{diagonal_place-first, diagonal_place-second}
+use Rattle.cd_code.specs.CodeWords.{SameSyndromes, place_of, bytes_at, column_places}
+use Rattle.cd_code.proofs.PlaceLemmas.{diagonal_place-first, diagonal_place-second}
 use Rattle.cd_delta.specs.declared.changes.Change.{Change}
 use Rattle.cd_delta.specs.ParityChanges.{diagonal_at, parity_places, with_changes}
 use Rattle.cd_delta.proofs.AddLemmas.{changed-past, places_of}

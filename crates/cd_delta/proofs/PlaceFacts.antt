@@ -1,10 +1,10 @@
 -- Which places the columns and the diagonals of a plane have (ECMA-130, Annex A).
 use Rattle.std.proofs.Common.{◌≡◌, ◌↔◌, ℕ, ◌+◌, ◌*◌, ◌%◌, ◌<◌, ◌≤◌, get_or}
 use Rattle.std.proofs.Common.{refl, sym, ap, ◌∙◌, arith}
-use Rattle.cd_sector.specs.CodeWords.{place_of, column_places, diagonal_places}
-use Rattle.cd_sector.proofs.PlaceLemmas.{length-column_places, length-diagonal_places}
-use Rattle.cd_sector.proofs.PlaceLemmas.{column_place, diagonal_place}
-use Rattle.cd_sector.proofs.PlaceLemmas.{diagonal_place-first, diagonal_place-second}
+use Rattle.cd_code.specs.CodeWords.{place_of, column_places, diagonal_places}
+use Rattle.cd_code.proofs.PlaceLemmas.{length-column_places, length-diagonal_places}
+use Rattle.cd_code.proofs.PlaceLemmas.{column_place, diagonal_place}
+use Rattle.cd_code.proofs.PlaceLemmas.{diagonal_place-first, diagonal_place-second}
 use Rattle.cd_delta.specs.ParityChanges.{diagonal_at}
 use Rattle.cd_delta.proofs.WordLemmas.{AreApart, IsIn, Misses, Words}
 

@@ -10,7 +10,7 @@ use Rattle.cd_code.specs.Edc.{IsEdc, bits, remainder}
 use Rattle.cd_code.specs.Field.{AreBytes}
 use Rattle.cd_code.proofs.general.Lists.{front-same, get_or-second, part-list, part-same}
 use Rattle.cd_code.proofs.EdcLemmas.{after_bits-zero}
-use Rattle.cd_sector.specs.CodeWords.{SameSyndromes}
+use Rattle.cd_code.specs.CodeWords.{SameSyndromes}
 use Rattle.cd_sector.specs.Consistent.{IsConsistent, header_of, user_of}
 use Rattle.cd_sector.specs.EdcField.{StoresEdc}
 use Rattle.cd_sector.specs.Kind.{kind_of}

@@ -6,9 +6,9 @@ use Rattle.std.proofs.lemmas.Bool.{cases_eq}
 use Rattle.std.proofs.lemmas.List.{ext_get_or, get_or-set_same, get_or-set_other, length-set}
 use Rattle.cd_code.specs.Field.{AreBytes}
 use Rattle.cd_code.specs.Syndrome.{Balances, SameSums, first_syndrome, second_syndrome, with_added}
-use Rattle.cd_sector.specs.CodeWords.{bytes_at}
-use Rattle.cd_sector.proofs.PlaceLemmas.{AreBytes-bytes_at, length-bytes_at, bytes_at-byte}
-use Rattle.cd_sector.proofs.PlaceLemmas.{bytes_at-same}
+use Rattle.cd_code.specs.CodeWords.{bytes_at}
+use Rattle.cd_code.proofs.PlaceLemmas.{AreBytes-bytes_at, length-bytes_at, bytes_at-byte}
+use Rattle.cd_code.proofs.PlaceLemmas.{bytes_at-same}
 use Rattle.cd_delta.specs.declared.changes.Change.{Change}
 use Rattle.cd_delta.specs.ParityChanges.{with_changes}
 use Rattle.cd_delta.proofs.AddLemmas.{AreBytes-added, length-added}

@@ -3,7 +3,7 @@
 use Rattle.std.proofs.Common.{◌≡◌, ℕ, ◌<◌, List, get_or, bit_xor, ap, ◌∙◌}
 use Rattle.cd_code.specs.Syndrome.{SameSums}
 use Rattle.cd_code.proofs.general.Xor.{xor_twice_left}
-use Rattle.cd_sector.specs.CodeWords.{SameSyndromes}
+use Rattle.cd_code.specs.CodeWords.{SameSyndromes}
 
 pub SameSums-trans : {u v w : List ℕ} → SameSums u v → SameSums v w → SameSums u w
 SameSums-trans h k = record { first = h.first ∙ k.first; second = h.second ∙ k.second }

@@ -1,6 +1,6 @@
 -- What follows from the definition of diagonals; the law is a contract of `laws.rt`.
 use Rattle.std.specs.Prelude.{◌≡◌, ◌↔◌, ℕ, ◌+◌, ◌*◌, ◌<◌, slice_index}
-use Rattle.cd_sector.specs.CodeWords.{diagonal_places, place_of}
+use Rattle.cd_code.specs.CodeWords.{diagonal_places, place_of}
 use Rattle.cd_delta.specs.ParityChanges.{diagonal_at}
 
 -- the place in a row and a column is in the diagonal of their difference, at the column's number,

@@ -2,7 +2,7 @@
 -- plane is in row n / 43 and column n % 43; the P parity makes rows 24 and 25.
 use Rattle.std.specs.Prelude.{ℕ, ◌+◌, ◌-◌, ◌/◌, ◌%◌, List, [], ◌∷◌, ◌++◌, fold}
 use Rattle.cd_code.specs.Syndrome.{with_added}
-use Rattle.cd_sector.specs.CodeWords.{diagonal_pair, place_of}
+use Rattle.cd_code.specs.CodeWords.{diagonal_pair, place_of}
 use Rattle.cd_delta.specs.declared.changes.Change.{Change}
 
 -- the sector with each change's `d` added to the byte at its place

@@ -3,7 +3,7 @@
 use Rattle.std.specs.Prelude.{◌≡◌, ℕ, ◌+◌, ◌<◌, ◌≤◌, ◌⊎◌, List, ◌++◌, length, take, drop, bit_xor, slice_index}
 use Rattle.cd_code.specs.Edc.{IsEdc}
 use Rattle.cd_code.specs.Field.{AreBytes}
-use Rattle.cd_sector.specs.CodeWords.{SameSyndromes}
+use Rattle.cd_code.specs.CodeWords.{SameSyndromes}
 use Rattle.cd_sector.specs.EdcField.{StoresEdc}
 
 -- the user data, in which `bytes` stand from `offset` on instead of as many others

@@ -4,7 +4,7 @@
 ghost use Rattle.std.specs.Prelude.{◌≡◌, ◌≢◌, ℕ, ◌+◌, ◌<◌, ◌≤◌, Contains, length, slice_index};
 ghost use Rattle.cd_code.specs.Field.{AreBytes};
 ghost use Rattle.cd_code.specs.Syndrome.{with_added};
-ghost use Rattle.cd_sector.specs.CodeWords.{SameSyndromes};
+ghost use Rattle.cd_code.specs.CodeWords.{SameSyndromes};
 ghost use Rattle.cd_delta.specs.ParityChanges.{parity_places};
 ghost use Rattle.cd_delta.specs.Writing.{IsWritten};
 

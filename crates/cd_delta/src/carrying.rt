@@ -13,7 +13,8 @@ ghost use Rattle.cd_delta.specs.Writing.{AddsEdc, AreDifferences, KeepsError, wi
 
 use crate::byte_by_byte::write_few;
 use crate::user_data::{MANY, change_bytes};
-use cd_code::{edc_by_tables, edc_moved, edc_of};
+use cd_code::{edc_by_tables, edc_moved};
+use cd_lanes::edc_of;
 use cd_sector::{EDC, HEADER, Sector, USER_DATA, USER_SIZE, edc_bytes, stored_edc};
 
 /// How many bytes few bytes meet at most, by eights.

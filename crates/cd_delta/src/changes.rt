@@ -4,7 +4,7 @@ ghost use Rattle.std.specs.Prelude.{◌≡◌, ◌≢◌, ℕ, ◌+◌, ◌*◌,
 ghost use Rattle.std.specs.List.{IsDistinct};
 ghost use Rattle.cd_code.specs.Field.{AreBytes};
 ghost use Rattle.cd_code.specs.Syndrome.{Balances, with_added};
-ghost use Rattle.cd_sector.specs.CodeWords.{SameSyndromes, place_of};
+ghost use Rattle.cd_code.specs.CodeWords.{SameSyndromes, place_of};
 ghost use Rattle.cd_delta.specs.ParityChanges.{diagonal_at, parity_places, with_changes};
 
 use cd_code::pair_change;

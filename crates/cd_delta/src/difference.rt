@@ -2,7 +2,7 @@
 
 ghost use Rattle.std.specs.Prelude.{◌≡◌, ℕ, ◌<◌, length, slice_index};
 ghost use Rattle.cd_code.specs.Field.{AreBytes};
-ghost use Rattle.cd_sector.specs.CodeWords.{SameSyndromes};
+ghost use Rattle.cd_code.specs.CodeWords.{SameSyndromes};
 
 use cd_sector::{Sector, fill_parity, sum_of};
 

@@ -3,7 +3,7 @@
 ghost use Rattle.std.specs.Prelude.{◌≡◌, ℕ, ◌++◌, ◌<◌, ◌≤◌, ◌⊎◌, drop, slice_index, slice_range, take};
 ghost use Rattle.std.specs.Int.{from_le_bytes, w32};
 ghost use Rattle.cd_code.specs.Edc.{IsEdc, bits, remainder};
-ghost use Rattle.cd_sector.specs.CodeWords.{SameSyndromes};
+ghost use Rattle.cd_code.specs.CodeWords.{SameSyndromes};
 ghost use Rattle.cd_sector.specs.Consistent.{IsConsistent, header_of, user_of};
 ghost use Rattle.cd_sector.specs.Kind.{kind_of};
 ghost use Rattle.cd_sector.specs.declared.kinds.SectorKind.TheVariants.{Mode1};

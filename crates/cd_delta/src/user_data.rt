@@ -3,7 +3,7 @@
 ghost use Rattle.std.specs.Prelude.{◌≡◌, ℕ, ◌+◌, ◌<◌, ◌≤◌, ◌⊎◌, length, slice_index, slice_range, take};
 ghost use Rattle.std.specs.Int.{from_le_bytes, w32};
 ghost use Rattle.cd_code.specs.Edc.{IsEdc, bits, remainder};
-ghost use Rattle.cd_sector.specs.CodeWords.{SameSyndromes};
+ghost use Rattle.cd_code.specs.CodeWords.{SameSyndromes};
 ghost use Rattle.cd_sector.specs.Consistent.{IsConsistent, header_of, user_of};
 ghost use Rattle.cd_sector.specs.EdcField.{StoresEdc};
 ghost use Rattle.cd_sector.specs.Kind.{kind_of};
@@ -12,7 +12,7 @@ ghost use Rattle.cd_delta.specs.Writing.{IsChanged, WithEdc, with_range};
 
 use crate::byte_by_byte::write_few;
 use crate::difference::carry_front;
-use cd_code::edc_of;
+use cd_lanes::edc_of;
 use cd_sector::{EDC, Sector, USER_DATA, edc_bytes, fill_edc, put_part};
 
 /// The number of bytes from which on a difference sector costs less than a change of each byte. An

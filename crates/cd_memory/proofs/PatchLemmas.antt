@@ -13,7 +13,7 @@ use Rattle.cd_stream.specs.Stream.{Outgoing}
 use Rattle.std.specs.Io.KnownBytes.{Appends, Consumes, IsAtEnd}
 use Rattle.cd_program.specs.Messages.{fault_line}
 use Rattle.cd_program.specs.Commands.{Ends, PrintsLine, script_status}
-use Rattle.cd_program.specs.declared.jobs.Settings.{Settings}
+use Rattle.cd_args.specs.declared.settings.Settings.{Settings}
 use Rattle.cd_memory.specs.Memory.{fresh_outgoing}
 use Rattle.cd_memory.specs.Whole.{Environment, Opened, Patches, Prints, ProgramResult, StopsPatching, WhyPatchingStopped}
 use Rattle.cd_memory.proofs.KnownLemmas.{Appends-Some, Consumes-known, Fits-beyond, MayBeImageAtEnd-within, Some-injective, cut-by-failure, read-whole, whole-by-none}

@@ -2,7 +2,7 @@
 use Rattle.std.proofs.Common.{◌≡◌, ◌≢◌, ℕ, suc, zero, Bool, true, false, List, [], ◌∷◌, ◌++◌, Option, None, Some, Result, Ok, Err, is_some, string_bytes, refl, sym, ap, ◌∙◌, subst, inl, inr}
 use Rattle.cd_args.specs.Fault.{done_status, failed_status, no_memory, printed}
 use Rattle.cd_args.specs.declared.job.Job.{Job}
-use Rattle.cd_args.specs.declared.job.Job.TheVariants as job
+use Rattle.cd_args.specs.Task.{Task, task_of}
 use Rattle.cd_image.specs.Applying.{Applies, null_outgoing, streams}
 use Rattle.cd_image.specs.declared.patch_log.Tally.{Tally}
 use Rattle.cd_read.specs.declared.fault.Fault.{Fault}
@@ -15,17 +15,17 @@ use Rattle.cd_stream.specs.Adapters.{slice_incoming}
 use Rattle.cd_stream.specs.Stream.{Outgoing}
 use Rattle.cd_stream.specs.declared.adapters.slice_source.SliceSource.{SliceSource}
 use Rattle.cd_program.specs.Messages.{no_image, no_output, open_fault_line}
-use Rattle.cd_program.specs.Program.{DoesApply, DoesCheck, DoesReport, NoImage, NoScript, RunsJob, TakesImage, TakesScript}
+use Rattle.cd_program.specs.Program.{DoesApply, DoesCheck, DoesReport, NoImage, NoScript, RunsJob, RunsTask, TakesImage, TakesScript}
 use Rattle.std.specs.Io.KnownBytes.{Appends}
 use Rattle.cd_program.specs.Program.{FlushesRest, RefusesArgs, RunsArgs}
 use Rattle.cd_program.specs.Commands.{Ends, PrintsLine, audit_status, script_status}
 use Rattle.cd_program.specs.declared.host.OpenFault.{OpenFault}
 use Rattle.cd_program.specs.declared.host.OpenFault.TheVariants.{NoMemory, Refused}
-use Rattle.cd_program.specs.declared.jobs.Settings.{Settings}
+use Rattle.cd_args.specs.declared.settings.Settings.{Settings}
 use Rattle.cd_memory.specs.Files.{file_bytes, named_file, with_bytes}
 use Rattle.cd_memory.specs.declared.memory.Memory.{Memory}
 use Rattle.cd_memory.specs.Memory.{Makes, Opens, TakesBack, files_of, fresh_incoming, fresh_outgoing, input_of, is_there, made_of, memory_hosting}
-use Rattle.cd_memory.specs.Whole.{AppliesOn, ChecksOn, DoesOn, Environment, Explains, FailsWith, HasPatches, NoPatches, Opened, ProgramResult, ReportsOn, RunsOn, environment, image_at}
+use Rattle.cd_memory.specs.Whole.{AppliesOn, ChecksOn, DoesOn, DoesTask, Environment, Explains, FailsWith, HasPatches, NoPatches, Opened, ProgramResult, ReportsOn, RunsOn, environment, image_at}
 use Rattle.cd_memory.proofs.KnownLemmas.{Appends-Some, Keeps-Some, Some-injective, none-failed, some-failed}
 use Rattle.cd_memory.proofs.MemoryLemmas.{TakesImage-opens, absent-of, there-of, with_bytes-one}
 use Rattle.cd_memory.proofs.PatchLemmas.{Took, takes}
@@ -325,20 +325,20 @@ module _ {O : Type 0} (gone : O → Outgoing) (host host' : Memory) (log : Outgo
 
   -- ---- jobs and arguments
 
-  pub does-on : (j : Job)
-      → RunsJob slice_incoming gone (memory_hosting gone) j host host' fresh_outgoing
+  does-task : (task : Task)
+      → RunsTask slice_incoming gone (memory_hosting gone) task host host' fresh_outgoing
       log after.status
-      → DoesOn j before after
-  does-on (job.List image base) does =
-      reports-on (list_report base) (λ _. done_status) (string_bytes image) does
-  does-on (job.Audit image base) does =
-      reports-on (audit_report base) audit_status (string_bytes image) does
-  does-on (job.Check image script base carry) does =
-      checks-on (record { base = base; carry = carry }) (string_bytes image)
-      (string_bytes script) does
-  does-on (job.Apply image script out base carry) does =
-      applies-on (record { base = base; carry = carry }) (string_bytes image) (string_bytes script)
-      (string_bytes out) does
+      → DoesTask task before after
+  does-task (Task.list base image) does = reports-on (list_report base) (λ _. done_status) image does
+  does-task (Task.audit base image) does = reports-on (audit_report base) audit_status image does
+  does-task (Task.check settings image script) does = checks-on settings image script does
+  does-task (Task.apply settings image script out) does = applies-on settings image script out does
+
+  pub does-on : (job : Job)
+      → RunsJob slice_incoming gone (memory_hosting gone) job host host' fresh_outgoing
+      log after.status
+      → DoesOn job before after
+  does-on job = does-task (task_of job)
 
   explains : (words : List (List ℕ)) → RefusesArgs words host host' fresh_outgoing log after.status
       → Explains words after

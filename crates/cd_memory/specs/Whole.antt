@@ -1,13 +1,13 @@
 -- What the program does over files in memory: its status, its text, and the file that it makes.
 use Rattle.std.specs.Prelude.{◌≡◌, ◌≢◌, ℕ, ◌+◌, ◌<◌, ◌≤◌, ◌⊎◌, Bool, true, false, List, [], ◌∷◌, ◌++◌, length, take}
-use Rattle.std.specs.Prelude.{codes, if◌then◌else◌, Option, None, Some, Ok, Err, string_bytes}
+use Rattle.std.specs.Prelude.{codes, if◌then◌else◌, Option, None, Some, Ok, Err}
 use Rattle.std.specs.Str.{bytes_eq}
 use Rattle.cd_args.specs.CommandLine.{IsAccepted, IsJobOf}
 use Rattle.cd_args.specs.Fault.{HasKindOf, done_status, error_kinds, failed_status, no_memory, printed, printed_status}
 use Rattle.cd_args.specs.declared.fault.LineFault.{LineFault}
 use Rattle.cd_args.specs.declared.fault.LineFault.TheVariants as line_fault
 use Rattle.cd_args.specs.declared.job.Job.{Job}
-use Rattle.cd_args.specs.declared.job.Job.TheVariants as job
+use Rattle.cd_args.specs.Task.{Task, task_of}
 use Rattle.cd_script.specs.Limits.{text_limit}
 use Rattle.cd_script.specs.Order.{order}
 use Rattle.cd_script.specs.Script.{script}
@@ -31,7 +31,7 @@ use Rattle.cd_program.specs.Messages.{fault_line, load_fault_line, no_image, no_
 use Rattle.cd_run.specs.Messages.{script_fault_line}
 use Rattle.cd_program.specs.Commands.{audit_status, script_status}
 use Rattle.cd_program.specs.declared.script.LoadFault.TheVariants as load_fault
-use Rattle.cd_program.specs.declared.jobs.Settings.{Settings}
+use Rattle.cd_args.specs.declared.settings.Settings.{Settings}
 use Rattle.cd_memory.specs.Files.{NamedFile, file_bytes, named_file}
 use Rattle.cd_memory.specs.declared.run.Ended.{Ended}
 
@@ -227,18 +227,20 @@ pub data AppliesOn (settings : Settings) (image script_name out : List ℕ) (bef
       → after.made ≡ named_file out sent ∷ []
       → AppliesOn settings image script_name out before after
 
--- each job is the command of its name
+-- each task is the command of its name
+abbrev pub DoesTask : Task → Environment → ProgramResult → Type 0
+DoesTask (Task.list base image) before after =
+    ReportsOn (list_report base) (λ _. done_status) image before after
+DoesTask (Task.audit base image) before after =
+    ReportsOn (audit_report base) audit_status image before after
+DoesTask (Task.check settings image script_name) before after =
+    ChecksOn settings image script_name before after
+DoesTask (Task.apply settings image script_name out) before after =
+    AppliesOn settings image script_name out before after
+
+-- a job is its task
 abbrev pub DoesOn : Job → Environment → ProgramResult → Type 0
-DoesOn (job.List image base) before after =
-    ReportsOn (list_report base) (λ _. done_status) (string_bytes image) before after
-DoesOn (job.Audit image base) before after =
-    ReportsOn (audit_report base) audit_status (string_bytes image) before after
-DoesOn (job.Check image script_name base carry) before after =
-    ChecksOn (record { base = base; carry = carry }) (string_bytes image)
-    (string_bytes script_name) before after
-DoesOn (job.Apply image script_name out base carry) before after =
-    AppliesOn (record { base = base; carry = carry }) (string_bytes image)
-    (string_bytes script_name) (string_bytes out) before after
+DoesOn job before after = DoesTask (task_of job) before after
 
 -- the arguments ask for no job: no file is made, and help or the reason is printed
 pub record Explains (args : List (List ℕ)) (after : ProgramResult) : Type 0 where

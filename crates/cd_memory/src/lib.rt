@@ -20,15 +20,22 @@
 //! cannot be read again, as no command does. If memory is refused, a text or a file may lack its
 //! end, and the theorem says so in each row.
 //!
-//! Tests: `crates/cd_program_tests/src/tests/in_memory.rt`.
+//! [`list_image`] and [`audit_image`] run two commands on an image in memory, and write to memory
+//! that a caller lends for a text: a room. They take none. What the caller finds there afterwards
+//! stands in `specs/Rooms.antt`: its front is the text, and the rest is as it was.
+//!
+//! Tests: `crates/cd_program_tests/src/tests/in_memory.rt`; of [`list_image`] and [`audit_image`]
+//! `examples.rt` there, and `tests/library` over the calls of C.
 #![tactic(auto)]
 
 mod file;
 mod growing;
 mod memory;
+mod reports;
 mod run;
 
 pub use file::File;
 pub use growing::Growing;
 pub use memory::Memory;
+pub use reports::{audit_image, list_image};
 pub use run::{Ended, run_on_files};

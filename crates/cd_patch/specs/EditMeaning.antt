@@ -1,4 +1,5 @@
--- What each edit means: the one place in which the edits of a script are distinguished.
+-- What each edit means for the sectors that its patch meets: the one definition of patches that has a
+-- row for each.
 use Rattle.std.specs.Prelude.{ℕ, Bool, true, false, not, ◌&&◌, List, [], ◌++◌, drop, replicate, Option, Some, None, unwrap_or}
 use Rattle.cd_script.specs.PatchForm.{Edit}
 use Rattle.cd_script.specs.declared.patch.Edit.TheVariants.{Put, Fill, Rebuild, Address}

@@ -1,4 +1,4 @@
-//! What each edit means: the one place in which the edits of a script are distinguished.
+//! What each edit means for the sectors that its patch meets. Nothing else here tells them apart.
 
 ghost use Rattle.std.specs.Prelude.{◌≡◌, ◌+◌, ◌*◌, ◌≤◌, ◌&&◌, length, not};
 ghost use Rattle.cd_script.specs.Patch.{IsPatch};
@@ -6,7 +6,7 @@ ghost use Rattle.cd_patch.specs.Blocks.{block_limit, blocks_met, blocks_spanned}
 ghost use Rattle.cd_patch.specs.EditMeaning.{meaning};
 ghost use Rattle.cd_patch.specs.Parts.{bytes_to_write};
 
-use cd_script::{Edit, LentBytes, Patch, lend};
+use cd_script::{Edit, HexEdit, HexPatch, LentBytes, Patch, lend};
 use cd_sector::USER_SIZE;
 
 /// How many blocks a patch may meet: 4096 bytes lie in at most three, from any offset on.
@@ -122,6 +122,37 @@ pub(crate) fn blocks_met_lent(patch: &Patch<LentBytes<'_>>) -> usize
     ensures few { result ≤ block_limit }
 {
     blocks_spanned(patch.offset, meaning(&patch.edit).bytes.len())
+}
+
+/// How many user bytes an edit writes whose bytes are still the hex words of its line.
+fn spelled_len(edit: &HexEdit<'_>) -> usize
+    ensures { result ≡ length (meaning edit.now).bytes }
+{
+    match edit {
+        Edit::Put { bytes, .. } => bytes.len(),
+        Edit::Fill { count, .. } => *count as usize,
+        Edit::Rebuild | Edit::Address { .. } => 0,
+    }
+}
+
+/// As [`blocks_met`], of a patch whose bytes are still the hex words of its line.
+///
+/// # Examples
+///
+/// ```
+/// let line = b"set 5 2047 4142".as_slice();
+/// let Ok(LineContent::Patch(patch)) = read_line(Some(Version::One), 2, 0, line) else {
+///     panic!(rt; "not a patch");
+/// };
+/// assert_eq!(rt; blocks_met_spelled(&patch), 2);
+/// ```
+pub fn blocks_met_spelled(patch: &HexPatch<'_>) -> usize
+    requires { IsPatch patch.now }
+    ensures number { result ≡ blocks_met patch.now }
+    ensures some { 1 ≤ result }
+    ensures few { result ≤ block_limit }
+{
+    blocks_spanned(patch.offset, spelled_len(&patch.edit))
 }
 
 /// The number of blocks in which user bytes from an offset on lie; no bytes are of one

@@ -15,7 +15,7 @@
 //! consistent sector with its part of the patched user data. If damage is carried, a damaged sector
 //! is patched too, and keeps its damage. No call takes memory.
 //!
-//! Tests: `crates/cd_patch_tests`, and on whole images `crates/cd_image_tests`.
+//! Tests: `crates/cd_low_tests`, and on whole images `crates/cd_image_tests`.
 #![tactic(auto)]
 
 mod deciding;
@@ -24,7 +24,7 @@ mod effect;
 mod laws;
 mod outcome;
 
-pub use edits::{MAX_BLOCKS_MET, blocks_met};
+pub use edits::{MAX_BLOCKS_MET, blocks_met, blocks_met_spelled};
 pub use effect::{apply_lent, apply_patch};
 pub use laws::{
     hand_sequence_is_run, hand_stands_for_image, leaves_one, never_damaged, nothing_to_carry,

@@ -4,7 +4,7 @@ use Rattle.std.specs.Prelude.{Option, Some, None}
 use Rattle.cd_args.specs.Fault.{printed_status}
 use Rattle.cd_args.specs.declared.fault.LineFault.{LineFault}
 use Rattle.cd_args.specs.declared.job.Job.{Job}
-use Rattle.cd_args.specs.declared.job.Job.TheVariants as job
+use Rattle.cd_args.specs.Task.{Task, task_of}
 use Rattle.cd_image.specs.declared.patch_log.Tally.{Tally}
 use Rattle.cd_report.specs.Report.{ReportSpec}
 use Rattle.cd_report.specs.declared.auditing.AuditTally.{AuditTally}
@@ -13,10 +13,10 @@ use Rattle.cd_stream.specs.Stream.{Incoming, Outgoing}
 use Rattle.cd_stream.specs.Transfer.{Counts}
 use Rattle.cd_stream.specs.declared.sink.SinkFailed.{SinkFailed}
 use Rattle.cd_program.specs.Hosting.{Hosting}
-use Rattle.cd_program.specs.Program.{ComesOfFile, DoesApply, DoesCheck, DoesReport, NoScript, PrintsFault, ReadsScript, RunsJob}
+use Rattle.cd_program.specs.Program.{ComesOfFile, DoesApply, DoesCheck, DoesReport, NoScript, PrintsFault, ReadsScript, RunsJob, RunsTask}
 use Rattle.cd_program.specs.Commands.{CallThenLine, Ends, audit_status, script_status}
 use Rattle.cd_program.specs.declared.host.OpenFault.{OpenFault}
-use Rattle.cd_program.specs.declared.jobs.Settings.{Settings}
+use Rattle.cd_args.specs.declared.settings.Settings.{Settings}
 use Rattle.cd_args.proofs.StatusLemmas.{few-fault}
 use Rattle.cd_program.proofs.CommandLemmas.{one-more}
 
@@ -89,18 +89,23 @@ module _ {H I O : Type 0} (come : I → Incoming) (gone : O → Outgoing) (on : 
       (DoesApply.applied patches second printed_log takes image third asked out fourth made done) =
       Runs-few few-script done.applies.runs
 
-pub RunsJob-few : {H I O : Type 0} (come : I → Incoming) (gone : O → Outgoing) (on : Hosting H I O)
-    (j : Job) (host host' : H) (before after : Outgoing) (status : ℕ)
-    → RunsJob come gone on j host host' before after status → status ≤ 2
-RunsJob-few come gone on (job.List image base) host host' before after status does =
+RunsTask-few : {H I O : Type 0} (come : I → Incoming) (gone : O → Outgoing) (on : Hosting H I O)
+    (task : Task) (host host' : H) (before after : Outgoing) (status : ℕ)
+    → RunsTask come gone on task host host' before after status → status ≤ 2
+RunsTask-few come gone on (Task.list base image) host host' before after status does =
     DoesReport-few come gone on (λ reported. few-if true) does
-RunsJob-few come gone on (job.Audit image base) host host' before after status does =
+RunsTask-few come gone on (Task.audit base image) host host' before after status does =
     DoesReport-few come gone on few-audit does
-RunsJob-few come gone on (job.Check image script base carry) host host' before after status does =
+RunsTask-few come gone on (Task.check settings image script) host host' before after status does =
     DoesCheck-few come gone on does
-RunsJob-few come gone on (job.Apply image script out base carry) host host' before
-    after status does =
+RunsTask-few come gone on (Task.apply settings image script out) host host' before after status
+    does =
     DoesApply-few come gone on does
+
+pub RunsJob-few : {H I O : Type 0} (come : I → Incoming) (gone : O → Outgoing) (on : Hosting H I O)
+    (job : Job) (host host' : H) (before after : Outgoing) (status : ℕ)
+    → RunsJob come gone on job host host' before after status → status ≤ 2
+RunsJob-few come gone on job = RunsTask-few come gone on (task_of job)
 
 -- ---- arguments that ask for no job
 

@@ -1,12 +1,11 @@
 -- What the program does for a job: which files it asks for, by which names and in which order, and
 -- what it does with them.
-use Rattle.std.specs.Prelude.{◌≡◌, ◌≢◌, ℕ, ◌≤◌, ◌⊎◌, List, [], Option, None, Result, Ok, Err, codes, false, string_bytes, true}
-use Rattle.cd_args.specs.CommandLine.{IsAccepted, IsJobOf, base_in, max_base}
+use Rattle.std.specs.Prelude.{◌≡◌, ◌≢◌, ℕ, ◌≤◌, ◌⊎◌, List, [], Option, None, Result, Ok, Err, codes, false, true}
+use Rattle.cd_args.specs.CommandLine.{IsAccepted, IsJobOf, max_base}
 use Rattle.cd_args.specs.Fault.{HasKindOf, done_status, error_kinds, failed_status, printed, printed_status}
 use Rattle.cd_args.specs.declared.fault.LineFault.{LineFault}
 use Rattle.cd_args.specs.declared.fault.LineFault.TheVariants as line_fault
 use Rattle.cd_args.specs.declared.job.Job.{Job}
-use Rattle.cd_args.specs.declared.job.Job.TheVariants as job
 use Rattle.cd_report.specs.AuditText.{audit_report}
 use Rattle.cd_report.specs.ListText.{list_report}
 use Rattle.cd_report.specs.Report.{ReportSpec}
@@ -25,7 +24,8 @@ use Rattle.cd_program.specs.Running.{RunsApply, RunsCheck, RunsReport}
 use Rattle.cd_program.specs.ScriptLines.{IsFaultOf, ReadsWhole, StopsLoading}
 use Rattle.cd_program.specs.declared.host.OpenFault.{OpenFault}
 use Rattle.cd_program.specs.declared.script.LoadFault.{LoadFault}
-use Rattle.cd_program.specs.declared.jobs.Settings.{Settings}
+use Rattle.cd_args.specs.Task.{Task, base_in, task_of}
+use Rattle.cd_args.specs.declared.settings.Settings.{Settings}
 
 -- ---- what is printed if a file is not there
 
@@ -158,24 +158,25 @@ module _ {H I O : Type 0} (come : I → Incoming) (gone : O → Outgoing) (on : 
 
 -- ---- jobs and arguments
 
--- each job is the command of its name, with its texts, its base and its flag: the script is read
--- first, then the image is asked for, and then the output is made
+-- each task is the command of its name, with its texts and its settings: the script is read first,
+-- then the image is asked for, and then the output is made
+abbrev pub RunsTask : {H I O : Type 0} → (I → Incoming) → (O → Outgoing) → Hosting H I O → Task
+    → H → H → Outgoing → Outgoing → ℕ → Type 0
+RunsTask come gone on (Task.list base image) host host' before after status =
+    DoesReport come gone on host' after status (list_report base) (λ _. done_status) image host
+    before
+RunsTask come gone on (Task.audit base image) host host' before after status =
+    DoesReport come gone on host' after status (audit_report base) audit_status image host before
+RunsTask come gone on (Task.check settings image script) host host' before after status =
+    DoesCheck come gone on host' after status settings image script host before
+RunsTask come gone on (Task.apply settings image script out) host host' before after status =
+    DoesApply come gone on host' after status settings image script out host before
+
+-- a job is its task
 abbrev pub RunsJob : {H I O : Type 0} → (I → Incoming) → (O → Outgoing) → Hosting H I O → Job
     → H → H → Outgoing → Outgoing → ℕ → Type 0
-RunsJob come gone on (job.List image base) host host' before after status =
-    DoesReport come gone on host' after status (list_report base) (λ _. done_status)
-    (string_bytes image) host before
-RunsJob come gone on (job.Audit image base) host host' before after status =
-    DoesReport come gone on host' after status (audit_report base) audit_status
-    (string_bytes image) host before
-RunsJob come gone on (job.Check image script base carry) host host' before after status =
-    DoesCheck come gone on host' after status (record { base = base; carry = carry })
-    (string_bytes image)
-    (string_bytes script) host before
-RunsJob come gone on (job.Apply image script out base carry) host host' before after status =
-    DoesApply come gone on host' after status (record { base = base; carry = carry })
-    (string_bytes image)
-    (string_bytes script) (string_bytes out) host before
+RunsJob come gone on job host host' before after status =
+    RunsTask come gone on (task_of job) host host' before after status
 
 -- what is printed of a fault: the parser's text, or the line for want of memory; one that went out
 -- in part is a failure

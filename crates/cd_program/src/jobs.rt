@@ -2,7 +2,7 @@
 //! them, and the status.
 
 ghost use Rattle.std.specs.Prelude.{◌≡◌, ◌<◌, ◌≤◌, IfOk, OnOk, map, string_bytes};
-ghost use Rattle.cd_args.specs.CommandLine.{base_in};
+ghost use Rattle.cd_args.specs.Task.{base_in};
 ghost use Rattle.cd_args.specs.Fault.{done_status};
 ghost use Rattle.cd_report.specs.AuditText.{audit_report};
 ghost use Rattle.cd_report.specs.ListText.{list_report};
@@ -17,22 +17,13 @@ use crate::commands::{print_and_fail, print_line, run_apply, run_audit, run_chec
 use crate::host::{Host, OpenFault};
 use crate::messages::{NO_IMAGE, NO_OUTPUT, NO_SCRIPT, open_fault_line};
 use crate::script::{load_script, read_script};
-use cd_args::{FAILED, Job, LineFault, job_of, refusal_line};
+use cd_args::{FAILED, Job, LineFault, Settings, job_of, refusal_line};
 use cd_image::{Sink, Source};
 use cd_script::Script;
 use std::alloc::Global;
 
 /// The name of the standard input as an image.
 const STANDARD_INPUT: &str = "-";
-
-/// How a script is applied to an image.
-#[derive(Clone, Copy, Debug)]
-pub struct Settings {
-    /// The number of the image's first block.
-    pub base: u32,
-    /// Whether damage is carried.
-    pub carry: bool,
-}
 
 /// Prints why there is no file, and returns the status. `line` is the line for a file that was
 /// refused.
@@ -193,32 +184,19 @@ fn run_job<H: Host, O: Sink>(alloc: Global, host: &mut H, job: &Job, out: &mut O
     ensures { RunsJob H.Input.seen H.Output.seen H.hosting
         job.now host.old host.new (O.seen out.old) (O.seen out.new) result }
 {
+    let settings = job.settings();
     match job {
         Job::List { image, base } => open_and_list(host, image.as_str(), *base, out),
         Job::Audit { image, base } => open_and_audit(host, image.as_str(), *base, out),
-        Job::Check {
-            image,
-            script,
-            base,
-            carry,
-        } => {
-            let settings = Settings {
-                base: *base,
-                carry: *carry,
-            };
+        Job::Check { image, script, .. } => {
             open_and_check(alloc, host, image.as_str(), script.as_str(), settings, out)
         }
         Job::Apply {
             image,
             script,
             out: path,
-            base,
-            carry,
+            ..
         } => {
-            let settings = Settings {
-                base: *base,
-                carry: *carry,
-            };
             let (image, script, path) = (image.as_str(), script.as_str(), path.as_str());
             open_and_apply(alloc, host, image, script, path, settings, out)
         }

@@ -33,7 +33,7 @@ mod system;
 
 pub use commands::{print_and_fail, run_apply, run_audit, run_check, run_list};
 pub use host::{Host, OpenFault};
-pub use jobs::{Settings, run_args};
+pub use jobs::run_args;
 pub use messages::load_fault_line;
 pub use process::run_program;
 pub use script::{LoadFault, load_script, read_script};

@@ -4,7 +4,7 @@ use Rattle.std.proofs.lemmas.Bool.Decides.{nat_tests}
 use Rattle.std.proofs.lemmas.Fmt.{decimal_by_steps}
 use Rattle.std.proofs.lemmas.List.FromFn.{length-map-range_with_len}
 use Rattle.std.proofs.lemmas.List.Sums.{count_by-le-length, sum_by-append}
-use Rattle.cd_sector.specs.CodeWords.{column_of, diagonal_of}
+use Rattle.cd_code.specs.CodeWords.{column_of, diagonal_of}
 use Rattle.cd_sector.specs.Consistent.{is_mode1}
 use Rattle.cd_sector.specs.Defect.{all_syndromes, defect_of, is_broken, is_nonzero}
 use Rattle.cd_sector.specs.Kind.{kind_of}

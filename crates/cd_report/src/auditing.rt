@@ -1,6 +1,6 @@
 //! The audit of an image: what is wrong with its Mode 1 sectors.
 
-ghost use Rattle.std.specs.Prelude.{◌≡◌, ◌+◌, ◌<◌, ◌≤◌, ◌↔◌, [], true, IfOk, OnOk};
+ghost use Rattle.std.specs.Prelude.{◌≡◌, ◌+◌, ◌<◌, ◌≤◌, ◌↔◌, [], true, IfOk, OnOk, length};
 ghost use Rattle.cd_report.specs.AuditText.{audit_end, audit_report};
 ghost use Rattle.cd_read.specs.Ends.{AnswersByEnd, AnswersByLength, AnswersTooLong, EndsWell};
 ghost use Rattle.cd_report.specs.Report.{Reports, WritesText};
@@ -12,7 +12,7 @@ ghost use Rattle.cd_sector.specs.Image.{base_limit, sector_limit};
 use crate::MAX_BASE;
 use crate::findings::{Findings, findings_of, is_any, is_damage, send_findings};
 use crate::scan::{Visitor, scan};
-use cd_line::Line;
+use cd_line::{LINE_SIZE, Line};
 use cd_read::Fault;
 use cd_sector::Sector;
 use cd_stream::{Sink, SinkFailed, Source, write_all};
@@ -55,11 +55,26 @@ fn with_sector(tally: AuditTally, found: Option<Findings>) -> AuditTally
     }
 }
 
-/// Writes the last line of an audit.
+/// `sectors S mode1 M damaged D tail T`: the last line of an audit.
+///
+/// # Examples
+///
+/// ```
+/// let tally = AuditTally {
+///     sectors: 8,
+///     mode1: 6,
+///     damaged: 1,
+///     findings: 2,
+///     tail: 3,
+/// };
+/// let (line, text) = (audit_end(tally), b"sectors 8 mode1 6 damaged 1 tail 3\n");
+/// assert_eq!(rt; line.as_slice(), text.as_slice());
+/// ```
 #[tactic(auto, unfolding(crate::specs::AuditText::audit_end))]
-fn send_end<O: Sink>(tally: AuditTally, out: &mut O) -> Result<(), SinkFailed>
-    requires { CanCountFailure (O.seen out.old).failures }
-    ensures { Sends (O.seen out.old) (O.seen out.new) (audit_end tally) result }
+pub fn audit_end(tally: AuditTally) -> Line
+    ensures line { result ≡ audit_end tally }
+    ensures some { 0 < length result }
+    ensures room { length result ≤ LINE_SIZE }
 {
     let mut line = Line::new();
     line.push_text(b"sectors ");
@@ -71,7 +86,15 @@ fn send_end<O: Sink>(tally: AuditTally, out: &mut O) -> Result<(), SinkFailed>
     line.push_text(b" tail ");
     line.push_number(u32::from(tally.tail));
     line.push_text(b"\n");
-    write_all(out, line.as_slice())
+    line
+}
+
+/// Writes the last line of an audit.
+fn send_end<O: Sink>(tally: AuditTally, out: &mut O) -> Result<(), SinkFailed>
+    requires { CanCountFailure (O.seen out.old).failures }
+    ensures { Sends (O.seen out.old) (O.seen out.new) (audit_end tally) result }
+{
+    write_all(out, audit_end(tally).as_slice())
 }
 
 /// Audits an image whose first block is `base`.

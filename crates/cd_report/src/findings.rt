@@ -71,7 +71,9 @@ pub(crate) fn is_damage(report: &DefectReport) -> bool
 }
 
 /// Whether the sector has a line: another address, or any part that is wrong.
-pub(crate) fn is_any(found: &Findings) -> bool
+///
+/// See the example of [`finding_line`].
+pub fn is_any(found: &Findings) -> bool
     ensures { result ≡ is_any (Some found.now) }
 {
     found.address || is_damage(&found.defect)
@@ -100,10 +102,26 @@ fn push_count(line: &mut Line, name: &[u8], count: u8)
     }
 }
 
-/// `BLOCK [address] [zeros] [edc] [p=N] [q=N]`: a sector's line.
+/// `BLOCK [address] [zeros] [edc] [p=N] [q=N]`: the line of a sector of which something is found,
+/// as [`is_any`] says.
+///
+/// # Examples
+///
+/// ```
+/// let sector = encode([0x00, 0x02, 0x16], &[0x00; USER_SIZE]); // its address is that of block 16
+/// let found = Findings {
+///     address: has_other_address(&sector, 17),
+///     defect: defect(&sector),
+/// };
+/// assert!(rt; is_any(&found));
+/// let line = finding_line(17, &found);
+/// assert_eq!(rt; line.as_slice(), b"17 address\n".as_slice());
+/// ```
 #[tactic(auto, unfolding(crate::specs::AuditText::finding_line))]
-fn finding_line(block: u32, found: &Findings) -> Line
-    ensures { result ≡ finding_line block found.now }
+pub fn finding_line(block: u32, found: &Findings) -> Line
+    ensures line { result ≡ finding_line block found.now }
+    ensures some { 0 < length result }
+    ensures room { length result ≤ LINE_SIZE }
 {
     let mut line = Line::new();
     line.push_number(block);

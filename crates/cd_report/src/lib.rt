@@ -28,11 +28,11 @@ mod laws;
 mod listing;
 mod scan;
 
-pub use auditing::{AuditTally, audit};
+pub use auditing::{AuditTally, audit, audit_end};
 use cd_sector::MAX_BLOCK;
-pub use findings::{Findings, has_other_address};
+pub use findings::{Findings, finding_line, has_other_address, is_any};
 pub use laws::{audit_counts_lines, runs_spell_kinds};
-pub use listing::{ListTally, list};
+pub use listing::{ListTally, list, list_end, run_line};
 
 /// The largest number that the first block of an image may have: the last block with an address.
 /// The clauses of `list` and `audit` cite its definition, so a smaller constant is refused.

@@ -14,7 +14,7 @@ ghost use Rattle.cd_sector.specs.Image.{base_limit};
 
 use crate::MAX_BASE;
 use crate::scan::{Visitor, scan};
-use cd_line::Line;
+use cd_line::{LINE_SIZE, Line};
 use cd_read::Fault;
 use cd_sector::{Sector, SectorKind, kind};
 use cd_stream::{Sink, SinkFailed, Source, write_all};
@@ -49,23 +49,40 @@ fn name_of(kind: SectorKind) -> &'static [u8]
     }
 }
 
-/// Writes `FIRST-LAST KIND`, the line of a run. Both are block numbers below 2,000,000: a base of
-/// at most 449,849 and a million sectors.
+/// `FIRST-LAST KIND`: the line of a run of sectors of one kind, by block numbers.
+///
+/// # Examples
+///
+/// ```
+/// let line = run_line(16, 18, SectorKind::Mode1);
+/// assert_eq!(rt; line.as_slice(), b"16-18 mode1\n".as_slice());
+/// ```
 #[tactic(auto, unfolding(crate::specs::ListText::run_line))]
+pub fn run_line(first: u32, last: u32, kind: SectorKind) -> Line
+    requires { first ≤ last }
+    ensures line { result ≡ run_line first (record { kind = kind; count = last + 1 - first }) }
+    ensures some { 0 < length result }
+    ensures room { length result ≤ LINE_SIZE }
+{
+    let mut line = Line::new();
+    line.push_number(first);
+    line.push_text(b"-");
+    line.push_number(last);
+    line.push_text(b" ");
+    line.push_text(name_of(kind));
+    line.push_text(b"\n");
+    line
+}
+
+/// Writes the line of a run. Both blocks are below 2,000,000: a base of at most 449,849 and a
+/// million sectors.
 fn send_run<O: Sink>(run: OpenRun, out: &mut O) -> Result<(), SinkFailed>
     requires countable { CanCountFailure (O.seen out.old).failures }
     requires ordered { run.first ≤ run.last }
     ensures { Sends (O.seen out.old) (O.seen out.new)
         (run_line run.first (record { kind = run.kind; count = run.last + 1 - run.first })) result }
 {
-    let mut line = Line::new();
-    line.push_number(run.first);
-    line.push_text(b"-");
-    line.push_number(run.last);
-    line.push_text(b" ");
-    line.push_text(name_of(run.kind));
-    line.push_text(b"\n");
-    write_all(out, line.as_slice())
+    write_all(out, run_line(run.first, run.last, run.kind).as_slice())
 }
 
 /// Extends the open run by the next sector, or writes its line and opens another. It changes the
@@ -98,11 +115,23 @@ fn extend_run<O: Sink>(
     Ok(())
 }
 
-/// Writes `sectors S tail T`, the last line of a listing.
+/// `sectors S tail T`: the last line of a listing.
+///
+/// # Examples
+///
+/// ```
+/// let tally = ListTally {
+///     sectors: 8,
+///     tail: 3,
+/// };
+/// let line = list_end(tally);
+/// assert_eq!(rt; line.as_slice(), b"sectors 8 tail 3\n".as_slice());
+/// ```
 #[tactic(auto, unfolding(crate::specs::ListText::list_end))]
-fn send_end<O: Sink>(tally: ListTally, out: &mut O) -> Result<(), SinkFailed>
-    requires { CanCountFailure (O.seen out.old).failures }
-    ensures { Sends (O.seen out.old) (O.seen out.new) (list_end tally) result }
+pub fn list_end(tally: ListTally) -> Line
+    ensures line { result ≡ list_end tally }
+    ensures some { 0 < length result }
+    ensures room { length result ≤ LINE_SIZE }
 {
     let mut line = Line::new();
     line.push_text(b"sectors ");
@@ -110,7 +139,15 @@ fn send_end<O: Sink>(tally: ListTally, out: &mut O) -> Result<(), SinkFailed>
     line.push_text(b" tail ");
     line.push_number(u32::from(tally.tail));
     line.push_text(b"\n");
-    write_all(out, line.as_slice())
+    line
+}
+
+/// Writes the last line of a listing.
+fn send_end<O: Sink>(tally: ListTally, out: &mut O) -> Result<(), SinkFailed>
+    requires { CanCountFailure (O.seen out.old).failures }
+    ensures { Sends (O.seen out.old) (O.seen out.new) (list_end tally) result }
+{
+    write_all(out, list_end(tally).as_slice())
 }
 
 /// Writes the line of the last run, if there is one.

@@ -1,20 +1,17 @@
 -- How long a log is at most; the law is a contract of `laws.rt`.
-use Rattle.std.specs.Prelude.{ℕ, ◌+◌, ◌*◌, ◌^◌, ◌<◌, ◌≤◌, List, All, length}
+use Rattle.std.specs.Prelude.{◌≡◌, ℕ, ◌+◌, ◌*◌, ◌≤◌, Bool, List, length, Ok}
+use Rattle.cd_script.specs.Limits.{text_limit}
+use Rattle.cd_script.specs.Order.{order}
 use Rattle.cd_script.specs.PatchForm.{Patch}
-use Rattle.cd_patch.specs.declared.outcome.Outcome.{Outcome}
-use Rattle.cd_patch.specs.declared.outcome.Outcome.TheVariants.{Applied, Damaged, Differs, NoBlock, NotMode1}
+use Rattle.cd_script.specs.Script.{script}
 use Rattle.cd_run.specs.PatchLog.{log_text}
+use Rattle.cd_run.specs.Patched.{EachPatching}
 
--- a block has 32 bits, and an offset 16
-abbrev pub HasShortNumbers : Outcome → Type 0
-HasShortNumbers Applied = Unit {0}
-HasShortNumbers (NoBlock block) = block < 2 ^ 32
-HasShortNumbers (NotMode1 block) = block < 2 ^ 32
-HasShortNumbers (Damaged block) = block < 2 ^ 32
-HasShortNumbers (Differs block offset) = (block < 2 ^ 32) × (offset < 2 ^ 16)
-
--- at most 76 bytes for each patch, and 38 for the last line
+-- the log of a script's patches on an image: at most 76 bytes for each patch, and 38 for the last
+-- line
 abbrev pub LogIsShort : Type 0
 LogIsShort =
-    (ps : List Patch) (os : List Outcome) → All (λ p. p.line < 2 ^ 32) ps → All HasShortNumbers os
-    → length os < 2 ^ 32 → length (log_text ps os) ≤ 76 * length ps + 38
+    (text : List ℕ) (patches : List Patch) (carry : Bool) (base : ℕ) (image : List ℕ)
+    → length text ≤ text_limit → script text ≡ Ok patches
+    → EachPatching carry (order patches) base image (λ outcomes last.
+    length (log_text (order patches) outcomes) ≤ 76 * length patches + 38)

@@ -19,7 +19,7 @@ pub fn patched_carries()
     ensures { PatchedCarries }
 {}
 
-/// A log has at most 76 bytes for each patch, and 38 for its last line.
+/// The log of a script on an image has at most 76 bytes for each patch, and 38 for its last line.
 pub fn log_is_short()
     ensures { LogIsShort }
 {}

@@ -17,7 +17,7 @@
 //! moves the bytes and lends the sectors in hand, at most three; a run keeps nothing but numbers. So
 //! one machine serves `cd_image::apply` and the calls of C.
 //!
-//! Tests: `crates/cd_patch_tests` and, over whole images, `crates/cd_image_tests`.
+//! Tests: `crates/cd_low_tests` and, over whole images, `crates/cd_image_tests`.
 #![tactic(auto)]
 
 mod laws;

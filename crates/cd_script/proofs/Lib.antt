@@ -2,6 +2,7 @@ pub mod FormLemmas
 pub mod HexLemmas
 pub mod KindLemmas
 pub mod LineLemmas
+pub mod NumberingLemmas
 pub mod OrderLemmas
 pub mod PatchLemmas
 pub mod ParseLemmas

@@ -16,3 +16,4 @@ pub mod Size
 pub mod ByLine
 pub mod Spelling
 pub mod Versions
+pub mod VersionNumbers

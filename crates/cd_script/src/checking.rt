@@ -1,13 +1,12 @@
 //! Whether a patch that was made elsewhere keeps to the limits of the language.
 
-ghost use Rattle.std.specs.Prelude.{◌≡◌, ◌≤◌, ◌↔◌, IsTrue, length};
+ghost use Rattle.std.specs.Prelude.{◌≤◌, ◌↔◌, IsTrue};
 ghost use Rattle.cd_script.specs.Address.{IsAddress, IsBcd};
-ghost use Rattle.cd_script.specs.declared.patch.Edit.TheVariants.{Fill, Put};
-ghost use Rattle.cd_script.specs.Patch.{IsBytes, IsEditAt, IsPatch};
+ghost use Rattle.cd_script.specs.Patch.{IsBytes, IsPatch};
 
 use crate::bytes::LentBytes;
 use crate::limits::{FRACTIONS, MAX_BYTES, MAX_NUMBER, MAX_OFFSET, MINUTES, SECONDS};
-use crate::patch::{Edit, Patch};
+use crate::patch::{Patch, is_edit_at};
 
 /// Whether a byte is a number below a limit of at most 100, in BCD.
 fn is_bcd(limit: u8, byte: u8) -> bool
@@ -18,7 +17,7 @@ fn is_bcd(limit: u8, byte: u8) -> bool
 }
 
 /// Whether three bytes are a minute, a second and a fraction, each in BCD.
-fn is_address(bcd: &[u8; 3]) -> bool
+pub(crate) fn is_address(bcd: &[u8; 3]) -> bool
     ensures { IsTrue result ↔ IsAddress bcd.now }
 {
     let [minute, second, fraction] = *bcd;
@@ -26,49 +25,10 @@ fn is_address(bcd: &[u8; 3]) -> bool
 }
 
 /// Whether these are at least one byte, and as many as a patch changes at most.
-fn are_bytes(bytes: &[u8]) -> bool
+pub(crate) fn are_bytes(bytes: &[u8]) -> bool
     ensures { IsTrue result ↔ IsBytes bytes.now }
 {
     !bytes.is_empty() && bytes.len() <= MAX_BYTES
-}
-
-/// Whether these are the old bytes of a patch with `count` new ones.
-fn are_old_bytes(count: usize, old: &[u8]) -> bool
-    ensures { IsTrue result ↔ (IsBytes old.now × (length old.now ≡ count)) }
-{
-    are_bytes(old) && old.len() == count
-}
-
-/// Whether a `Put` of these bytes keeps to the limits.
-fn is_put(bytes: &LentBytes<'_>, was: &Option<LentBytes<'_>>) -> bool
-    ensures { IsTrue result ↔ IsEditAt 0 (Put bytes.now was.now) }
-{
-    match was {
-        Some(old) => {
-            are_bytes(bytes.as_slice()) && are_old_bytes(bytes.as_slice().len(), old.as_slice())
-        }
-        None => are_bytes(bytes.as_slice()),
-    }
-}
-
-/// Whether a `Fill` of so many bytes keeps to the limits.
-fn is_fill(count: u16, value: u8) -> bool
-    ensures { IsTrue result ↔ IsEditAt 0 (Fill count value) }
-{
-    let _value = value; // so that the contract can name it as a byte
-    count != 0 && count as usize <= MAX_BYTES
-}
-
-/// Whether an edit at an offset keeps to the limits.
-fn is_edit_at(offset: u16, edit: &Edit<LentBytes<'_>>) -> bool
-    ensures { IsTrue result ↔ IsEditAt offset edit.now }
-{
-    match edit {
-        Edit::Put { bytes, was } => is_put(bytes, was),
-        Edit::Fill { count, value } => is_fill(*count, *value),
-        Edit::Rebuild => offset == 0,
-        Edit::Address { bcd } => offset == 0 && is_address(bcd),
-    }
 }
 
 /// Whether a patch keeps to the limits of the language, as each patch of a script does: its block,

@@ -31,7 +31,7 @@
 //! A reader that has no memory, or one line in hand at a time, cuts a text by [`first_line`] and reads
 //! each line by [`read_line`]; the law [`reads_by_line`] says that this gives the same.
 //!
-//! Tests: `crates/cd_patch_tests/src/tests/scripts`.
+//! Tests: `crates/cd_low_tests/src/tests/scripts`.
 #![tactic(auto)]
 
 mod address;
@@ -63,6 +63,6 @@ pub use laws::{
     second_extends, spelling_reads,
 };
 pub use limits::{MAX_BYTES, MAX_DIGITS, MAX_NUMBER, MAX_OFFSET, MAX_PATCHES, MAX_TEXT};
-pub use patch::{Edit, Patch, lend};
+pub use patch::{Edit, Patch, lend, without_old};
 pub use script::{Script, parse};
 pub use version::Version;

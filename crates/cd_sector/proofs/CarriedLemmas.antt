@@ -10,13 +10,13 @@ use Rattle.cd_code.specs.Syndrome.{SameSums}
 use Rattle.cd_code.proofs.general.Lists.{part-same}
 use Rattle.cd_code.proofs.general.Xor.{same_from_xor}
 use Rattle.cd_sector.specs.Carried.{IsCarried, sync_of}
-use Rattle.cd_sector.specs.CodeWords.{SameSyndromes, bytes_at, column_of, column_places, diagonal_of, diagonal_places}
+use Rattle.cd_code.specs.CodeWords.{SameSyndromes, bytes_at, column_of, column_places, diagonal_of, diagonal_places}
 use Rattle.cd_sector.specs.Consistent.{IsConsistent, header_of, user_of}
 use Rattle.cd_sector.specs.Defect.{all_syndromes, defect_of, is_sound}
 use Rattle.cd_sector.specs.Kind.{sync_field}
 use Rattle.cd_sector.proofs.DefectLemmas.{IsWhole, sound_decided, defect-columns, defect-diagonals, defect-rest, defect-zeros, length-syndromes, range-byte, syndromes-at}
 use Rattle.cd_sector.proofs.ParityLemmas.{AllCodeWords-by_number}
-use Rattle.cd_sector.proofs.PlaceLemmas.{plane-by_number}
+use Rattle.cd_code.proofs.PlaceLemmas.{plane-by_number}
 use Rattle.cd_sector.proofs.SectorLemmas.{Agree, SameSyndromes-code_words, front-parts, mode1-from, mode1-parts, range-agree, sector_same, sync-field}
 use Rattle.cd_sector.proofs.SumLemmas.{AllCodeWords-same, AllCodeWords-sum, SameSyndromes-none, remainder_of_sum}
 

@@ -6,7 +6,7 @@ use Rattle.std.proofs.lemmas.List.{get_or-drop, get_or-take, length-append, leng
 use Rattle.cd_code.specs.Edc.{bits, remainder}
 use Rattle.cd_code.specs.Field.{AreBytes}
 use Rattle.cd_code.proofs.general.Lists.{first-part, front-list, front-same, get_or-part, get_or-second, part-list, part-of_front, part-same, second-part}
-use Rattle.cd_sector.specs.CodeWords.{AllCodeWords}
+use Rattle.cd_code.specs.CodeWords.{AllCodeWords}
 use Rattle.cd_sector.specs.Consistent.{IsConsistent, header_of, user_of}
 use Rattle.cd_sector.specs.Kind.{kind_of, sync_field}
 use Rattle.cd_sector.specs.Laws.{IsEncoded}

@@ -11,7 +11,7 @@ use Rattle.std.proofs.lemmas.List.FromFn.{sum_by-map-range_with_len_more, get_or
 use Rattle.cd_code.specs.Edc.{bits, remainder}
 use Rattle.cd_code.specs.Field.{AreBytes}
 use Rattle.cd_code.specs.Syndrome.{IsCodeWord, first_syndrome, second_syndrome}
-use Rattle.cd_sector.specs.CodeWords.{SumsOf, column_of, diagonal_of}
+use Rattle.cd_code.specs.CodeWords.{SumsOf, column_of, diagonal_of}
 use Rattle.cd_sector.specs.Consistent.{IsConsistent, consistent, is_mode1}
 use Rattle.cd_sector.specs.Defect.{all_syndromes, broken_mark, defect_of, is_broken, is_nonzero, is_sound}
 use Rattle.cd_sector.specs.Kind.{kind_of}

@@ -23,12 +23,14 @@ use Rattle.cd_code.proofs.EdcLemmas.{IsEdc-nil, IsEdc-push}
 use Rattle.cd_code.proofs.EdcTableLemmas.{word_at-IsEdc}
 use Rattle.cd_code.proofs.FieldLemmas.{product-lt}
 use Rattle.cd_code.proofs.SyndromeLemmas.{IsCodeWord-pair, first_syndrome-lt}
-use Rattle.cd_sector.specs.CodeWords.{AllCodeWords, bytes_at, column_input, diagonal_input}
+use Rattle.cd_code.specs.CodeWords.{AllCodeWords, bytes_at, column_input, diagonal_input}
 use Rattle.cd_sector.specs.Defect.{defect_of}
 use Rattle.cd_sector.specs.Kind.{sync_field}
 use Rattle.cd_sector.specs.Laws.{IsEncoded}
-use Rattle.cd_sector.proofs.PlaceLemmas.{AreBytes-bytes_at}
-use Rattle.cd_sector.proofs.ParityLemmas.{AllCodeWords-filled, Filled, columns_made, diagonals_made}
+use Rattle.cd_code.proofs.PlaceLemmas.{AreBytes-bytes_at}
+use Rattle.cd_code.specs.Filling.{Filled}
+use Rattle.cd_code.proofs.ParityLemmas.{columns_made, diagonals_made}
+use Rattle.cd_sector.proofs.ParityLemmas.{AllCodeWords-filled}
 use Rattle.cd_sector.proofs.ContentLemmas.{content_of, encoded, length-content}
 use Rattle.cd_sector.proofs.CarriedLemmas.{defect-same, same-rest, same-syndromes, same-zeros}
 use Rattle.cd_sector.proofs.SumLemmas.{AllCodeWords-same, AllCodeWords-sum, SameSyndromes-sum, remainder_of_sum}

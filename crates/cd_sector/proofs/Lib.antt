@@ -2,12 +2,10 @@ pub mod CarriedExistence
 pub mod CarriedLemmas
 pub mod ContentLemmas
 pub mod DefectLemmas
-pub mod DiagonalLemmas
 pub mod EdcPlaceLemmas
 pub mod ExistenceLemmas
 pub mod ImageLemmas
 pub mod ParityLemmas
-pub mod PlaceLemmas
 pub mod SectorLemmas
 pub mod SumLemmas
 pub mod general

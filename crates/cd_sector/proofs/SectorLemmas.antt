@@ -15,13 +15,13 @@ use Rattle.cd_code.proofs.general.Lists.{front-same, part-same}
 use Rattle.cd_code.proofs.EdcLemmas.{edc_unique}
 use Rattle.cd_code.proofs.SyndromeLemmas.{pair_unique}
 use Rattle.cd_sector.specs.Carried.{sync_of}
-use Rattle.cd_sector.specs.CodeWords.{AllCodeWords, SameSyndromes, bytes_at, column_places, diagonal_places}
+use Rattle.cd_code.specs.CodeWords.{AllCodeWords, SameSyndromes, bytes_at, column_places, diagonal_places}
 use Rattle.cd_sector.specs.Consistent.{IsConsistent, header_of, user_of}
 use Rattle.cd_sector.specs.Kind.{kind_of, kind_of_mode, sync_field}
 use Rattle.cd_sector.specs.declared.kinds.SectorKind.{SectorKind}
 use Rattle.cd_sector.specs.declared.kinds.SectorKind.TheVariants.{NoSync, Mode1}
 use Rattle.cd_sector.proofs.DefectLemmas.{range-byte}
-use Rattle.cd_sector.proofs.PlaceLemmas.{length-bytes_at, bytes_at-byte, AreBytes-bytes_at, length-column_places, column_place, length-diagonal_places, diagonal_place, diagonal_place-first, diagonal_place-second}
+use Rattle.cd_code.proofs.PlaceLemmas.{length-bytes_at, bytes_at-byte, AreBytes-bytes_at, length-column_places, column_place, length-diagonal_places, diagonal_place, diagonal_place-first, diagonal_place-second}
 
 -- ---- parts of lists
 

@@ -9,8 +9,8 @@ use Rattle.cd_code.proofs.ByteLemmas.{IsSum-below}
 use Rattle.cd_code.proofs.EdcLemmas.{remainder-sum}
 use Rattle.cd_code.proofs.SyndromeLemmas.{first_syndrome-sum, second_syndrome-sum}
 use Rattle.cd_code.proofs.general.Xor.{same_from_xor}
-use Rattle.cd_sector.specs.CodeWords.{AllCodeWords, SameSyndromes, bytes_at, column_places, diagonal_places}
-use Rattle.cd_sector.proofs.PlaceLemmas.{bytes_at-byte, length-bytes_at}
+use Rattle.cd_code.specs.CodeWords.{AllCodeWords, SameSyndromes, bytes_at, column_places, diagonal_places}
+use Rattle.cd_code.proofs.PlaceLemmas.{bytes_at-byte, length-bytes_at}
 
 -- if all syndromes of one are 0, so are those of the other
 pub AllCodeWords-same : {s t : List ℕ} → SameSyndromes s t → AllCodeWords t → AllCodeWords s

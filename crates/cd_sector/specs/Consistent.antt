@@ -3,7 +3,7 @@ use Rattle.std.specs.Prelude.{◌≡◌, ℕ, ◌==◌, ◌<◌, ◌≤◌, nat_
 use Rattle.std.specs.List.{list_all}
 use Rattle.cd_code.specs.Edc.{bits, remainder}
 use Rattle.cd_code.specs.Field.{AreBytes}
-use Rattle.cd_sector.specs.CodeWords.{AllCodeWords}
+use Rattle.cd_code.specs.CodeWords.{AllCodeWords}
 use Rattle.cd_sector.specs.Defect.{defect_of, is_sound}
 use Rattle.cd_sector.specs.Kind.{kind_of}
 use Rattle.cd_sector.specs.declared.kinds.SectorKind.{SectorKind}

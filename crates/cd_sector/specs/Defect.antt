@@ -3,7 +3,7 @@ use Rattle.std.specs.Prelude.{ℕ, ◌==◌, Bool, not, ◌&&◌, ◌||◌, if�
 use Rattle.std.specs.List.{list_all, range_with_len}
 use Rattle.cd_code.specs.Edc.{bits, remainder}
 use Rattle.cd_code.specs.Syndrome.{first_syndrome, second_syndrome}
-use Rattle.cd_sector.specs.CodeWords.{column_of, diagonal_of}
+use Rattle.cd_code.specs.CodeWords.{column_of, diagonal_of}
 
 -- the bytes of the Intermediate field (`zeros`), the remainder when bytes 0 to 2067 are divided by
 -- the EDC's generator (`rest`), and both syndromes of each code word

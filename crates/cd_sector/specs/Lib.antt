@@ -1,9 +1,7 @@
 pub mod Address
 pub mod Carried
-pub mod CodeWords
 pub mod Consistent
 pub mod Defect
-pub mod DiagonalSteps
 pub mod EdcField
 pub mod Image
 pub mod Kind

@@ -3,18 +3,17 @@
 ghost use Rattle.std.specs.Prelude.{◌≡◌, ℕ, ◌==◌, ◌<◌, ◌≤◌, ◌&&◌, ◌↔◌, IsTrue, if◌then◌else◌, count_by, length, List, slice_index, slice_range, take, true};
 ghost use Rattle.std.specs.List.{list_all, list_any};
 ghost use Rattle.cd_code.specs.Edc.{bits, remainder};
-ghost use Rattle.cd_sector.specs.CodeWords.{SumsOf, column_of, diagonal_of};
+ghost use Rattle.cd_code.specs.CodeWords.{SumsOf, column_of, diagonal_of};
 ghost use Rattle.cd_sector.specs.Consistent.{consistent, is_mode1};
 ghost use Rattle.cd_sector.specs.Kind.{kind_of};
 ghost use Rattle.cd_sector.specs.Defect.{all_syndromes, broken_mark, defect_of, is_broken, is_nonzero, is_sound};
 
-use crate::diagonals::diagonal_sums;
 use crate::edc_field::stored_edc;
 use crate::kinds::{SectorKind, kind};
-use crate::product_code::{COLUMNS, DIAGONALS};
-use crate::sector::{EDC, HEADER, INTERMEDIATE, P_PARITY, Q_PARITY, SECTOR_SIZE, Sector};
+use crate::sector::{EDC, INTERMEDIATE, SECTOR_SIZE, Sector};
 use crate::sums::sum_of_bytes;
-use cd_code::{ColumnSums, column_sums, edc_of};
+use cd_code::{COLUMNS, DIAGONALS, P_PARITY};
+use cd_lanes::{all_column_sums, all_diagonal_sums, edc_of};
 
 /// Which parts of a sector are wrong (ECMA-130, 14 and Annex A).
 #[derive(Clone, Copy, Debug, PartialEq, Eq)]
@@ -147,15 +146,8 @@ fn count_broken_columns(bytes: &[u8; SECTOR_SIZE]) -> u8
 fn count_broken_diagonals(bytes: &[u8; SECTOR_SIZE]) -> u8
     ensures { result ≡ count_by is_broken (all_syndromes (diagonal_of bytes.now) 52) }
 {
-    let sums = diagonal_sums(bytes);
+    let sums = all_diagonal_sums(bytes);
     count_broken(&sums.plain, &sums.weighted)
-}
-
-/// The syndromes of each column and its parity.
-pub(crate) fn all_column_sums(bytes: &[u8; SECTOR_SIZE]) -> ColumnSums
-    ensures { SumsOf (column_of bytes.now) 86 result.plain result.weighted }
-{
-    column_sums(bytes[HEADER..Q_PARITY].first_chunk().unwrap())
 }
 
 /// Marks the P columns of a sector of any kind, taken as one of Mode 1: 1 for a column that is not a
@@ -192,7 +184,7 @@ pub fn mark_columns(s: &Sector, marks: &mut [u8; COLUMNS])
 pub fn mark_diagonals(s: &Sector, marks: &mut [u8; DIAGONALS])
     ensures { (i : ℕ) → i < 52 → slice_index marks.new i ≡ broken_mark (diagonal_of s.now i) }
 {
-    let sums = diagonal_sums(s.bytes());
+    let sums = all_diagonal_sums(s.bytes());
     mark_broken(&sums.plain, &sums.weighted, marks);
 }
 

@@ -7,7 +7,7 @@ ghost use Rattle.cd_sector.specs.EdcField.{StoresEdc};
 
 use crate::sector::{EDC, INTERMEDIATE, SECTOR_SIZE, put_part};
 use byteorder::{ByteOrder, LittleEndian};
-use cd_code::edc_of;
+use cd_lanes::edc_of;
 
 /// The four bytes of an EDC word, as they stand in a sector (ECMA-130, 14).
 ///

@@ -3,7 +3,7 @@
 ghost use Rattle.std.specs.Prelude.{◌≡◌, ℕ, ◌<◌, ◌≤◌, List, [], ◌∷◌, ◌++◌, slice_index, take};
 ghost use Rattle.cd_code.specs.Edc.{bits, remainder};
 ghost use Rattle.cd_code.specs.Field.{AreBytes};
-ghost use Rattle.cd_sector.specs.CodeWords.{AllCodeWords};
+ghost use Rattle.cd_code.specs.CodeWords.{AllCodeWords};
 ghost use Rattle.cd_sector.specs.Consistent.{IsConsistent, header_of, user_of};
 ghost use Rattle.cd_sector.specs.Kind.{kind_of, sync_field};
 ghost use Rattle.cd_sector.specs.Laws.{IsEncoded};

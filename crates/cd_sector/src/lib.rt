@@ -23,23 +23,25 @@
 //! ECMA-130. Blocks have an address up to [`MAX_BLOCK`], and an image has at most [`MAX_SECTORS`] whole
 //! sectors, then a tail that is shorter. No call takes memory.
 //!
-//! Tests: `crates/cd_patch_tests/src/tests/sectors`.
+//! Tests: `crates/cd_low_tests/src/tests/sectors`.
 #![tactic(auto)]
 
 mod addresses;
 mod defects;
-mod diagonals;
 mod edc_field;
 mod encoding;
 mod image;
 mod kinds;
 mod laws;
 mod parity;
-mod product_code;
 mod sector;
 mod sums;
 
 pub use addresses::{MAX_BLOCK, address_of};
+pub use cd_code::{
+    COLUMNS, DIAGONAL_SIZE, DIAGONALS, FIRST_P, FIRST_P_ROW, FIRST_Q, PLANE_COLUMNS, ROWS,
+    SECOND_P, SECOND_P_ROW, SECOND_Q,
+};
 pub use defects::{
     DefectReport, count_broken, defect, has_zeros, is_consistent, mark_broken, mark_columns,
     mark_diagonals, same_defect,
@@ -53,9 +55,5 @@ pub use laws::{
     consistent_is_carried, sector_by_defect, sector_exists, sector_is_unique,
 };
 pub use parity::fill_parity;
-pub use product_code::{
-    COLUMNS, DIAGONAL_SIZE, DIAGONALS, FIRST_P, FIRST_P_ROW, FIRST_Q, PLANE_COLUMNS, ROWS,
-    SECOND_P, SECOND_P_ROW, SECOND_Q,
-};
 pub use sector::{EDC, HEADER, INTERMEDIATE, SECTOR_SIZE, Sector, USER_DATA, USER_SIZE, put_part};
 pub use sums::sum_of;

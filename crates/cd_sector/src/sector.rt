@@ -12,13 +12,13 @@ ghost use Rattle.cd_sector.specs.WithBytes.{Calls, CanCall};
 use std::marker::Model;
 
 /// The number of bytes in a sector (ECMA-130, 14).
-pub const SECTOR_SIZE: usize = 2352;
+pub const SECTOR_SIZE: usize = cd_code::SECTOR_SIZE;
 
 /// The number of bytes of user data in a Mode 1 sector (ECMA-130, 14).
 pub const USER_SIZE: usize = 2048;
 
 /// The place of the header, after the sync field; the planes of the parity begin here too.
-pub const HEADER: usize = 12;
+pub const HEADER: usize = cd_code::HEADER;
 
 /// The place of the mode byte, the last of the header.
 pub(crate) const MODE: usize = 15;
@@ -31,12 +31,6 @@ pub const EDC: usize = 2064;
 
 /// The place of the eight bytes of the Intermediate field, after the EDC.
 pub const INTERMEDIATE: usize = 2068;
-
-/// Where the P parity begins.
-pub(crate) const P_PARITY: usize = 2076;
-
-/// Where the Q parity begins.
-pub(crate) const Q_PARITY: usize = 2248;
 
 /// A sector: 2352 bytes of any content, and nothing else in memory (`repr(C)`), so C's 2352 bytes
 /// are a `Sector` where they stand. A contract sees the list of its bytes.

@@ -11,12 +11,13 @@ use Rattle.std.proofs.lemmas.List.{get_or_past, take_all}
 use Rattle.std.proofs.lemmas.List.FromFn.{get_or-map-range_with_len}
 use Rattle.std.proofs.lemmas.Nat.{and_block, le_bytes_8, xor_block, xor_lt}
 use Rattle.cd_code.specs.Field.{double}
-use Rattle.cd_sector.specs.CodeWords.{SumsOf, bytes_at, column_of, column_places, diagonal_input, diagonal_of, diagonal_pair, place_of}
-use Rattle.cd_sector.proofs.PlaceLemmas.{bytes_at-append, bytes_at-byte, bytes_at-two, column_place, diagonal_input_place, diagonal_places-parts, length-bytes_at, length-column_places, length-diagonal_input}
-use Rattle.cd_sector.proofs.ParityLemmas.{take-row}
+use Rattle.cd_code.proofs.general.Lists.{first-part}
+use Rattle.cd_code.specs.CodeWords.{SumsOf, bytes_at, column_input, column_of, column_places, diagonal_input, diagonal_of, diagonal_pair, place_of}
+use Rattle.cd_code.proofs.PlaceLemmas.{bytes_at-same, column_input_place, column_of-parts, length-column_input, bytes_at-append, bytes_at-byte, bytes_at-two, column_place, diagonal_input_place, diagonal_places-parts, length-bytes_at, length-column_places, length-diagonal_input}
+use Rattle.cd_code.proofs.ParityLemmas.{take-row}
 use Rattle.cd_words.specs.declared.diagonals.TheConstants.{ROW}
 use Rattle.cd_words.specs.declared.words.WordSums.{WordSums}
-use Rattle.cd_words.specs.Words.{IsWord, SumsOfEight, number_of}
+use Rattle.cd_words.specs.Words.{IsWord, SumsOfEight, column_input_of, diagonal_input_of, number_of}
 
 -- an operation that goes byte by byte
 pub record IsBytewise (op : ℕ → ℕ → ℕ) : Type 0 where
@@ -121,20 +122,32 @@ column-all s m c h =
     bytes-all s (column_places (c % 2) (c / 2)) m
     (omega (arith, length-column_places (c % 2) (c / 2)))
 
+-- the first 24 bytes of a column are those before its parity
+pub column-front : (s : List ℕ) (c : ℕ) → take 24 (column_of s c) ≡ column_input_of s c
+column-front s c =
+    ap (take 24) (column_of-parts s c)
+    ∙ first-part (column_input_of s c) (get_or s (2076 + c) 0 ∷ get_or s (2076 + 86 + c) 0 ∷ []) 24
+    (length-bytes_at s (column_input (c % 2) (c / 2)) ∙ length-column_input (c % 2) (c / 2))
+
+-- they stay if only parity is written
+pub column_input-stays : (s t : List ℕ) (c : ℕ) → c < 86
+    → ((k : ℕ) → k < 2076 → get_or s k 0 ≡ get_or t k 0) → column_input_of s c ≡ column_input_of t c
+column_input-stays s t c h same =
+    let length = length-column_input (c % 2) (c / 2) in
+    bytes_at-same s t (column_input (c % 2) (c / 2)) (λ m inside.
+    let place = column_input_place (c % 2) (c / 2) m (omega arith) in
+    same (get_or (column_input (c % 2) (c / 2)) m 0) (omega arith))
+
 -- ---- diagonals
 
--- a diagonal without its parity
-abbrev pub input_of : List ℕ → ℕ → List ℕ
-input_of s c = bytes_at s (diagonal_input (c % 2) (c / 2))
-
-input-all : (s : List ℕ) (m c : ℕ) → 43 ≤ m → take m (input_of s c) ≡ input_of s c
+input-all : (s : List ℕ) (m c : ℕ) → 43 ≤ m → take m (diagonal_input_of s c) ≡ diagonal_input_of s c
 input-all s m c h =
     bytes-all s (diagonal_input (c % 2) (c / 2)) m
     (omega (arith, length-diagonal_input (c % 2) (c / 2)))
 
 pub diagonal-parts : (s : List ℕ) (n i : ℕ)
     → diagonal_of s (2 * n + i)
-    ≡ (input_of s (2 * n + i) ++ get_or s (2248 + 2 * n + i) 0 ∷ [])
+    ≡ (diagonal_input_of s (2 * n + i) ++ get_or s (2248 + 2 * n + i) 0 ∷ [])
     ++ get_or s (2300 + 2 * n + i) 0 ∷ []
 diagonal-parts s n i =
     let c = 2 * n + i in
@@ -142,11 +155,11 @@ diagonal-parts s n i =
     let second : place_of (c % 2) (1144 + c / 2) ≡ 2300 + 2 * n + i = omega arith in
     ap (bytes_at s) (diagonal_places-parts (c % 2) (c / 2))
     ∙ bytes_at-append s (diagonal_input (c % 2) (c / 2)) (diagonal_pair (c % 2) (c / 2))
-    ∙ ap (λ v. input_of s c ++ v)
+    ∙ ap (λ v. diagonal_input_of s c ++ v)
     (bytes_at-two s (place_of (c % 2) (1118 + c / 2)) (place_of (c % 2) (1144 + c / 2))
     ∙ ap (λ p. get_or s p 0 ∷ get_or s (place_of (c % 2) (1144 + c / 2)) 0 ∷ []) first
     ∙ ap (λ p. get_or s (2248 + 2 * n + i) 0 ∷ get_or s p 0 ∷ []) second)
-    ∙ sym (append_assoc (input_of s c) (get_or s (2248 + 2 * n + i) 0 ∷ [])
+    ∙ sym (append_assoc (diagonal_input_of s c) (get_or s (2248 + 2 * n + i) 0 ∷ [])
     (get_or s (2300 + 2 * n + i) 0 ∷ []))
 
 row-byte : (j : ℕ) → ((j < 86) → get_or ROW (6 + j) 0 ≡ 255)
@@ -164,7 +177,7 @@ row-byte j = (
 
 -- what the diagonals n + 3 to n have taken before step k: that of pair j begins in step 3 - j
 abbrev pub taken_at : List ℕ → ℕ → ℕ → ℕ → List ℕ
-taken_at s n k i = take (k + i % 8 / 2 - 3) (input_of s (2 * (n + 3 - i % 8 / 2) + i % 2))
+taken_at s n k i = take (k + i % 8 / 2 - 3) (diagonal_input_of s (2 * (n + 3 - i % 8 / 2) + i % 2))
 
 pub taken-step : (s : List ℕ) (n k i : ℕ) → n + 4 ≤ 26 → k < 46
     → ((get_or ROW (2 * k + i % 8) 0 ≡ 255) × (taken_at s n (k + 1) i
@@ -176,7 +189,7 @@ taken-step s n k i last step =
     let c = 2 * (n + 3 - i % 8 / 2) + i % 2 in
     elim (cases_lt p 6) [
       | inl before ↦
-          inr (((row-byte p).1 before).0, ap (λ q. take q (input_of s c)) (omega arith))
+          inr (((row-byte p).1 before).0, ap (λ q. take q (diagonal_input_of s c)) (omega arith))
       | inr begun ↦ elim (cases_lt p 92) [
         | inl within ↦
             let number : (44 * m + 43 * (c / 2)) % 1118 ≡ 43 * ((n + k) % 26) + m = omega arith in
@@ -185,7 +198,7 @@ taken-step s n k i last step =
             let row : 6 + (p - 6) ≡ p = omega arith in
             inl (
               ap (λ q. get_or ROW q 0) (sym row) ∙ (row-byte (p - 6)).0 (omega arith),
-              ap (λ q. take q (input_of s c)) (omega arith)
+              ap (λ q. take q (diagonal_input_of s c)) (omega arith)
                   ∙ bytes-more s (diagonal_input (c % 2) (c / 2)) m _
                   (omega (arith, length-diagonal_input (c % 2) (c / 2)))
                   (diagonal_input_place (c % 2) (c / 2) m (omega arith) ∙ place),
@@ -203,11 +216,21 @@ taken-step s n k i last step =
 pub taken-none : (s : List ℕ) (n i : ℕ) → [] ≡ taken_at s n 0 i
 taken-none s n i =
     let none : 0 ≡ 0 + i % 8 / 2 - 3 = omega arith in
-    ap (λ m. take m (input_of s (2 * (n + 3 - i % 8 / 2) + i % 2))) none
+    ap (λ m. take m (diagonal_input_of s (2 * (n + 3 - i % 8 / 2) + i % 2))) none
 
 pub taken-all : (s : List ℕ) (n k i : ℕ) → 46 ≤ k
-    → taken_at s n k (2 * (3 - i % 8 / 2) + i % 2) ≡ input_of s (2 * n + i % 8)
+    → taken_at s n k (2 * (3 - i % 8 / 2) + i % 2) ≡ diagonal_input_of s (2 * n + i % 8)
 taken-all s n k i h =
     let m = 2 * (3 - i % 8 / 2) + i % 2 in
     input-all s (k + m % 8 / 2 - 3) (2 * (n + 3 - m % 8 / 2) + m % 2) (omega arith)
-    ∙ ap (input_of s) (omega arith)
+    ∙ ap (diagonal_input_of s) (omega arith)
+
+-- the bytes of a diagonal before its parity stay if only Q parity is written
+pub diagonal_input-stays : (s t : List ℕ) (c : ℕ)
+    → ((k : ℕ) → k < 2248 → get_or s k 0 ≡ get_or t k 0)
+    → diagonal_input_of s c ≡ diagonal_input_of t c
+diagonal_input-stays s t c same =
+    let length = length-diagonal_input (c % 2) (c / 2) in
+    bytes_at-same s t (diagonal_input (c % 2) (c / 2)) (λ m inside.
+    let place = diagonal_input_place (c % 2) (c / 2) m (omega arith) in
+    same (get_or (diagonal_input (c % 2) (c / 2)) m 0) (omega arith))

@@ -1,11 +1,13 @@
 //! The syndromes of the 52 diagonals, eight at a time in words of 64 bits.
 
 ghost use Rattle.std.specs.Prelude.{ℕ, ◌+◌, ◌*◌, ◌%◌, ◌<◌, ◌≤◌, slice_index};
-ghost use Rattle.cd_sector.specs.CodeWords.{SumsOf, diagonal_of};
-ghost use Rattle.cd_words.specs.Words.{IsWord, SumsOfEight};
+ghost use Rattle.cd_code.specs.CodeWords.{SumsOf, diagonal_of};
+ghost use Rattle.cd_words.specs.Words.{IsWord, SumsOfEight, diagonal_input_of};
 
 use crate::words::{WordSums, put_sums, word_at};
-use cd_sector::{COLUMNS, DIAGONALS, FIRST_Q, HEADER, PLANE_COLUMNS, ROWS, SECOND_Q, SECTOR_SIZE};
+use cd_code::{
+    COLUMNS, DIAGONALS, DiagonalSums, HEADER, PLANE_COLUMNS, Q_PARITY, ROWS, SECTOR_SIZE,
+};
 
 /// FF for each byte of a row, and 00 for those of three columns before it and after it.
 static ROW: [u8; 98] = [
@@ -37,31 +39,34 @@ fn row_word(bytes: &[u8; SECTOR_SIZE], n: usize, k: usize) -> u64
     word_at(bytes, HEADER - 6 + COLUMNS * row + 2 * k)
 }
 
-/// Both syndromes of the four diagonals from n on, of both planes. A diagonal that has not begun, or
-/// has ended, keeps its sums in a step.
-fn diagonal_sums_at(bytes: &[u8; SECTOR_SIZE], n: usize) -> WordSums
+/// Both syndromes of the first 43 bytes of the four diagonals from n on, of both planes. A diagonal that
+/// has not begun, or has ended, keeps its sums in a step.
+pub(crate) fn diagonal_input_sums_at(bytes: &[u8; SECTOR_SIZE], n: usize) -> WordSums
     requires { n + 4 ≤ 26 }
-    ensures { SumsOfEight (λ i. diagonal_of bytes.now (2 * n + i % 8)) result }
+    ensures { SumsOfEight (λ i. diagonal_input_of bytes.now (2 * n + i % 8)) result }
 {
     let mut sums = WordSums::zero();
     for k in 0..PLANE_COLUMNS + 3 {
         let next = sums.with_word(row_word(bytes, n, k));
         sums = sums.or_next(next, word_at(&ROW, 2 * k));
     }
-    let upwards = sums.reversed();
-    let longer = upwards.with_word(word_at(bytes, HEADER + 2 * FIRST_Q + 2 * n));
-    longer.with_word(word_at(bytes, HEADER + 2 * SECOND_Q + 2 * n))
+    sums.reversed()
 }
 
-/// Both syndromes of the 52 diagonals: entry `2N + plane` is of diagonal N of that plane.
-#[derive(Clone, Copy)]
-pub(crate) struct DiagonalSums {
-    pub(crate) plain: [u8; DIAGONALS],
-    pub(crate) weighted: [u8; DIAGONALS],
+/// Both syndromes of the four diagonals from n on, of both planes.
+fn diagonal_sums_at(bytes: &[u8; SECTOR_SIZE], n: usize) -> WordSums
+    requires { n + 4 ≤ 26 }
+    ensures { SumsOfEight (λ i. diagonal_of bytes.now (2 * n + i % 8)) result }
+{
+    let input = diagonal_input_sums_at(bytes, n);
+    let longer = input.with_word(word_at(bytes, Q_PARITY + 2 * n));
+    longer.with_word(word_at(bytes, Q_PARITY + DIAGONALS + 2 * n))
 }
 
-/// Both syndromes of the 52 diagonals.
-pub(crate) fn diagonal_sums(bytes: &[u8; SECTOR_SIZE]) -> DiagonalSums
+/// The syndromes of each diagonal and its parity (ECMA-130, Annex A).
+///
+/// See the example of `cd_lanes::all_diagonal_sums`.
+pub fn all_diagonal_sums(bytes: &[u8; SECTOR_SIZE]) -> DiagonalSums
     ensures { SumsOf (diagonal_of bytes.now) 52 result.plain result.weighted }
 {
     let mut sums = DiagonalSums {

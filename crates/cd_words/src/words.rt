@@ -1,9 +1,9 @@
 //! Eight bytes in a word, the first of the lowest worth, and eight code words side by side.
 
-ghost use Rattle.std.specs.Prelude.{◌≡◌, ℕ, ◌+◌, ◌-◌, ◌*◌, ◌/◌, ◌%◌, ◌<◌, ◌≤◌, ◌⊎◌, List, [], ◌∷◌, ◌++◌, length, slice_index};
-ghost use Rattle.cd_code.specs.Field.{AreBytes, double};
-ghost use Rattle.cd_sector.specs.CodeWords.{SumsOf};
-ghost use Rattle.cd_words.specs.Words.{IsWord, SumsOfEight};
+ghost use Rattle.std.specs.Prelude.{bit_xor, ◌≡◌, ℕ, ◌+◌, ◌-◌, ◌*◌, ◌/◌, ◌%◌, ◌<◌, ◌≤◌, ◌⊎◌, List, [], ◌∷◌, ◌++◌, length, slice_index};
+ghost use Rattle.cd_code.specs.Field.{AreBytes, double, product};
+ghost use Rattle.cd_code.specs.CodeWords.{SumsOf};
+ghost use Rattle.cd_words.specs.Words.{IsWord, SumsOfEight, first_of_pair};
 
 /// The low seven bits of each byte.
 const LOW_BITS: u64 = 0x7F7F_7F7F_7F7F_7F7F;
@@ -16,6 +16,27 @@ fn doubled_word(x: u64) -> u64
     let low = x & LOW_BITS;
     let high = (x - low) >> 7;
     (low << 1) ^ high.wrapping_mul(0x1D)
+}
+
+/// Eight field elements times alpha, with others added.
+#[inline(always)]
+fn doubled_and_added(x: u64, added: u64) -> u64
+    ensures { (f g : ℕ → ℕ) → IsWord f x → IsWord g added
+        → IsWord (λ i. bit_xor (double (f i)) (g i)) result }
+{
+    doubled_word(x) ^ added
+}
+
+/// Eight field elements times F4, which is alpha to the 7, 6, 5, 4 and 2.
+#[inline(always)]
+fn times_inverse_of_three(x: u64) -> u64
+    ensures { (f : ℕ → ℕ) → IsWord f x → IsWord (λ i. product 244 (f i)) result }
+{
+    let two = doubled_and_added(x, x);
+    let three = doubled_and_added(two, x);
+    let four = doubled_and_added(three, x);
+    let five = doubled_and_added(doubled_word(four), x);
+    doubled_word(doubled_word(five))
 }
 
 /// Four pairs of bytes, the last pair first.
@@ -58,11 +79,12 @@ pub(crate) fn word_at(bytes: &[u8], at: usize) -> u64
 
 /// Writes eight bytes from place `at` on.
 #[inline(always)]
-fn put_word(bytes: &mut [u8], at: usize, word: u64)
+pub(crate) fn put_word(bytes: &mut [u8], at: usize, word: u64)
     requires { at + 8 ≤ length bytes.old }
     ensures inside { (f : ℕ → ℕ) → IsWord f word
         → (i : ℕ) → i < 8 → slice_index bytes.new (at + i) ≡ f i }
     ensures below { (k : ℕ) → k < at → slice_index bytes.new k ≡ slice_index bytes.old k }
+    ensures above { (k : ℕ) → at + 8 ≤ k → slice_index bytes.new k ≡ slice_index bytes.old k }
 {
     put_eight(bytes, at, &word.to_le_bytes());
 }
@@ -73,6 +95,7 @@ fn put_eight(bytes: &mut [u8], at: usize, eight: &[u8; 8])
     requires { at + 8 ≤ length bytes.old }
     ensures inside { (i : ℕ) → i < 8 → slice_index bytes.new (at + i) ≡ slice_index eight.now i }
     ensures below { (k : ℕ) → k < at → slice_index bytes.new k ≡ slice_index bytes.old k }
+    ensures above { (k : ℕ) → at + 8 ≤ k → slice_index bytes.new k ≡ slice_index bytes.old k }
 {
     bytes[at..at + 8].copy_from_slice(eight);
 }
@@ -127,6 +150,19 @@ impl WordSums {
             plain: chosen_word(self.plain, next.plain, mask),
             weighted: chosen_word(self.weighted, next.weighted, mask),
         }
+    }
+
+    /// The two parity bytes that make a code word of each word followed by them (ECMA-130, Annex A).
+    #[inline(always)]
+    pub(crate) fn pairs(self) -> (u64, u64)
+        ensures first { (f g : ℕ → ℕ) → IsWord f self.plain → IsWord g self.weighted
+            → IsWord (first_of_pair f g) result.0 }
+        ensures second { (f g : ℕ → ℕ) → IsWord f self.plain → IsWord g self.weighted
+            → IsWord (λ i. bit_xor (f i) (first_of_pair f g i)) result.1 }
+    {
+        let sum = doubled_and_added(doubled_word(self.weighted), self.plain);
+        let first = times_inverse_of_three(sum);
+        (first, self.plain ^ first)
     }
 
     /// Of four pairs of words the last pair first.

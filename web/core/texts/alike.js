@@ -2,7 +2,8 @@
 // capitals or not.
 
 import { joinedBytes } from '../bytes.js';
-import { TextFault, lacks } from './characters.js';
+import { FAULT, failedBy } from '../faults.js';
+import { lacks } from './characters.js';
 
 /** @typedef {import('./encoding.js').Encoding} Encoding */
 
@@ -24,8 +25,12 @@ for (let code = 0xFF61; code <= 0xFF9F; code++) {
 }
 const WIDE = new Map([...NARROW].map(([wide, narrow]) => [narrow, wide]));
 
-/** @type {WeakMap<Encoding, Map<string, { own: Uint8Array[], others: Uint8Array[] }>>} by the encodings, what was asked for before */
-const known = new WeakMap();
+/**
+ * By the encodings, what was asked for before: strictly and loosely, of each character its spellings and those of its other forms, none if
+ * it has no others.
+ * @type {WeakMap<Encoding, Map<string, Uint8Array[]>[]>}
+ */
+const spellingsAsked = new WeakMap();
 
 /**
  * The forms of a character that are one with it, itself first.
@@ -53,29 +58,25 @@ function spellingsOf(encoding, form) {
         const units = encoding.units(form);
         return units.length === 1 ? units[0] : [joinedBytes(units.map(([usual]) => usual))].filter(({ length }) => length > 0);
     } catch (error) {
-        if (!(error instanceof TextFault)) throw error;
+        if (!failedBy(error, FAULT.TEXT)) throw error;
         return [];
     }
 }
 
 /**
- * The spellings of a character, and those of its other forms.
+ * The spellings of a character and of its other forms, none if it has no others.
  * @param {Encoding} encoding
  * @param {string} character
  * @param {boolean} loose
  */
-function spelled(encoding, character, loose) {
-    const found = known.get(encoding) || new Map();
-    known.set(encoding, found);
-    const key = `${Number(loose)}${character}`;
-    const [own, ...others] = found.has(key) ? [] : formsOf(character, loose).map(form => spellingsOf(encoding, form));
-    if (own) found.set(key, { own, others: others.flat() });
-    return /** @type {{ own: Uint8Array[], others: Uint8Array[] }} */ (found.get(key));
+function spelledAlike(encoding, character, loose) {
+    const [own, ...others] = formsOf(character, loose).map(form => spellingsOf(encoding, form));
+    return others.some(({ length }) => length > 0) ? [...own, ...others.flat()] : [];
 }
 
 /**
- * The parts of a text as `Encoding.units` gives them, with the spellings that are one with its own. Throws a TextFault that names the first
- * character without any.
+ * The parts of a text as `Encoding.units` gives them, with the spellings that are one with its own. Throws a Fault, TEXT, that names the
+ * first character without any.
  * @param {Encoding} encoding
  * @param {string} text
  * @param {boolean} [loose]
@@ -90,14 +91,19 @@ export function unitsAlike(encoding, text, loose = false) {
         try {
             units.push(...encoding.units(whole.slice(from, at)));
         } catch (error) {
-            throw error instanceof TextFault && error.at >= 0 ? lacks(encoding.name, whole, from + error.at) : error;
+            const lacking = failedBy(error, FAULT.TEXT) ? error.facts.at ?? -1 : -1;
+            throw lacking < 0 ? error : lacks(encoding.name, whole, from + lacking);
         }
     };
+    const found = spellingsAsked.get(encoding) || [new Map(), new Map()];
+    spellingsAsked.set(encoding, found);
+    const alike = found[Number(loose)];
     for (const character of whole) {
-        const { own, others } = spelled(encoding, character, loose);
-        if (others.length > 0) {
+        const spellings = alike.get(character) || spelledAlike(encoding, character, loose);
+        alike.set(character, spellings);
+        if (spellings.length > 0) {
             pushPlain();
-            units.push([...own, ...others]);
+            units.push(spellings);
             from = at + character.length;
         }
         at += character.length;

@@ -1,36 +1,39 @@
 // The best way to read bytes around a place as characters of one encoding.
 
-import { BAD, KANJI, orderScores } from './scores.js';
+import { AFTER_KINDS } from './frequencies.js';
+import { BAD, KANJI, codeAt } from './scores.js';
 
 /** @typedef {import('./scores.js').Scores} Scores */
 
-/** So many bytes before a place and from there on a text may reach in one go. */
+/** How far a text may reach in one go before a place and from there on, in bytes. */
 const BACK = 32;
 const MOST = 4096;
-const ROOM = MOST + 8;
 
-/** A text ends where its score has fallen by so many quarter bits. */
+/** A text ends where its score has fallen by this many quarter bits. */
 const FALL = 56;
 
 /** In UTF-16 two bytes 00 over the border of two characters are the end of a text that is read with the other byte first. */
 const ZEROS = -FALL - 4;
 
-/** Only so many kanji in a row count, in UTF-8 twice as many; and no character that stands among the last ones. */
-const KANJI_IN_A_ROW = 4;
+/** Only so many kanji in a row count, and no character that stands among the last ones. */
+const KANJI_IN_A_ROW = 6;
 const LAST_ONES = 3;
 
-/** The class of what counts nothing: its order does not either. */
+/** The score of what counts nothing: its order does not either. */
 const MUTE = -2;
+
+/** The most bytes of a character. */
+const LONGEST = 3;
 
 /** Finds paths, one after the other. */
 export class PathFinder {
     constructor() {
-        this.order = orderScores();
-        this.score = new Int32Array(ROOM);
-        this.start = new Int32Array(ROOM);
-        this.kind = new Uint8Array(ROOM);
-        this.row = new Uint8Array(ROOM);
-        this.opened = 0;
+        this.order = Int8Array.from(AFTER_KINDS.flat());
+        // By places: of the best path that ends there its score and its start, the kind of its last character, and how many kanji end it.
+        this.score = new Int32Array(MOST + LONGEST);
+        this.start = new Int32Array(MOST + LONGEST);
+        this.kind = new Uint8Array(MOST + LONGEST);
+        this.row = new Uint16Array(MOST + LONGEST);
         this.origin = 0;
         this.best = { start: 0, end: 0, score: 0 };
     }
@@ -40,32 +43,40 @@ export class PathFinder {
      * @param {Scores} scores
      * @param {Uint8Array} bytes
      * @param {number} low where it begins at the earliest
-     * @param {number} high where it ends at the latest
      * @param {number} place
      */
-    find(scores, bytes, low, high, place) {
+    find(scores, bytes, low, place) {
         this.origin = Math.max(low, place - BACK);
-        this.opened = 0;
         this.best = { start: 0, end: 0, score: 0 };
-        const end = Math.min(high, this.origin + MOST);
+        const end = Math.min(bytes.length, this.origin + MOST);
+        for (let k = 0; k < LONGEST; k++) this.begin(k);
         for (let at = this.origin; at < end; at++) {
-            this.open(at - this.origin + 5);
-            if (at > place + 3 && this.isOver(at - this.origin)) break;
-            this.takeOne(scores, bytes, at, place);
-            if (scores.three) this.takeThree(scores, bytes, at, high, place);
-            else if (at + 1 < high) this.takePair(scores, bytes, at, place);
+            const k = at - this.origin;
+            this.begin(k + LONGEST);
+            if (at > place + LONGEST && this.isOver(k)) break;
+            const score = scores.one[bytes[at]];
+            const kind = scores.oneKind[bytes[at]];
+            if (score !== BAD) this.take(at, 1, score + this.orderAfter(k, kind), kind, 0, place);
+            this.takeLong(scores, bytes, at, place);
         }
         return this.best;
     }
 
-    /** @param {number} end up to which places are made ready: a path may begin at each */
-    open(end) {
-        for (; this.opened < end; this.opened++) {
-            this.score[this.opened] = 0;
-            this.start[this.opened] = this.origin + this.opened;
-            this.kind[this.opened] = 0;
-            this.row[this.opened] = 0;
-        }
+    /** @param {number} k where a path may begin */
+    begin(k) {
+        this.score[k] = 0;
+        this.start[k] = this.origin + k;
+        this.kind[k] = 0;
+        this.row[k] = 0;
+    }
+
+    /**
+     * What a character of a kind scores for the one that the best path to a place ends with.
+     * @param {number} k
+     * @param {number} kind
+     */
+    orderAfter(k, kind) {
+        return this.order[this.kind[k] * AFTER_KINDS.length + kind];
     }
 
     /** @param {number} k whether no path from there on can be better */
@@ -95,57 +106,23 @@ export class PathFinder {
     }
 
     /**
+     * Takes a character of several bytes.
      * @param {Scores} scores
      * @param {Uint8Array} bytes
      * @param {number} at
      * @param {number} place
      */
-    takeOne({ one, oneKind }, bytes, at, place) {
-        const byte = bytes[at];
-        if (one[byte] === BAD) return;
-        const kind = oneKind[byte];
-        this.take(at, 1, one[byte] + this.order[this.kind[at - this.origin] * 10 + kind], kind, 0, place);
-    }
-
-    /**
-     * @param {Scores} scores
-     * @param {Uint8Array} bytes
-     * @param {number} at
-     * @param {number} place
-     */
-    takePair({ wide, pair, pairKind }, bytes, at, place) {
-        const code = bytes[at] << 8 | bytes[at + 1];
-        if (pair[code] === BAD) return;
-        const isEnd = wide && bytes[at] === 0 && at > 0 && bytes[at - 1] === 0;
-        this.takeWide(bytes, at, 2, isEnd ? ZEROS : pair[code], pairKind[code], KANJI_IN_A_ROW, place);
-    }
-
-    /**
-     * @param {Scores} scores
-     * @param {Uint8Array} bytes
-     * @param {number} at
-     * @param {number} high
-     * @param {number} place
-     */
-    takeThree({ pair, pairKind }, bytes, at, high, place) {
-        const code = codeOfThree(bytes, at, high);
-        if (code > 0 && pair[code] !== BAD) this.takeWide(bytes, at, 3, pair[code], pairKind[code], 2 * KANJI_IN_A_ROW, place);
-    }
-
-    /**
-     * @param {Uint8Array} bytes
-     * @param {number} at
-     * @param {number} size
-     * @param {number} score
-     * @param {number} kind
-     * @param {number} most how many kanji in a row count
-     * @param {number} place
-     */
-    takeWide(bytes, at, size, score, kind, most, place) {
+    takeLong(scores, bytes, at, place) {
+        const code = codeAt(scores, bytes, at, bytes.length);
+        if (code === 0) return;
+        const { size, wide } = scores;
         const k = at - this.origin;
+        const kind = scores.pairKind[code];
+        const isEnd = wide && bytes[at] === 0 && at > 0 && bytes[at - 1] === 0;
+        const score = isEnd ? ZEROS : scores.pair[code];
         const row = kind !== KANJI ? 0 : this.score[k] > 0 ? this.row[k] + 1 : 1;
-        const counted = score <= 0 ? score : row > most ? MUTE : stoodBefore(bytes, at, size, this.start[k]) ? 0 : score;
-        const order = counted === 0 || counted === MUTE ? 0 : this.order[this.kind[k] * 10 + kind];
+        const counted = score <= 0 ? score : row > KANJI_IN_A_ROW ? MUTE : stoodBefore(bytes, at, size, this.start[k]) ? 0 : score;
+        const order = counted === 0 || counted === MUTE ? 0 : this.orderAfter(k, kind);
         this.take(at, size, counted + order, kind, row, place);
     }
 }
@@ -158,23 +135,10 @@ export class PathFinder {
  * @param {number} start of the text
  */
 function stoodBefore(bytes, at, size, start) {
-    for (let n = 1; n <= LAST_ONES && at - n * size >= start; n++) {
-        let same = true;
-        for (let k = 0; k < size && same; k++) same = bytes[at - n * size + k] === bytes[at + k];
-        if (same) return true;
+    for (let before = at - size; before >= Math.max(start, at - LAST_ONES * size); before -= size) {
+        let k = 0;
+        while (k < size && bytes[before + k] === bytes[at + k]) k += 1;
+        if (k === size) return true;
     }
     return false;
-}
-
-/**
- * The code of a character of three bytes in UTF-8, or 0.
- * @param {Uint8Array} bytes
- * @param {number} at
- * @param {number} high
- */
-export function codeOfThree(bytes, at, high) {
-    const first = bytes[at];
-    if (first < 0xE2 || first >= 0xF0 || at + 2 >= high) return 0;
-    if ((bytes[at + 1] & 0xC0) !== 0x80 || (bytes[at + 2] & 0xC0) !== 0x80) return 0;
-    return (first & 15) << 12 | (bytes[at + 1] & 63) << 6 | bytes[at + 2] & 63;
 }

@@ -8,6 +8,8 @@ import { addStandard } from './standard.js';
 const NUMERALS = [0xA2CC, 0xA2CE];
 const CODES = pairsOf(numbersOf([0xA1, 0xF9]), numbersOf([0x40, 0x7E], [0xA1, 0xFE]));
 
-export const BIG5 = new TableEncoding({ name: 'Big5', aliases: ['CP950', 'MS950'] }, table => {
+export const BIG5 = new TableEncoding({
+    name: 'Big5', aliases: ['CP950', 'MS950'], usual: { first: 0xA440, last: 0xC67E, score: 14 },
+}, table => {
     addStandard(table, 'big5', [...CODES.filter(code => !NUMERALS.includes(code)), ...NUMERALS]);
 });

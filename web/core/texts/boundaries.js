@@ -2,7 +2,7 @@
 
 /** @typedef {import('./encoding.js').Encoding} Encoding */
 
-/** So many bytes before a place are looked at. */
+/** How far back to look for a character boundary, in bytes. */
 export const LOOKED_BACK = 2048;
 
 /** The most bytes of a character. */

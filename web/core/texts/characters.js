@@ -1,22 +1,19 @@
 // Tables of characters and their bytes, and what they are filled with.
 
-import { Fault } from '../faults.js';
+import { FAULT, Fault } from '../faults.js';
 
 const NO_CHARACTER = '\uFFFD';
 
-/** A long text is joined by so many characters, which take more memory as long as they stand by themselves. */
+/** Characters by which a long text is joined: they take more memory as long as they stand by themselves. */
 const PIECE = 1 << 12;
 
-/** Why a text has no bytes, or a table can't be read. */
-export class TextFault extends Fault {
-    /**
-     * @param {string} message
-     * @param {number} [at] where a character stands in the text that has no bytes, if that is why
-     */
-    constructor(message, at = -1) {
-        super(message);
-        this.at = at;
-    }
+/**
+ * Why a text has no bytes, or a table can't be read.
+ * @param {string} message
+ * @param {number} [at] where a character stands in the text that has no bytes, if that is why
+ */
+export function textFault(message, at = -1) {
+    return new Fault(message, FAULT.TEXT, { at });
 }
 
 /**
@@ -36,7 +33,7 @@ function shownCharacter(character) {
 export function lacks(name, text, at) {
     const place = [...text.slice(0, at)].length + 1;
     const character = String.fromCodePoint(text.codePointAt(at) || 0);
-    return new TextFault(`${name} has no ${shownCharacter(character)}, character ${place} of the text`, at);
+    return textFault(`${name} has no ${shownCharacter(character)}, character ${place} of the text`, at);
 }
 
 /**

@@ -9,7 +9,7 @@ import { bytesOfHex, hexText } from './hex.js';
 const CODE = /\{((?:[0-9A-Fa-f]{2})+)\}/;
 
 /**
- * The parts of a cell, as `Encoding.units` gives them; a code is its bytes. Throws a TextFault that names a character without bytes.
+ * The parts of a cell, as `Encoding.units` gives them; a code is its bytes. Throws a Fault, TEXT, that names a character without bytes.
  * @param {Encoding} encoding
  * @param {string} cell
  */

@@ -1,14 +1,14 @@
 // User bytes at a place of a data track and around it, and the text there.
 
 import { readBytes } from '../bytes.js';
-import { filesAt } from '../iso.js';
-import { SECTOR_SIZE, USER_SIZE, joinedUser } from '../sector.js';
+import { filesAt } from '../iso/files.js';
+import { SECTOR_SIZE, USER_SIZE, joinedUser } from '../sectors/sector.js';
 import { LONGEST_CHARACTER, LOOKED_BACK, bytesInside, charactersFrom } from './boundaries.js';
 import { hexText } from './hex.js';
 
-/** @typedef {import('../disc.js').DiscImage} DiscImage */
-/** @typedef {import('../edit.js').Place} Place */
-/** @typedef {import('../iso.js').FileEntry} FileEntry */
+/** @typedef {import('../disc/disc.js').DiscImage} DiscImage */
+/** @typedef {import('../script/replace_bytes.js').Place} Place */
+/** @typedef {import('../iso/files.js').FileEntry} FileEntry */
 /** @typedef {import('./encoding.js').Encoding} Encoding */
 /** @typedef {import('./find.js').Hit} Hit */
 /**
@@ -17,14 +17,14 @@ import { hexText } from './hex.js';
  * @typedef {{ bytes: Uint8Array, doubt: string, before: string[], hit: string, after: string[] }} Context
  */
 
-/** So many bytes around a hit are read as text, before it and after it. */
+/** Bytes that are read as text before a hit, and after it. */
 const AROUND = 24;
 
-/** So many bytes before a hit and after it are read for its context. */
+/** Bytes that are read for its context before a hit and after it. */
 const BEFORE = LOOKED_BACK + AROUND;
 const AFTER = AROUND + LONGEST_CHARACTER;
 
-/** Hits that begin in so many bytes are read for together. */
+/** Hits that begin within this many bytes are read for together. */
 const READ_TOGETHER = 1 << 19;
 
 /**

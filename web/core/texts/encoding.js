@@ -1,20 +1,24 @@
 // What an encoding is, and what can be said of each by what it has.
 
 import { joinedBytes } from '../bytes.js';
-import { CharacterTable, TextFault } from './characters.js';
+import { FAULT, failedBy } from '../faults.js';
+import { CharacterTable } from './characters.js';
 
 /**
  * One way to write texts. Options take `name` and `aliases`, in capitals or not; lists show `label`; and `find` tries it by itself if it
- * is `searched`. `space` and `wideSpace` are the texts that may fill up a shorter one, '' if it has none. `units` cuts texts into parts and
- * gives the bytes of each, first as they are usually written, then in other ways that are read as the same; `text` reads bytes, with
- * U+FFFD for a byte that begins no character. `characterAt` reads the one at a place, and how many bytes it has; `goesOn` says whether a
- * character may have bytes after one like this. `end` is the byte that ends a text, if it is not 00.
- * @typedef {{ name: string, label: string, aliases: string[], searched: boolean, space: string, wideSpace: string,
+ * is `searched`. `hasCharacters` is false if it only spells bytes. `space` and `wideSpace` are the texts that may fill up a shorter one, ''
+ * if it has none. `units` cuts texts into parts and gives the bytes of each, first as they are usually written, then in other ways that
+ * are read as the same; `text` reads bytes, with U+FFFD for a byte that begins no character. `characterAt` reads the one at a place, and
+ * how many bytes it has; `goesOn` says whether a character may have bytes after one like this. `end` is the byte that ends a text, if it
+ * is not 00. `usual` is by what its texts are told from other bytes, if it is a set of characters of a language other than Japanese.
+ * @typedef {{ name: string, label: string, aliases: string[], searched: boolean, hasCharacters: boolean, space: string, wideSpace: string,
  *     units: (text: string) => Uint8Array[][], text: (bytes: Uint8Array) => string,
- *     characterAt: (bytes: Uint8Array, at: number) => Character, goesOn: (byte: number) => boolean, end?: number }} Encoding
+ *     characterAt: (bytes: Uint8Array, at: number) => Character, goesOn: (byte: number) => boolean, end?: number,
+ *     usual?: Usual }} Encoding
  */
 /** @typedef {{ size: number, text: string }} Character how many bytes it has, and what they mean */
-/** @typedef {{ name: string, label?: string, aliases?: string[], searched?: boolean }} Names what an encoding is called */
+/** @typedef {{ first: number, last: number, score: number }} Usual pairs of bytes that stand often in texts, and what each scores */
+/** @typedef {{ name: string, label?: string, aliases?: string[], searched?: boolean, usual?: Usual }} Names what an encoding is called */
 
 export const SPACES = { space: ' ', wideSpace: '\u3000' };
 
@@ -24,11 +28,13 @@ export class TableEncoding {
      * @param {Names} names
      * @param {(table: CharacterTable) => void} fill
      */
-    constructor({ name, label = name, aliases = [], searched = false }, fill) {
+    constructor({ name, label = name, aliases = [], searched = false, usual }, fill) {
         this.name = name;
         this.label = label;
         this.aliases = aliases;
         this.searched = searched;
+        this.usual = usual;
+        this.hasCharacters = true;
         this.space = SPACES.space;
         this.wideSpace = SPACES.wideSpace;
         this.fill = fill;
@@ -77,7 +83,7 @@ export function usualBytes(units) {
 }
 
 /**
- * The bytes of a text, each part in its usual spelling. Throws a TextFault that names the first character without bytes.
+ * The bytes of a text, each part in its usual spelling. Throws a Fault, TEXT, that names the first character without bytes.
  * @param {Encoding} encoding
  * @param {string} text
  */
@@ -94,7 +100,7 @@ function bytesIfAny(encoding, text) {
     try {
         return text === '' ? null : encodeText(encoding, text);
     } catch (error) {
-        if (error instanceof TextFault) return null;
+        if (failedBy(error, FAULT.TEXT)) return null;
         throw error;
     }
 }

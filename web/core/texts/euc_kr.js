@@ -7,7 +7,9 @@ import { addStandard } from './standard.js';
 const TRAILS = numbersOf([0x41, 0x5A], [0x61, 0x7A], [0x81, 0xFE]);
 const SYLLABLES = [0xAC00, 0xD7A3];
 
-export const EUC_KR = new TableEncoding({ name: 'EUC-KR', aliases: ['CP949', 'UHC', 'KS X 1001'] }, table => {
+export const EUC_KR = new TableEncoding({
+    name: 'EUC-KR', aliases: ['CP949', 'UHC', 'KS X 1001'], usual: { first: 0xB0A1, last: 0xC8FE, score: 19 },
+}, table => {
     addStandard(table, 'euc-kr', pairsOf(numbersOf([0xA1, 0xFE]), numbersOf([0xA1, 0xFE])));
     // Those that KS X 1001 lacks come in order, where it has no codes.
     const free = [...pairsOf(numbersOf([0x81, 0xA0]), TRAILS), ...pairsOf(numbersOf([0xA1, 0xC6]), TRAILS.filter(trail => trail < 0xA1))];

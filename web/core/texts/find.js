@@ -1,13 +1,14 @@
 // Search over the user data of sectors, of any kind. A hit may lie over borders of sectors, and of the ranges that workers share.
 
 import { joinedBytes } from '../bytes.js';
-import { USER_SIZE, asWords, joinedUser, sectorCount } from '../sector.js';
+import { newBytes } from '../faults.js';
+import { USER_SIZE, asWords, joinedUser, sectorCount } from '../sectors/sector.js';
 
 /** How many bytes of a range are counted to know which are rare, and how many of the wanted ones are weighed. */
 const SAMPLES = 4000;
 const MOST_OPENINGS = 64;
 
-/** So many tries that failed are kept. */
+/** How many tries that failed are kept. */
 const KEPT_TRIES = 1 << 16;
 
 /** A part with more spellings looks the bytes at a place up, and does not compare them with each. */
@@ -50,7 +51,7 @@ export function sectorsBeyond(wanted) {
  */
 export function findIn(bytes, firstBlock, { texts, ...limits }) {
     const size = sectorCount(bytes.length) * USER_SIZE;
-    if (room.length < size) room = new Uint8Array(size);
+    if (room.length < size) room = newBytes(size);
     const user = joinedUser(bytes, room.subarray(0, size));
     return texts.map(wanted => findInUser(user, firstBlock, joinedParts(wanted), limits));
 }

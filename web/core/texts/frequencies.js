@@ -20,12 +20,19 @@ export const CHARACTERS_BY_BITS = [
     'の',
 ];
 
-/** By the kinds of two characters, in quarter bits: nothing, hiragana, katakana, kanji, signs, wide letters and digits. */
+/**
+ * By the kinds of two characters, in quarter bits: nothing, hiragana, katakana, kanji, signs, wide letters and digits; and ASCII, line
+ * ends, control codes, half-width kana.
+ */
 export const AFTER_KINDS = [
-    [0, 0, -1, 1, -3, -16],
-    [0, 2, -8, 0, 4, 4],
-    [0, -6, 6, -12, -15, -16],
-    [0, 1, -14, 4, -7, -6],
-    [0, -3, 0, 4, -12, 10],
-    [0, 1, -3, 1, 3, -16],
+    [0, 0, -1, 1, -3, -16, -12, 0, 0, -18],
+    [0, 2, -8, 0, 4, 4, -12, 0, 0, -18],
+    [0, -6, 6, -12, -15, -16, -12, 0, 0, -18],
+    [0, 1, -14, 4, -7, -6, -12, 0, 0, -18],
+    [0, -3, 0, 4, -12, 10, -12, 0, 0, -18],
+    [0, 1, -3, 1, 3, -16, -12, 0, 0, -18],
+    [0, 0, 0, 0, 0, 0, 0, 0, 0, -18],
+    [0, 0, 0, 0, 0, 0, -12, 0, 0, -18],
+    [0, 0, 0, 0, 0, 0, -12, 0, 0, -18],
+    [-8, -8, -8, -8, -8, -8, -12, -8, -8, 0],
 ];

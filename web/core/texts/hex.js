@@ -1,6 +1,6 @@
 // Bytes as hexadecimal digits.
 
-import { TextFault, lacks } from './characters.js';
+import { lacks, textFault } from './characters.js';
 
 /** @typedef {import('./encoding.js').Encoding} Encoding */
 
@@ -28,7 +28,7 @@ export function bytesOfHex(digits) {
 function notHex(text, at) {
     const place = [...text.slice(0, at)].length + 1;
     if (!/[0-9A-Fa-f]/.test(text[at])) return lacks('hex', text, at);
-    return new TextFault(`hexadecimal digits come in pairs: character ${place} of the text is half a byte`);
+    return textFault(`hexadecimal digits come in pairs: character ${place} of the text is half a byte`);
 }
 
 /** @type {Encoding} bytes in hexadecimal digits, with or without spaces and line ends between them */
@@ -37,6 +37,7 @@ export const HEX = {
     label: 'Bytes in hex',
     aliases: [],
     searched: false,
+    hasCharacters: false,
     space: '00',
     wideSpace: '',
     units(text) {

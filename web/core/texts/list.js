@@ -1,20 +1,19 @@
 // A list of texts with the new ones, as translators keep it, and the lines that replace them.
 
-import { filledUp, replaceEach } from '../edit.js';
-import { Fault } from '../faults.js';
-import { USER_SIZE } from '../sector.js';
+import { FAULT, Fault, failedBy } from '../faults.js';
+import { filledUp, replaceEach } from '../script/replace_bytes.js';
+import { USER_SIZE } from '../sectors/sector.js';
 import { rowsOf } from './cells.js';
-import { TextFault } from './characters.js';
 import { unitsOfCell } from './codes.js';
 import { bytesAround, bytesBefore } from './context.js';
 import { spaceIn, usualBytes } from './encoding.js';
 import { endOfMatch } from './find.js';
 
 /** @typedef {import('../bytes.js').Reader} Reader */
-/** @typedef {import('../codes.js').Calls} Calls */
-/** @typedef {import('../disc.js').DiscImage} DiscImage */
-/** @typedef {import('../edit.js').Change} Change */
-/** @typedef {import('../lines.js').Lines} Lines */
+/** @typedef {import('../module/calls.js').Calls} Calls */
+/** @typedef {import('../disc/disc.js').DiscImage} DiscImage */
+/** @typedef {import('../script/replace_bytes.js').Change} Change */
+/** @typedef {import('../script/sector_lines.js').Lines} Lines */
 /** @typedef {import('./encoding.js').Encoding} Encoding */
 /** A row with a new text: its number, where the old one stands, the room there that it names, or -1, and the encoding, or ''. */
 /**
@@ -108,7 +107,7 @@ function windowed(reader) {
 }
 
 /**
- * What replaces the texts of a list's rows, in the order of their places. The core has tried the lines on the sectors.
+ * What replaces the texts of a list's rows, in the order of their places. Nothing has tried the lines yet: that is done with all of them.
  * @param {Calls} calls
  * @param {DiscImage} image
  * @param {ListRow[]} rows
@@ -153,7 +152,7 @@ function isOneBlock(fitted) {
 async function* madeOf(calls, image, fitted) {
     if (fitted.length === 0) return;
     try {
-        const lines = await replaceEach(calls, image, fitted.map(({ change }) => change));
+        const lines = await replaceEach(calls, image, fitted.map(({ change }) => change), true);
         yield { number: fitted[0].row.number, lines, why: '' };
     } catch (error) {
         if (!(error instanceof Fault)) throw error;
@@ -203,7 +202,7 @@ function encodingAt(encodings, text, bytes, at) {
             const end = endOfMatch(unitsOfCell(encoding, text), bytes, at);
             if (end > at) return { encoding, size: end - at };
         } catch (error) {
-            if (!(error instanceof TextFault)) throw error;
+            if (!failedBy(error, FAULT.TEXT)) throw error;
             lacking.push(error);
         }
     }

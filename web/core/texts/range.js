@@ -1,8 +1,8 @@
 // The texts of a range of sectors, which is a part of a file.
 
-import { USER_SIZE, joinedUser } from '../sector.js';
-import { encodingOf } from '../text.js';
+import { USER_SIZE, joinedUser } from '../sectors/sector.js';
 import { cellOf } from './codes.js';
+import { encodingOf } from './encodings.js';
 import { fillingAfter } from './list.js';
 import { allScores, tableScores } from './scores.js';
 import { tableEncoding } from './table.js';
@@ -17,7 +17,7 @@ import { TextTeller } from './telling.js';
  * @typedef {{ start: number, end: number, room: number, scores: string, score: number, near: boolean, text: string }} Told
  */
 
-/** Texts go over borders of ranges: one begins after so many sectors that it sees of the one before it, and sees as many after itself. */
+/** Texts go over borders of ranges: one begins after these sectors, which it sees of the one before it, and sees as many after itself. */
 const BESIDE = 4;
 export const BEYOND = 2 * BESIDE;
 

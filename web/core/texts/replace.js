@@ -1,13 +1,12 @@
 // A text replaced by another one at the places at which it stands.
 
-import { replaceBytes } from '../edit.js';
-import { Fault } from '../faults.js';
-import { JobAborted } from '../jobs.js';
+import { Fault, cancelled } from '../faults.js';
+import { replaceBytes } from '../script/replace_bytes.js';
 import { bytesBefore, contextOf } from './context.js';
 
-/** @typedef {import('../codes.js').Calls} Calls */
-/** @typedef {import('../disc.js').DiscImage} DiscImage */
-/** @typedef {import('../lines.js').Lines} Lines */
+/** @typedef {import('../module/calls.js').Calls} Calls */
+/** @typedef {import('../disc/disc.js').DiscImage} DiscImage */
+/** @typedef {import('../script/sector_lines.js').Lines} Lines */
 /** @typedef {import('./encoding.js').Encoding} Encoding */
 /** @typedef {import('./find.js').Hit} Hit */
 /** @typedef {{ hit: Hit, lines: Lines | null, why: string }} Replaced the lines that replace a hit, or why there are none */
@@ -27,7 +26,7 @@ export function leftHitText({ hit: { block, offset }, why }) {
  * @param {DiscImage} image
  * @param {Encoding} encoding
  * @param {Hit[]} hits
- * @param {(size: number) => Uint8Array} freshFor the new bytes for so many old ones. Throws a Fault if they do not fit
+ * @param {(size: number) => Uint8Array} freshFor the new bytes for a number of old ones. Throws a Fault if they do not fit
  * @param {{ inside?: boolean, signal?: { aborted: boolean }, progress?: (done: number, all: number) => void }} how whether hits are
  *     taken too that may begin in the middle of a character
  * @returns {AsyncGenerator<Replaced>}
@@ -35,7 +34,7 @@ export function leftHitText({ hit: { block, offset }, why }) {
 export async function* replacedHits(calls, image, encoding, hits, freshFor, { inside = false, signal, progress }) {
     let end = 0;
     for (const [i, hit] of hits.entries()) {
-        if (signal && signal.aborted) throw new JobAborted();
+        if (signal && signal.aborted) throw cancelled();
         if (progress) progress(i, hits.length);
         const at = bytesBefore(image, hit);
         try {

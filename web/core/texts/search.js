@@ -1,11 +1,11 @@
 // A text searched in the user data of a data track, in one encoding or in several.
 
+import { FAULT, failedBy } from '../faults.js';
 import { unitsAlike } from './alike.js';
-import { TextFault } from './characters.js';
 import { anyBegins } from './context.js';
 import { joinFound, sectorsBeyond } from './find.js';
 
-/** @typedef {import('../disc.js').DiscImage} DiscImage */
+/** @typedef {import('../disc/disc.js').DiscImage} DiscImage */
 /** @typedef {import('../jobs.js').Sharer} Sharer */
 /** @typedef {import('../jobs.js').Sharing} Sharing */
 /** @typedef {import('./encoding.js').Encoding} Encoding */
@@ -14,7 +14,7 @@ import { joinFound, sectorsBeyond } from './find.js';
 
 /**
  * The encodings that have a text, the first of those in which it is the same bytes; the names of all that have it; and why others have
- * it not. Throws a TextFault if none has it.
+ * it not. Throws a Fault, TEXT, if none has it.
  * @param {Encoding[]} encodings
  * @param {string} text
  * @param {boolean} [loose] as `unitsAlike` takes it
@@ -30,7 +30,7 @@ export function encodingsWith(encodings, text, loose) {
             names.push(encoding.name);
             if (!spelled.has(bytes)) spelled.set(bytes, encoding);
         } catch (error) {
-            if (!(error instanceof TextFault)) throw error;
+            if (!failedBy(error, FAULT.TEXT)) throw error;
             faults.push(error);
         }
     }

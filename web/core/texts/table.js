@@ -1,6 +1,6 @@
 // A game's own tables of characters (.tbl).
 
-import { TextFault } from './characters.js';
+import { textFault } from './characters.js';
 import { TableEncoding } from './encoding.js';
 import { bytesOfHex } from './hex.js';
 
@@ -13,7 +13,7 @@ const LONGEST_LINE = 4 * (LONGEST_KEY + LONGEST_VALUE);
 
 /**
  * The encoding of the text of a `.tbl` file: lines HEX=TEXT. `*HEX` is a line end, and `/HEX=TEXT` ends a text; blank lines and those that
- * begin with `;` or `#` say nothing. A line has at most 8 bytes and a text of 64 characters. Throws a TextFault that names the line.
+ * begin with `;` or `#` say nothing. A line has at most 8 bytes and a text of 64 characters. Throws a Fault, TEXT, that names the line.
  * @param {string} file
  */
 export function tableEncoding(file) {
@@ -21,7 +21,7 @@ export function tableEncoding(file) {
     file.split(/\r?\n/).forEach((line, i) => {
         if (/^([;#]|$)/.test(line)) return;
         const why = addLine(made, line);
-        if (why !== '') throw new TextFault(`line ${i + 1} of the table${why}`);
+        if (why !== '') throw textFault(`line ${i + 1} of the table${why}`);
     });
     return made;
 }

@@ -1,17 +1,19 @@
 // Which bytes of a stretch of a disc are texts, told from code, pictures and sound by how likely they are Japanese.
 
-import { ASCII, BAD, KANJI, USUAL_KANJI, allScores } from './scores.js';
-import { CandidateFinder, SURE, isZero } from './candidates.js';
-import { codeOfThree } from './best_path.js';
+import { CandidateFinder, LESS, SURE, isZero } from './candidates.js';
+import { ASCII, BAD, KANJI, USUAL_KANJI, allScores, codeAt } from './scores.js';
 
 /** @typedef {import('./candidates.js').Candidate} Candidate */
 /** @typedef {import('./scores.js').Scores} Scores */
 
-/** What is accepted near a sure text lies within so many bytes of it, and if no 00 adjoins it, within a few. */
+/** What is accepted near a sure text lies within this many bytes of it, and if no 00 adjoins it, within a few. */
 const REACH = 64;
 const REACH_WITHOUT_ZERO = 4;
 
-/** Beside a text, over so many bytes of filling, others up to 00 are accepted from so many bits on, by a game's own table from 0 on. */
+/** If a smaller share of candidates has LESS bits more, they are there by chance. */
+const MOST_BY_CHANCE = 0.4;
+
+/** Beside a text, over this many bytes of filling, others up to 00 are accepted from a few bits on, by a game's own table from 0 on. */
 const BETWEEN = 8;
 const LEAST_BESIDE = 4;
 const LONGEST_BESIDE = 256;
@@ -20,7 +22,7 @@ const LONGEST_BESIDE = 256;
 const KANJI_BESIDE = 8;
 const RARE_BESIDE = -8;
 
-/** A text in another encoding than most of its file has to have so many bits more, and most is this share. */
+/** A text in another encoding than most of its file has to have this many bits more, and most is this share. */
 const FOREIGN = 8;
 const MAIN_SHARE = 0.8;
 
@@ -31,35 +33,28 @@ export class TextTeller {
         this.finder = new CandidateFinder(all);
     }
 
-    /** The encodings that can be told. */
-    get encodings() {
-        return this.finder.all.map(({ encoding }) => encoding);
+    /** @param {Uint8Array} bytes */
+    tell(bytes) {
+        const aligned = bytes.byteOffset % 4 === 0 ? bytes : Uint8Array.from(bytes);
+        const sure = acceptedOf(withoutOverlaps(this.finder.find(aligned)));
+        return withNeighbours(aligned, sure).flatMap(it => chainOf(aligned, it));
     }
+}
 
-    /**
-     * @param {Uint8Array} bytes
-     * @param {number} [wanted] the bits of the encodings
-     */
-    tell(bytes, wanted = this.finder.bits) {
-        const sure = acceptedOf(withoutOverlaps(this.finder.find(bytes, wanted)));
-        return this.withNeighbours(bytes, sure).flatMap(it => chainOf(bytes, it));
-    }
-
-    /**
-     * Texts with those beside them.
-     * @param {Uint8Array} bytes
-     * @param {Candidate[]} sure
-     */
-    withNeighbours(bytes, sure) {
-        /** @type {Candidate[]} */
-        const all = [];
-        sure.forEach((it, i) => {
-            const low = all.length > 0 ? all[all.length - 1].end : 0;
-            const high = i + 1 < sure.length ? sure[i + 1].start : bytes.length;
-            all.push(...textsBefore(bytes, it, low), it, ...textsAfter(bytes, it, high));
-        });
-        return all;
-    }
+/**
+ * Texts with those beside them.
+ * @param {Uint8Array} bytes
+ * @param {Candidate[]} sure
+ */
+function withNeighbours(bytes, sure) {
+    /** @type {Candidate[]} */
+    const all = [];
+    sure.forEach((it, i) => {
+        const low = all.length > 0 ? all[all.length - 1].end : 0;
+        const high = i + 1 < sure.length ? sure[i + 1].start : bytes.length;
+        all.push(...textsBeside(bytes, it, low, false).reverse(), it, ...textsBeside(bytes, it, high, true));
+    });
+    return all;
 }
 
 /**
@@ -77,17 +72,33 @@ function withoutOverlaps(candidates) {
 }
 
 /**
+ * By encodings, from which score on a text is sure that has not 00 on both sides. In sound many bytes are characters by chance: then most
+ * candidates are weak, and of the others most are so with as many bits more, and so on. It is higher by so many steps that none is left.
+ * @param {Candidate[]} candidates
+ */
+function sureWithoutZeros(candidates) {
+    const bare = candidates.filter(({ zeros }) => zeros < 2);
+    return new Map(Array.from(new Set(bare.map(({ scores }) => scores)), scores => {
+        const all = bare.filter(it => it.scores === scores);
+        const [sure, surer] = [SURE, SURE + LESS].map(least => Math.max(all.filter(({ score }) => score >= least).length, 1));
+        const share = Math.max(sure / all.length, sure > 1 ? surer / sure : 0);
+        const steps = share < MOST_BY_CHANCE ? Math.log(2 * all.length) / -Math.log(share) - 1 : 0;
+        return [scores, SURE + LESS * steps];
+    }));
+}
+
+/**
  * The candidates that are sure, and those near them in their encoding.
  * @param {Candidate[]} candidates in order
  */
 function acceptedOf(candidates) {
-    const accepted = candidates.map(it => it.score >= SURE);
+    const least = sureWithoutZeros(candidates);
+    const accepted = candidates.map(({ score, scores, zeros }) => score >= (zeros === 2 ? SURE : least.get(scores) || SURE));
     const reaches = (/** @type {number} */ i, /** @type {number} */ step) => {
-        const { before, after, scores } = candidates[i];
+        const { start, end, scores, zeros } = candidates[i];
+        const most = zeros > 0 ? REACH : REACH_WITHOUT_ZERO;
         for (let k = i + step; k >= 0 && k < candidates.length; k += step) {
-            const [first, second] = step < 0 ? [candidates[k], candidates[i]] : [candidates[i], candidates[k]];
-            const gap = second.start - first.end;
-            if (gap > REACH || (!before && !after && gap > REACH_WITHOUT_ZERO)) return false;
+            if ((step < 0 ? start - candidates[k].end : candidates[k].start - end) > most) return false;
             if (accepted[k] && candidates[k].scores === scores) return true;
         }
         return false;
@@ -104,78 +115,46 @@ function acceptedOf(candidates) {
  * @param {number} start
  * @param {number} end
  */
-function bitsOf({ wide, three, one, oneKind, pair, pairKind }, bytes, start, end) {
-    let [sum, count] = [0, 0];
+function bitsOf(scores, bytes, start, end) {
+    const { wide, size, one, oneKind, pair, pairKind } = scores;
+    let [sum, isText] = [0, false];
     for (let at = start; at < end;) {
-        const code = three ? codeOfThree(bytes, at, end) : at + 1 < end ? bytes[at] << 8 | bytes[at + 1] : 0;
-        if (code > 0 && pair[code] !== BAD) {
-            sum += pairKind[code] === KANJI ? Math.max(pair[code], pair[code] < USUAL_KANJI ? RARE_BESIDE : KANJI_BESIDE) : pair[code];
-            count += Number(pairKind[code] < ASCII);
-            at += three ? 3 : 2;
-        } else if (!wide && one[bytes[at]] !== BAD) {
-            const kind = oneKind[bytes[at]];
-            sum += kind < ASCII ? one[bytes[at]] : kind === ASCII ? -1 : -4;
-            count += Number(kind < ASCII);
-            at += 1;
-        } else return -1;
+        const code = codeAt(scores, bytes, at, end);
+        const kind = code > 0 ? pairKind[code] : oneKind[bytes[at]];
+        if (code === 0 && (wide || one[bytes[at]] === BAD)) return -1;
+        if (code > 0) sum += kind === KANJI ? Math.max(pair[code], pair[code] < USUAL_KANJI ? RARE_BESIDE : KANJI_BESIDE) : pair[code];
+        else sum += kind < ASCII ? one[bytes[at]] : kind === ASCII ? -1 : -4;
+        isText = isText || kind < ASCII;
+        at += code > 0 ? size : 1;
     }
-    return count > 0 ? sum / 4 : -1;
+    return isText ? sum / 4 : -1;
 }
 
 /**
- * A text beside another one, of the same encoding, or null.
- * @param {Uint8Array} bytes
- * @param {Candidate} beside
- * @param {number} start
- * @param {number} end
- * @returns {Candidate | null}
- */
-function neighbour(bytes, { scores }, start, end) {
-    const score = bitsOf(scores, bytes, start, end);
-    return score < (scores.own ? 0 : LEAST_BESIDE) ? null : { start, end, score, scores, before: true, after: true, near: true };
-}
-
-/**
+ * The texts on a side of another one, of the same encoding, over filling, one after the other.
  * @param {Uint8Array} bytes
  * @param {Candidate} text
- * @param {number} low where the text before it ended
+ * @param {number} limit where the text on that side ends or begins
+ * @param {boolean} isAfter
  */
-function textsBefore(bytes, text, low) {
-    const unit = text.scores.wide ? 2 : 1;
+function textsBeside(bytes, { start, end, scores }, limit, isAfter) {
+    const unit = scores.wide ? 2 : 1;
+    const step = isAfter ? unit : -unit;
+    const isIn = (/** @type {number} */ at) => isAfter ? at < limit : at - unit >= limit;
+    const isFilling = (/** @type {number} */ at) => isIn(at) && isZero(scores, bytes, isAfter ? at : at - unit);
     /** @type {Candidate[]} */
     const found = [];
-    for (let start = text.start; ;) {
-        let end = start;
-        while (end - unit >= low && isZero(text.scores, bytes, end - unit) && start - end <= BETWEEN * unit) end -= unit;
-        if (end === start || start - end > BETWEEN * unit || end <= low) return found;
-        let at = end;
-        while (at - unit >= low && !isZero(text.scores, bytes, at - unit) && end - at < LONGEST_BESIDE) at -= unit;
-        const it = at === low || isZero(text.scores, bytes, at - unit) ? neighbour(bytes, text, at, end) : null;
-        if (it === null) return found;
-        found.unshift(it);
-        start = at;
-    }
-}
-
-/**
- * @param {Uint8Array} bytes
- * @param {Candidate} text
- * @param {number} high where the next text begins
- */
-function textsAfter(bytes, text, high) {
-    const unit = text.scores.wide ? 2 : 1;
-    /** @type {Candidate[]} */
-    const found = [];
-    for (let end = text.end; ;) {
-        let start = end;
-        while (start < high && isZero(text.scores, bytes, start) && start - end <= BETWEEN * unit) start += unit;
-        if (start === end || start - end > BETWEEN * unit || start >= high) return found;
-        let at = start;
-        while (at < high && !isZero(text.scores, bytes, at) && at - start < LONGEST_BESIDE) at += unit;
-        const it = at < high && isZero(text.scores, bytes, at) ? neighbour(bytes, text, start, at) : null;
-        if (it === null) return found;
-        found.push(it);
-        end = at;
+    for (let edge = isAfter ? end : start; ;) {
+        let near = edge;
+        while (isFilling(near) && Math.abs(near - edge) <= BETWEEN * unit) near += step;
+        let far = near;
+        while (isIn(far) && !isFilling(far) && Math.abs(far - near) < LONGEST_BESIDE) far += step;
+        const isBound = near !== edge && Math.abs(near - edge) <= BETWEEN * unit && (isFilling(far) || (!isAfter && !isIn(far)));
+        const place = { start: Math.min(near, far), end: Math.max(near, far) };
+        const score = isBound ? bitsOf(scores, bytes, place.start, place.end) : -1;
+        if (score < (scores.own ? 0 : LEAST_BESIDE)) return found;
+        found.push({ ...place, score, scores, zeros: 2, near: true });
+        edge = far;
     }
 }
 

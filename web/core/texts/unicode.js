@@ -27,6 +27,7 @@ export function unicodeEncoding(name, bytesOf, goesOn, sizeAt) {
         label: name,
         aliases: [],
         searched: true,
+        hasCharacters: true,
         ...SPACES,
         units(text) {
             let at = 0;

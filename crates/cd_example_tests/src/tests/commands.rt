@@ -1,13 +1,12 @@
-//! The examples of cd_args, cd_program, cd_memory and cd_rooms.
+//! The examples of cd_args, cd_program, cd_memory and cd_memory.
 
-use cd_args::{Job, LineFault, NO_MEMORY, job_of, refusal_line};
+use cd_args::{Job, LineFault, NO_MEMORY, Settings, job_of, refusal_line};
 use cd_image::{FailAfter, Sink, SliceSink, SliceSource, ToWrite, ZeroSource};
-use cd_memory::{File, Memory, run_on_files};
+use cd_memory::{File, Memory, audit_image, list_image, run_on_files};
 use cd_program::{
     Host, LoadFault, System, load_fault_line, load_script, print_and_fail, read_script, run_apply,
     run_args, run_audit, run_check, run_list,
 };
-use cd_rooms::{audit_image, list_image};
 use cd_script::parse;
 use std::alloc::AllocError;
 use std::io;
@@ -18,6 +17,19 @@ fn no_arguments(rt: HostRuntime) -> Result<(), Fail> {
     let job = job_of(rt.alloc(), Vec::new(rt.alloc()))?; // no arguments
     assert!(rt; matches!(&job, Job::List { image, base: 0 } if image.as_str() == "-"));
     Ok(())
+}
+
+#[test]
+fn settings_of_a_job(rt: HostRuntime) -> Result<(), Fail> {
+    let job = job_of(rt.alloc(), Vec::new(rt.alloc()))?; // no arguments
+    assert_eq!(rt; (job.settings().base, job.settings().carry), (0, false));
+    Ok(())
+}
+
+#[test]
+fn settings_without_a_job(rt: HostRuntime) {
+    let settings = Settings::new(7, true);
+    assert_eq!(rt; (settings.base, settings.carry), (7, true));
 }
 
 #[test]

@@ -2,9 +2,12 @@
 
 use cd_image::{Outcome, apply, audit, check, list};
 use cd_read::read_sector;
-use cd_report::has_other_address;
+use cd_report::{
+    AuditTally, Findings, ListTally, audit_end, finding_line, has_other_address, is_any, list_end,
+    run_line,
+};
 use cd_script::parse;
-use cd_sector::{SECTOR_SIZE, Sector, USER_SIZE, encode};
+use cd_sector::{SECTOR_SIZE, Sector, SectorKind, USER_SIZE, defect, encode};
 use cd_stream::{SliceSink, SliceSource, ToWrite, ZeroSource};
 use std::io;
 use std::test::Fail;
@@ -42,6 +45,47 @@ fn an_address_of_another_block(rt: HostRuntime) {
     let sector = encode([0x00, 0x02, 0x16], &[0x00; USER_SIZE]); // its address is that of block 16
     assert!(rt; !has_other_address(&sector, 16));
     assert!(rt; has_other_address(&sector, 17));
+}
+
+#[test]
+fn the_line_of_a_run(rt: HostRuntime) {
+    let line = run_line(16, 18, SectorKind::Mode1);
+    assert_eq!(rt; line.as_slice(), b"16-18 mode1\n".as_slice());
+}
+
+#[test]
+fn the_end_of_a_listing(rt: HostRuntime) {
+    let tally = ListTally {
+        sectors: 8,
+        tail: 3,
+    };
+    let line = list_end(tally);
+    assert_eq!(rt; line.as_slice(), b"sectors 8 tail 3\n".as_slice());
+}
+
+#[test]
+fn the_line_of_a_finding(rt: HostRuntime) {
+    let sector = encode([0x00, 0x02, 0x16], &[0x00; USER_SIZE]); // its address is that of block 16
+    let found = Findings {
+        address: has_other_address(&sector, 17),
+        defect: defect(&sector),
+    };
+    assert!(rt; is_any(&found));
+    let line = finding_line(17, &found);
+    assert_eq!(rt; line.as_slice(), b"17 address\n".as_slice());
+}
+
+#[test]
+fn the_end_of_an_audit(rt: HostRuntime) {
+    let tally = AuditTally {
+        sectors: 8,
+        mode1: 6,
+        damaged: 1,
+        findings: 2,
+        tail: 3,
+    };
+    let (line, text) = (audit_end(tally), b"sectors 8 mode1 6 damaged 1 tail 3\n");
+    assert_eq!(rt; line.as_slice(), text.as_slice());
 }
 
 #[test]

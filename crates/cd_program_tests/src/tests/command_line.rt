@@ -25,6 +25,7 @@ fn asked(job: &Job) -> Asked<'_> {
             script,
             base,
             carry,
+            ..
         } => ("check", [image, script, ""], *base, *carry),
         Job::Apply {
             image,
@@ -32,6 +33,7 @@ fn asked(job: &Job) -> Asked<'_> {
             out,
             base,
             carry,
+            ..
         } => ("apply", [image, script, out], *base, *carry),
     }
 }

@@ -7,6 +7,5 @@ returns-clause-job c = (
   c.in_ok-image.ensures,
   c.in_ok-script.ensures,
   c.in_ok-out.ensures,
-  c.base_of-base.ensures.value,
-  c.carry_of-carry.ensures,
+  c.settings_of-base.ensures.has,
 )

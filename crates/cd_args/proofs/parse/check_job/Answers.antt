@@ -6,6 +6,5 @@ returns-clause-job c = (
   refl,
   c.in_ok-image.ensures,
   c.in_ok-script.ensures,
-  c.base_of-base.ensures.value,
-  c.carry_of-carry.ensures,
+  c.settings_of-base.ensures.has,
 )

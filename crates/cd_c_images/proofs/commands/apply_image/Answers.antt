@@ -1,5 +1,5 @@
 use Rattle.std.proofs.Common.{ap, rules}
-use Rattle.cd_rooms.proofs.RoomLemmas.{fills-room}
+use Rattle.cd_memory.proofs.RoomLemmas.{fills-room}
 use Rattle.cd_c_images.proofs.commands.apply_image.Goals as goal
 
 pub returns : goal.returns

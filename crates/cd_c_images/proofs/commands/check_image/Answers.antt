@@ -1,7 +1,7 @@
 use Rattle.std.proofs.Common.{rules}
 use Rattle.cd_c_images.specs.Images.{ChecksInMemory}
 use Rattle.cd_c_images.proofs.CommandLemmas.{checks-lent, checks-on}
-use Rattle.cd_rooms.proofs.RoomLemmas.{room-clauses}
+use Rattle.cd_memory.proofs.RoomLemmas.{room-clauses}
 use Rattle.cd_c_images.proofs.commands.check_image.Goals as goal
 
 pub returns-in-Ok : goal.returns-in-Ok

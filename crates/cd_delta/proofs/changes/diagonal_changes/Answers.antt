@@ -1,5 +1,5 @@
 use Rattle.std.proofs.Common.{◌+◌, ap, ◌∙◌}
-use Rattle.cd_sector.specs.CodeWords.{place_of}
+use Rattle.cd_code.specs.CodeWords.{place_of}
 use Rattle.cd_delta.proofs.changes.diagonal_changes.Goals as goal
 
 pub returns-clause-first : goal.returns-clause-first

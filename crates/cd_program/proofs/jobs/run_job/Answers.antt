@@ -8,8 +8,12 @@ returns-in-Audit g c = rw (c.in-Audit.is, ← c.as_str-in-Audit.ensures.value) a
 
 pub returns-in-Check : goal.returns-in-Check
 returns-in-Check g c =
-    rw (c.in-Check.is, ← c.as_str-in-Check.ensures.value, ← c.as_str-in-Check-2.ensures.value)
-    assumption
+    rw (
+      c.in-Check.is,
+      ← c.as_str-in-Check.ensures.value,
+      ← c.as_str-in-Check-2.ensures.value,
+      ← (rw c.in-Check.is at c.settings-settings.ensures),
+    ) assumption
 
 pub returns-in-Apply : goal.returns-in-Apply
 returns-in-Apply g c =
@@ -18,4 +22,5 @@ returns-in-Apply g c =
       ← c.as_str-image.ensures.value,
       ← c.as_str-script.ensures.value,
       ← c.as_str-path.ensures.value,
+      ← (rw c.in-Apply.is at c.settings-settings.ensures),
     ) assumption

@@ -2,6 +2,6 @@ use Rattle.std.proofs.Common.{rules}
 use Rattle.cd_report.specs.AuditText.{finding_line}
 use Rattle.cd_report.proofs.findings.finding_line.Goals as goal
 
-pub returns : goal.returns
+pub returns-clause-line : goal.returns-clause-line
 unfolding finding_line
-returns c = search rules
+returns-clause-line c = search rules

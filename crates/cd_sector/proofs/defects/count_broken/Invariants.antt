@@ -1,6 +1,6 @@
 use Rattle.std.proofs.Common.{◌≡◌, ℕ, ◌≤◌, List, length}
 use Rattle.std.specs.List.{count_by}
-use Rattle.cd_sector.specs.CodeWords.{SumsOf}
+use Rattle.cd_code.specs.CodeWords.{SumsOf}
 use Rattle.cd_sector.specs.Defect.{all_syndromes, is_broken}
 use Rattle.cd_sector.proofs.defects.count_broken.Given as goal
 

@@ -1,5 +1,5 @@
 use Rattle.std.proofs.Common.{rules}
-use Rattle.cd_sector.specs.CodeWords.{column_of}
+use Rattle.cd_code.specs.CodeWords.{column_of}
 use Rattle.cd_sector.proofs.DefectLemmas.{broken_of}
 use Rattle.cd_sector.proofs.defects.count_broken_columns.Goals as goal
 

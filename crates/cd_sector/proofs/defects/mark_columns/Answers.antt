@@ -1,4 +1,4 @@
-use Rattle.cd_sector.specs.CodeWords.{column_of}
+use Rattle.cd_code.specs.CodeWords.{column_of}
 use Rattle.cd_sector.proofs.DefectLemmas.{marks_of}
 use Rattle.cd_sector.proofs.defects.mark_columns.Goals as goal
 

@@ -1,7 +1,7 @@
 use Rattle.std.proofs.Common.{rules, ◌≡◌, ℕ, ◌<◌, ◌≤◌, length, take, get_or, sym, ◌∙◌}
 use Rattle.cd_code.specs.Edc.{bits, remainder}
 use Rattle.cd_code.specs.Field.{AreBytes}
-use Rattle.cd_sector.specs.CodeWords.{AllCodeWords}
+use Rattle.cd_code.specs.CodeWords.{AllCodeWords}
 use Rattle.cd_sector.proofs.ContentLemmas.{rebuilt}
 use Rattle.cd_sector.proofs.SectorLemmas.{sector_unique}
 use Rattle.cd_sector.proofs.encoding.rebuild.Goals as goal

@@ -1,5 +1,5 @@
 use Rattle.std.proofs.Common.{◌+◌, ◌%◌, take}
-use Rattle.cd_sector.specs.CodeWords.{column_of}
+use Rattle.cd_code.specs.CodeWords.{column_of}
 use Rattle.cd_words.specs.Words.{SumsOfEight}
 use Rattle.cd_words.proofs.columns.column_sums_at.Given as goal
 

@@ -1,0 +1,4 @@
+mod ReportLemmas
+pub mod SurveyLemmas
+mod TextSizeLemmas
+pub mod Walking

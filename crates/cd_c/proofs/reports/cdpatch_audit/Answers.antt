@@ -1,0 +1,14 @@
+use Rattle.std.proofs.Common.{ap, rules}
+use Rattle.cd_memory.proofs.RoomLemmas.{fills-counted}
+use Rattle.cd_c.proofs.ReportLemmas.{report-clauses}
+use Rattle.cd_c.proofs.TextSizeLemmas.{texts-short}
+use Rattle.cd_c.proofs.reports.cdpatch_audit.Goals as goal
+
+pub returns : goal.returns
+returns c =
+    let did = c.audit_image-status.ensures in
+    let start = c.new-findings.ensures in
+    rw c.from.ensures
+    (report-clauses (fills-counted _ c.new-findings.result c.audit_image-status.new.out _ _ start.seen
+    (ap (λ l. l.now) start.lent) did.same_bytes (search rules) did.report)
+    (λ low within. (texts-short c.args.base c.args.image.now low within).1))

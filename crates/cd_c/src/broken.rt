@@ -1,0 +1,25 @@
+//! Which code words of a sector are broken.
+
+ghost use Rattle.std.specs.Prelude.{◌≡◌, ℕ, ◌<◌, slice_index};
+ghost use Rattle.cd_code.specs.CodeWords.{column_of, diagonal_of};
+ghost use Rattle.cd_sector.specs.Defect.{broken_mark};
+
+use crate::bodies::{mark_columns, mark_diagonals};
+use cd_sector::{COLUMNS, DIAGONALS, Sector};
+
+/// Marks the columns and diagonals of a sector of any kind, as [`mark_columns`] and
+/// [`mark_diagonals`].
+#[unsafe(no_mangle)]
+pub extern "C" fn cdpatch_find_broken(
+    sector: &Sector,
+    columns: &mut [u8; COLUMNS],
+    diagonals: &mut [u8; DIAGONALS],
+)
+    ensures columns { (i : ℕ) → i < 86
+        → slice_index columns.new i ≡ broken_mark (column_of sector.now i) }
+    ensures diagonals { (i : ℕ) → i < 52
+        → slice_index diagonals.new i ≡ broken_mark (diagonal_of sector.now i) }
+{
+    mark_columns(sector, columns);
+    mark_diagonals(sector, diagonals);
+}

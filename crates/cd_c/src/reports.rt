@@ -1,0 +1,55 @@
+//! Calls of C that describe an image.
+
+ghost use Rattle.std.specs.Prelude.{◌≡◌, ◌≢◌};
+ghost use Rattle.cd_args.specs.Fault.{done_status, failed_status};
+ghost use Rattle.cd_program.specs.Commands.{audit_status};
+ghost use Rattle.cd_report.specs.AuditText.{audit_report};
+ghost use Rattle.cd_report.specs.ListText.{list_report};
+ghost use Rattle.cd_memory.specs.Reports.{ReportFails, ReportsInMemory, WritesReport};
+ghost use Rattle.cd_memory.specs.Rooms.{FillsCounted};
+ghost use Rattle.cd_c.specs.EnoughRoom.{HasEnoughRoom};
+
+use cd_memory::{audit_image, list_image};
+use cd_stream::SliceSink;
+
+/// Lists an image to `text`, as the command `list`, and returns its status. `length` gets the
+/// number of bytes that were written.
+#[unsafe(no_mangle)]
+pub extern "C" fn cdpatch_list(image: &[u8], base: u32, text: &mut [u8], length: &mut usize) -> u32
+    ensures report { FillsCounted
+        (λ out out'. ReportsInMemory (list_report base) (λ _. done_status) base image.now out out'
+        result)
+        text.old text.new length.new }
+    ensures text { result ≢ failed_status → WritesReport (list_report base) (λ _. done_status)
+        image.now text.old text.new length.new result }
+    ensures failed { result ≡ failed_status → ReportFails (list_report base) base image.now
+        text.old length.new }
+    ensures enough { HasEnoughRoom base image.now text.old → result ≢ failed_status }
+{
+    let mut listing = SliceSink::new(text);
+    let status = list_image(image, base, &mut listing);
+    *length = listing.used;
+    let _text = listing.space; // so that the contract can name what it holds
+    u32::from(status)
+}
+
+/// Audits an image to `text`, as the command `audit`, and returns its status. `length` gets the
+/// number of bytes that were written.
+#[unsafe(no_mangle)]
+pub extern "C" fn cdpatch_audit(image: &[u8], base: u32, text: &mut [u8], length: &mut usize) -> u32
+    ensures report { FillsCounted
+        (λ out out'. ReportsInMemory (audit_report base) audit_status base image.now out out'
+        result)
+        text.old text.new length.new }
+    ensures text { result ≢ failed_status → WritesReport (audit_report base) audit_status
+        image.now text.old text.new length.new result }
+    ensures failed { result ≡ failed_status → ReportFails (audit_report base) base image.now
+        text.old length.new }
+    ensures enough { HasEnoughRoom base image.now text.old → result ≢ failed_status }
+{
+    let mut findings = SliceSink::new(text);
+    let status = audit_image(image, base, &mut findings);
+    *length = findings.used;
+    let _text = findings.space; // so that the contract can name what it holds
+    u32::from(status)
+}

@@ -1,5 +1,0 @@
-use Rattle.cd_c_reports.proofs.TextSizeLemmas.{texts-short}
-use Rattle.cd_c_reports.proofs.short_texts.texts_are_short.Goals as goal
-
-pub returns : goal.returns
-returns c = texts-short

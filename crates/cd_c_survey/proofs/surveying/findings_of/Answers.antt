@@ -1,7 +1,0 @@
-use Rattle.std.proofs.Common.{rules, tests}
-use Rattle.cd_report.specs.AuditText.{findings_of}
-use Rattle.cd_c_survey.proofs.surveying.findings_of.Goals as goal
-
-pub returns : goal.returns
-unfolding findings_of
-returns c = search (tests, rules)

@@ -1,0 +1,2 @@
+pub mod DiagonalLemmas
+pub mod SumLemmas

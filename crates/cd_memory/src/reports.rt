@@ -1,0 +1,66 @@
+//! The commands that need no script on an image in memory, each to memory that was lent. A base that
+//! no image has is a failure, with nothing written.
+
+ghost use Rattle.std.specs.Prelude.{◌≡◌, ◌<◌};
+ghost use Rattle.cd_args.specs.Fault.{done_status};
+ghost use Rattle.cd_program.specs.Commands.{audit_status};
+ghost use Rattle.cd_report.specs.AuditText.{audit_report};
+ghost use Rattle.cd_report.specs.ListText.{list_report};
+ghost use Rattle.cd_memory.specs.Reports.{ReportsInMemory};
+ghost use Rattle.cd_stream.specs.Adapters.{lent_to, slice_outgoing};
+ghost use Rattle.cd_stream.specs.Stream.{CanCountFailure};
+
+use cd_args::FAILED;
+use cd_program::{run_audit, run_list};
+use cd_report::MAX_BASE;
+use cd_stream::{SliceSink, SliceSource};
+
+/// Lists an image to `out`, whose first block has the number `base`, as [`run_list`], and returns
+/// the status: 0; or 2 if no image has the base, the image is too long, or the slice is full.
+///
+/// # Examples
+///
+/// ```
+/// let mut text = [0; 64];
+/// let mut listing = SliceSink::new(&mut text);
+/// assert_eq!(rt; list_image(&[0; 2353], 7, &mut listing), 0);
+/// assert_eq!(rt; listing.used, 28);
+/// assert!(rt; text.starts_with(b"7-7 nosync\nsectors 1 tail 1\n"));
+/// ```
+pub fn list_image(image: &[u8], base: u32, out: &mut SliceSink<'_>) -> u8
+    requires { CanCountFailure (slice_outgoing out.old).failures }
+    ensures report { ReportsInMemory (list_report base) (λ _. done_status) base image.now
+        (slice_outgoing out.old) (slice_outgoing out.new) result }
+    ensures same_slice { out.new.space.ghost_name ≡ out.old.space.ghost_name }
+    ensures same_bytes { (lent_to out.new).now ≡ (lent_to out.old).now }
+{
+    if base > MAX_BASE {
+        return FAILED;
+    }
+    run_list(&mut SliceSource::new(image), base, out)
+}
+
+/// Audits an image to `out`, whose first block has the number `base`, as [`run_audit`], and returns
+/// the status: 0; 1 if it has a finding; or 2 if no image has the base, the image is too long, or
+/// the slice is full.
+///
+/// # Examples
+///
+/// ```
+/// let mut text = [0; 64];
+/// let mut findings = SliceSink::new(&mut text);
+/// assert_eq!(rt; audit_image(&[0; 2352], 0, &mut findings), 0);
+/// assert!(rt; text.starts_with(b"sectors 1 mode1 0 damaged 0 tail 0\n"));
+/// ```
+pub fn audit_image(image: &[u8], base: u32, out: &mut SliceSink<'_>) -> u8
+    requires { CanCountFailure (slice_outgoing out.old).failures }
+    ensures report { ReportsInMemory (audit_report base) audit_status base image.now
+        (slice_outgoing out.old) (slice_outgoing out.new) result }
+    ensures same_slice { out.new.space.ghost_name ≡ out.old.space.ghost_name }
+    ensures same_bytes { (lent_to out.new).now ≡ (lent_to out.old).now }
+{
+    if base > MAX_BASE {
+        return FAILED;
+    }
+    run_audit(&mut SliceSource::new(image), base, out)
+}

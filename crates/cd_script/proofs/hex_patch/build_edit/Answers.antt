@@ -1,5 +1,0 @@
-use Rattle.std.proofs.Common.{rules}
-use Rattle.cd_script.proofs.hex_patch.build_edit.Goals as goal
-
-pub returns-in-Address : goal.returns-in-Address
-returns-in-Address c = search rules

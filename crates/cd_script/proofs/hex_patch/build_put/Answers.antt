@@ -1,5 +1,0 @@
-use Rattle.std.proofs.Common.{rules}
-use Rattle.cd_script.proofs.hex_patch.build_put.Goals as goal
-
-pub returns : goal.returns
-returns c = search rules

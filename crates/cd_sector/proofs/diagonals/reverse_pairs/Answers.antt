@@ -1,5 +1,0 @@
-use Rattle.cd_sector.proofs.DiagonalLemmas.{rising_lane}
-use Rattle.cd_sector.proofs.diagonals.reverse_pairs.Goals as goal
-
-pub returns : goal.returns
-returns c = rising_lane c.args.v c.args.v c.fits-v.0

@@ -1,8 +1,0 @@
-use Rattle.cd_sector.specs.CodeWords.{column_of}
-use Rattle.cd_sector.proofs.DefectLemmas.{marks_of}
-use Rattle.cd_words.proofs.defects.mark_columns.Goals as goal
-
-pub returns : goal.returns
-returns c = marks_of column_of c.args.s.now c.bytes.result.now 86 c.args.marks.now c.mark_broken.new.marks
-    c.column_sums-sums.result.plain c.column_sums-sums.result.weighted c.told-marks c.bytes.ensures.bytes
-    c.column_sums-sums.ensures c.mark_broken.ensures

@@ -1,0 +1,186 @@
+#!/usr/bin/env bash
+# What the tests of the program as a process share. They source it with the program as the argument, and end with `finish`,
+# whose last line is 'N passed, M failed'. Each runs in a directory of its own, which is gone afterwards.
+set -u
+tests=$(cd "$(dirname "${BASH_SOURCE[0]}")/.." && pwd)
+top=$(dirname "$tests")
+program=$(realpath "${1:-$top/cdpatch}")
+vectors=$top/crates/cd_vectors/data/cdrkit-8.bin
+. "$tests/lib/judging.sh"
+cd "$scratch" || exit 1
+
+# compiled NAME PURPOSE: whether a library of the C source of this name could be made, as NAME.so; else its purpose is skipped.
+compiled() {
+    gcc -shared -fPIC -O2 -o "$1.so" "$tests/process/$1.c" -ldl 2> compiler_errors ||
+        skip "$2, which wants gcc and the C library's headers (Debian's packages gcc and libc6-dev)"
+    [ -e "$1.so" ]
+}
+
+# judge_tap NAME: judges each test of which node wrote a line to `tap`, and says how many were skipped, and for want of what.
+judge_tap() {
+    local line count lacking
+    while IFS= read -r line; do
+        judge "$1: ${line#* - }" [ "${line%%ok *}" = '' ]
+    done < <(grep -v ' # SKIP no ' tap | sed -nE 's/^ *((not )?ok [0-9]+ - )/\1/p')
+    sed -nE "s/^ *ok [0-9]+ - (.*) # SKIP no .*/$1: \1/p" tap >> "$scratch/held"
+    while read -r count lacking; do
+        case $lacking in
+            iconv) lacking+=" (Debian's package libc-bin)" ;;
+            terminal) lacking="a terminal (Debian's package bsdutils)" ;;
+            right*) lacking="a $lacking" ;;
+            genisoimage | python3) lacking+=" (Debian's package $lacking)" ;;
+        esac
+        skip "$1: $count of its tests, which want $lacking"
+    done < <(sed -nE 's/^ *ok .* # SKIP no (.*)/\1/p' tap | sort | uniq -c)
+}
+
+# test_by_name WHAT WORD..: runs node's tests with these words, and judges each by its name.
+test_by_name() {
+    judge "all tests of $1" tests_in_node "${@:2}"
+    judge_tap "$1"
+    [ "$failed" = 0 ] || grep -E -A 12 '^ *not ok' tap | head -n 60
+}
+
+tests_in_node() { node --test-reporter=tap "$@" > tap 2>&1; }
+
+# refuse_wrong SUITE WHAT EXPRESSION: tries the wrong versions of a suite. Of what held, sed's expression makes the names of the tests that
+# pass on the right version.
+refuse_wrong() {
+    local verdict name why number=0
+    wrong_versions "wrong ${2}s" || return
+    sed -n "$3" "$scratch/held" > passed
+    while read -r verdict name why; do
+        number=$((number + 1))
+        name=${name%:}
+        case $verdict in
+            refused) judge "a wrong $2 is refused: ${name//_/ }" true ;;
+            skipped) skip "a wrong $2 is refused: ${name//_/ }: $why" ;;
+            *) judge "a wrong $2 is refused: $verdict $name: $why" false ;;
+        esac
+    done < <(/usr/bin/python3 -B "$tests/wrong/versions.py" "$1" --passed passed 2>&1)
+    judge "each wrong $2 was tried" test "$number" -ge "$(find "$tests/wrong/$1" -name '*.edit' | wc -l)"
+}
+
+# run WORD..: the program with these words, its text in `log`.
+run() {
+    "$program" "$@" > log 2> errors < /dev/null
+    status=$?
+}
+
+# ended STATUS TEXT: whether the last run had this status, wrote just this text, said nothing on standard error, and left the
+# image and the script as they were.
+ended() {
+    printf '%b' "$2" > wanted
+    [ "$status" = "$1" ] && cmp -s wanted log && [ ! -s errors ] && cmp -s image image.kept && cmp -s script script.kept
+}
+
+# A run ended so, and there is no file `out`.
+ended_without_output() {
+    ended "$1" "$2" && [ ! -e out ] && [ ! -L out ]
+}
+
+# keep: what stands in `image` and `script` is what they have to keep.
+keep() {
+    cp image image.kept
+    cp script script.kept
+}
+
+# cut_vectors: the eight sectors that other software wrote, as `sector.0` to `sector.7`.
+cut_vectors() {
+    split -b 2352 -a 1 -d "$vectors" sector.
+}
+
+# joined NUMBER..: these sectors, one after the other.
+joined() {
+    cat "${@/#/sector.}"
+}
+
+# The bytes of the standard input as hex digits.
+hex() {
+    od -An -v -tx1 | tr -d ' \n'
+}
+
+# within FILE WHOLE: whether FILE is a prefix of WHOLE.
+within() {
+    cmp -s -n "$(stat -c %s "$1")" "$1" "$2"
+}
+
+# ---- a large image: three buffers of 28 sectors, and a tail
+
+# Its sectors are those that other software wrote, over and over, and ten that are blank. Its patches make each of the others
+# another one of the eight: they give it that one's address and user data. So the right bytes are known without the program.
+blocks=84
+blank_from=40
+blank_to=49
+
+# Which of the eight sectors stands at a block, and which is there afterwards; `blank` for both where it is blank.
+old_at() { if is_blank "$1"; then echo blank; else echo $(($1 % 8)); fi; }
+new_at() { if is_blank "$1"; then echo blank; else echo $(((5 * $1 + 3) % 8)); fi; }
+is_blank() { (($1 >= blank_from && $1 <= blank_to)); }
+
+# list_text TAIL: what a list of the large image says, with a tail of so many bytes.
+list_text() {
+    printf '0-39 mode1\n40-49 nosync\n50-83 mode1\nsectors 84 tail %d\n' "$1"
+}
+
+# audit_text TAIL: what an audit says. The sectors have the addresses of the blocks 0 to 7.
+audit_text() {
+    local block
+    for ((block = 8; block < blocks; block++)); do
+        is_blank $block || echo "$block address"
+    done
+    printf 'sectors 84 mode1 74 damaged 0 tail %d\n' "$1"
+}
+
+# Two patches for each block that is not blank, from the last block down, so that they are taken in another order than they
+# stand in.
+large_script() {
+    local block new
+    echo 'cdpatch 2'
+    for ((block = blocks - 1; block >= 0; block--)); do
+        is_blank $block && continue
+        new=$(new_at $block)
+        echo "address $block 00:02:0$new"
+        echo "set $block 0 ${user[new]}"
+    done
+}
+
+# What is printed for these patches.
+large_log() {
+    local block line=$((2 * 74))
+    for ((block = 0; block < blocks; block++)); do
+        is_blank $block && continue
+        printf 'line %d: applied\nline %d: applied\n' $line $((line + 1))
+        line=$((line - 2))
+    done
+    echo 'applied 148 refused 0'
+}
+
+# Makes the files that the large image is joined from, its script and its texts: `large.script`, `large.log`.
+prepare_large() {
+    local number block
+    cut_vectors
+    head -c 2352 /dev/zero > sector.blank
+    head -c 2351 /dev/zero | tr '\0' 'A' > sector.tail
+    user=()
+    for number in 0 1 2 3 4 5 6 7; do
+        user+=("$(tail -c +17 sector.$number | head -c 2048 | hex)")
+    done
+    old=()
+    new=()
+    for ((block = 0; block < blocks; block++)); do
+        old+=("$(old_at $block)")
+        new+=("$(new_at $block)")
+    done
+    large_script > large.script
+    large_log > large.log
+}
+
+# make_large TAIL: makes `image`, `patched`, `list.log` and `audit.log` of the large image with a tail of so many bytes.
+make_large() {
+    head -c "$1" sector.tail > sector.end
+    joined "${old[@]}" end > image
+    joined "${new[@]}" end > patched
+    list_text "$1" > list.log
+    audit_text "$1" > audit.log
+}

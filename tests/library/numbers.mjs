@@ -1,0 +1,29 @@
+// `numbers.mjs NUMBERS` prints a program in C that compiles if cdpatch.h has the numbers and the structs of a module of numbers in JavaScript.
+
+import { pathToFileURL } from 'node:url';
+
+/** @type {Record<string, number | Record<string, number>>} */
+const numbers = await import(pathToFileURL(process.argv[2]).href);
+
+/** @param {string} fact */
+const holds = fact => console.log(`_Static_assert(${fact}, "");`);
+
+/**
+ * A struct of the header, if this is its name here.
+ * @param {string} name
+ */
+const structOf = name => name.endsWith('_STRUCT') ? `struct cdpatch_${name.slice(0, -'_STRUCT'.length).toLowerCase()}` : '';
+
+console.log('#include <cdpatch.h>');
+for (const [name, value] of Object.entries(numbers)) {
+    if (typeof value === 'number') {
+        holds(`CDPATCH_${name} == ${value}`);
+        continue;
+    }
+    const struct = structOf(name);
+    for (const [member, number] of Object.entries(value)) {
+        if (struct === '') holds(`CDPATCH_${member} == ${number}`);
+        else if (member === 'BYTES') holds(`sizeof(${struct}) == ${number}`);
+        else holds(`offsetof(${struct}, ${member.toLowerCase()}) == ${number}`);
+    }
+}

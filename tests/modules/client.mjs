@@ -1,0 +1,195 @@
+// What a client makes of the calls that take no memory: the four commands on an image.
+
+import { Room, Size } from './calls.mjs';
+import { sameByRuns } from './run.mjs';
+
+/** @typedef {import('./calls.mjs').Calls} Calls */
+/** @typedef {{ status: number, text: Uint8Array, out: Uint8Array | null }} Answer */
+/** @typedef {{ number: number, block: number, record: Uint8Array, fresh: Uint8Array, old: Uint8Array }} Patch */
+
+export const SECTOR = 2352;
+const PATCH_SIZE = 4096;
+const LINE_SIZE = 96;
+const PIECE = 256;
+const PATCH_RECORD = 16;
+const RECORD_SIZE = 6;
+const MOST_IN_HAND = 3;
+const [KIND, DEFECT] = [0, 2]; // where the kind of a record stands, and where its defect begins
+const MODE1 = 2;
+const PATCH = 3;
+const SET = 0;
+const NO_HEAD = 4;
+const NO_VERSION = 14;
+
+/** @param {Uint8Array} bytes the memory of a record */
+const fields = bytes => new DataView(bytes.buffer, bytes.byteOffset, bytes.length);
+
+/**
+ * A line that a call makes.
+ * @param {Calls} calls
+ * @param {string} name
+ * @param {...(number | Uint8Array)} given
+ */
+function lineBy(calls, name, ...given) {
+    const room = new Room(LINE_SIZE);
+    const size = Number(calls.call(name, ...given, room));
+    if (room.bytes.subarray(size).some(byte => byte !== 0xA5)) throw new Error('bytes changed after a line');
+    return room.bytes.subarray(0, size);
+}
+
+/**
+ * The lines of a text. A call gets only a piece of it, since what it gets is copied.
+ * @param {Calls} calls
+ * @param {Uint8Array} text
+ */
+function* linesOf(calls, text) {
+    for (let rest = text, most = PIECE; ;) {
+        const piece = rest.subarray(0, most);
+        const found = new Room(16);
+        if (!calls.call('cdpatch_first_line', piece, new Size(piece.length), found)) return;
+        const [size, taken] = [0, 8].map(at => Number(fields(found.bytes).getBigUint64(at, true)));
+        if (taken === piece.length && taken < rest.length) {
+            most *= 2; // The line may go on after the piece.
+            continue;
+        }
+        yield rest.subarray(0, size);
+        rest = rest.subarray(taken);
+        most = PIECE;
+    }
+}
+
+/**
+ * The patches of a script, in the order in which they are applied, or the line of its fault.
+ * @param {Calls} calls
+ * @param {Uint8Array} text
+ * @returns {Patch[] | Uint8Array}
+ */
+export function script(calls, text) {
+    const patches = [];
+    const [record, fresh, old] = [new Room(PATCH_RECORD), new Room(PATCH_SIZE), new Room(PATCH_SIZE)];
+    let [version, number] = [0, 0];
+    for (const line of linesOf(calls, text)) {
+        number += 1;
+        const content = Number(calls.call('cdpatch_read_line', version, number, new Size(patches.length), line,
+            new Size(line.length), record, fresh, old));
+        if (content >= NO_HEAD && content <= NO_VERSION) return lineBy(calls, 'cdpatch_fault_line', number, content);
+        if (content === PATCH) {
+            const count = fields(record.bytes).getUint16(6, true);
+            const [set, hasOld] = [record.bytes[8] === SET, record.bytes[9] === 1];
+            patches.push({ number, block: fields(record.bytes).getUint32(0, true), record: record.bytes.slice(),
+                fresh: fresh.bytes.slice(0, set ? count : 0), old: old.bytes.slice(0, hasOld ? count : 0) });
+        } else {
+            version = content || version;
+        }
+    }
+    if (version === 0) return lineBy(calls, 'cdpatch_fault_line', number + 1, NO_HEAD);
+    return patches.sort((a, b) => a.block - b.block);
+}
+
+/**
+ * `check` and `apply`.
+ * @param {Calls} calls
+ * @param {{ image: Uint8Array, base: number, carry: boolean, script: Uint8Array }} given
+ * @returns {Answer}
+ */
+export function apply(calls, { image, base, carry, script: text }) {
+    const given = { image, base, carry, script: text };
+    const patches = script(calls, text);
+    if (patches instanceof Uint8Array) return sameByRuns(calls, given, { status: 2, text: patches, out: null });
+    const out = image.slice();
+    const end = image.length - image.length % SECTOR;
+    const [fresh, old] = [new Uint8Array(PATCH_SIZE), new Uint8Array(PATCH_SIZE)];
+    const log = [];
+    let applied = 0;
+    for (const patch of patches) {
+        const first = (patch.block - base) * SECTOR;
+        const last = Math.min(first + MOST_IN_HAND * SECTOR, end);
+        const there = first >= 0 && first < last;
+        const hand = new Room(there ? out.subarray(first, last) : 0);
+        const place = new Room(8);
+        fresh.set(patch.fresh);
+        old.set(patch.old);
+        const outcome = Number(calls.call('cdpatch_apply_patch', patch.record, fresh, old, hand,
+            new Size(hand.bytes.length / SECTOR), carry, place));
+        const where = fields(place.bytes);
+        log.push(lineBy(calls, 'cdpatch_outcome_line', patch.number, outcome, where.getUint32(0, true), where.getUint16(4, true)));
+        applied += Number(outcome === 0);
+        if (there) out.set(hand.bytes, first);
+    }
+    log.push(lineBy(calls, 'cdpatch_last_line', applied, patches.length - applied));
+    return sameByRuns(calls, given, { status: Number(applied < patches.length), text: Buffer.concat(log), out });
+}
+
+/**
+ * A record of each sector of an image.
+ * @param {Calls} calls
+ * @param {Uint8Array} image
+ * @param {number} base
+ */
+function survey(calls, image, base) {
+    const count = Math.floor(image.length / SECTOR);
+    const records = new Room(RECORD_SIZE * count);
+    const sectors = image.subarray(0, SECTOR * count);
+    if (!calls.call('cdpatch_survey', sectors, new Size(count), base, records, new Size(count))) throw new Error('no survey');
+    return Array.from({ length: count }, (_, i) => records.bytes.subarray(RECORD_SIZE * i, RECORD_SIZE * (i + 1)));
+}
+
+/**
+ * The text of a call that reports on an image, and its status.
+ * @param {Calls} calls
+ * @param {string} name
+ * @param {Uint8Array} image
+ * @param {number} base
+ * @returns {Answer}
+ */
+function reported(calls, name, image, base) {
+    const [room, length] = [new Room(100 + 40 * Math.floor(image.length / SECTOR)), new Room(8)];
+    const status = Number(calls.call(name, image, new Size(image.length), base, room, new Size(room.bytes.length), length));
+    return { status, text: room.bytes.subarray(0, Number(fields(length.bytes).getBigUint64(0, true))), out: null };
+}
+
+/**
+ * An answer by the survey, which is that of the call that reports.
+ * @param {Calls} calls
+ * @param {string} name
+ * @param {Uint8Array} image
+ * @param {number} base
+ * @param {Answer} made
+ */
+function agreed(calls, name, image, base, made) {
+    const due = reported(calls, name, image, base);
+    if (due.status !== made.status || Buffer.compare(due.text, made.text) !== 0) throw new Error(`${name} prints another text than its survey`);
+    return made;
+}
+
+/**
+ * `list`.
+ * @param {Calls} calls
+ * @param {{ image: Uint8Array, base: number }} given
+ */
+export function list(calls, { image, base }) {
+    const lines = [];
+    const kinds = survey(calls, image, base).map(record => record[KIND]);
+    for (let first = 0, i = 1; i <= kinds.length; i++) {
+        if (kinds[i] === kinds[first]) continue;
+        lines.push(lineBy(calls, 'cdpatch_list_line', base + first, base + i - 1, kinds[first]));
+        first = i;
+    }
+    lines.push(lineBy(calls, 'cdpatch_list_end', kinds.length, image.length % SECTOR));
+    return agreed(calls, 'cdpatch_list', image, base, { status: 0, text: Buffer.concat(lines), out: null });
+}
+
+/**
+ * `audit`.
+ * @param {Calls} calls
+ * @param {{ image: Uint8Array, base: number }} given
+ */
+export function audit(calls, { image, base }) {
+    const records = survey(calls, image, base);
+    const lines = records.map((record, i) => lineBy(calls, 'cdpatch_audit_line', base + i, record));
+    const mode1 = records.filter(record => record[KIND] === MODE1).length;
+    const damaged = records.filter(record => record.subarray(DEFECT).some(value => value !== 0)).length;
+    const status = Number(lines.some(line => line.length > 0));
+    lines.push(lineBy(calls, 'cdpatch_audit_end', records.length, mode1, damaged, image.length % SECTOR));
+    return agreed(calls, 'cdpatch_audit', image, base, { status, text: Buffer.concat(lines), out: null });
+}

@@ -1,0 +1,21 @@
+// The CRC-32 of bytes in parts, against the known one and that of gzip.
+
+import assert from 'node:assert/strict';
+import test from 'node:test';
+import { gzipSync } from 'node:zlib';
+
+import { page } from './page.mjs';
+
+const { crc32 } = await page('app/crc32.js');
+
+test('the CRC-32 is that of gzip, in whatever parts the bytes come', () => {
+    assert.equal(crc32(0, new TextEncoder().encode('123456789')), 0xCBF43926);
+    const bytes = Uint8Array.from({ length: 1000 }, (_, i) => i * i >>> 3);
+    for (const [from, to, cut] of [[0, 1000, 500], [0, 0, 0], [1, 1000, 7], [3, 20, 9], [4, 1000, 996]]) {
+        const part = bytes.subarray(from, to);
+        const packed = gzipSync(part);
+        const due = packed.readUInt32LE(packed.length - 8);
+        assert.equal(crc32(0, part), due, `${from} to ${to}`);
+        assert.equal(crc32(crc32(0, part.subarray(0, cut)), part.subarray(cut)), due, `${from} to ${to}, cut at ${cut}`);
+    }
+});

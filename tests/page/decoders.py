@@ -1,0 +1,34 @@
+"""What a browser reads in bytes and pairs of bytes, against the tables of the page: those are the Encoding Standard's, whatever engine made them."""
+
+import json
+import subprocess
+from collections.abc import Callable
+from typing import Any
+
+import common
+
+READ = '''const [label, codes] = arguments;
+const decoder = new TextDecoder(label);
+return codes.map(code => decoder.decode(Uint8Array.from(code < 256 ? [code] : [code >> 8, code & 255])));'''
+TABLES = f"""import {{ encodingOf }} from '{common.TOP}/web/core/texts/encodings.js';
+const others = name => [...encodingOf(name).table.meanings()].filter(({{ bytes }}) => bytes[0] >= 0x80);
+const codeOf = bytes => bytes.reduce((code, byte) => code << 8 | byte);
+const all = NAMES.map(name => others(name).map(({{ bytes, text }}) => [codeOf(bytes), text]));
+console.log(JSON.stringify(all));"""
+
+
+def tables() -> dict[str, dict[int, str]]:
+    """By the standard's labels what is beside ASCII in the encodings of other languages, as node makes them."""
+    known = {it['name']: it['label'] for it in common.encodings() if 'label' in it}
+    program = TABLES.replace('NAMES', json.dumps(list(known)))
+    given = subprocess.run(['node', '--input-type=module', '-e', program], stdout=subprocess.PIPE, check=True)
+    return {label: dict(pairs) for label, pairs in zip(known.values(), json.loads(given.stdout))}
+
+
+def differing(run: Callable[..., Any]) -> list[str]:
+    """The codes that a browser reads otherwise, as 'label code'. `run` runs a script in the browser."""
+    found = []
+    for label, pairs in tables().items():
+        read = run(READ, label, list(pairs))
+        found += [f'{label} {code:X}' for code, text in zip(pairs, read) if pairs[code] != text]
+    return found

@@ -1,0 +1,63 @@
+// What the tests of the page's logic share: its modules, which WEB names if they are not in web/, and calls.
+
+import { readFileSync } from 'node:fs';
+import { join } from 'node:path';
+import { fileURLToPath, pathToFileURL } from 'node:url';
+
+export const top = fileURLToPath(new URL('../..', import.meta.url));
+const web = process.env.WEB ?? join(top, 'web');
+
+/** @param {string} name a module of the page */
+export const page = name => import(pathToFileURL(join(web, 'page', name)).href);
+
+/** @param {string} name a module of the core */
+export const core = name => import(pathToFileURL(join(web, 'core', name)).href);
+
+const { Calls } = await core('module/calls.js');
+
+export const calls = new Calls(new WebAssembly.Module(readFileSync(join(top, 'library/cdpatch.wasm'))));
+
+const { Sha1 } = await page('app/sha1.js');
+
+/** A worker that hashes. */
+class HashWorker {
+    constructor() {
+        this.sha1 = new Sha1(calls);
+    }
+
+    postMessage({ module, bytes }) {
+        if (module) return;
+        if (bytes) this.sha1.add(bytes);
+        const digest = bytes ? null : this.sha1.digest();
+        setImmediate(() => this.onmessage({ data: { digest, crc: 0 } }));
+    }
+
+    terminate() {}
+}
+
+/** The parts of a page whose workers hash. */
+export const parts = { module: true, newWorker: () => new HashWorker() };
+
+/** An image of sound sectors with this user data, which are filled up with zeros. */
+export function imageOf(users) {
+    const bytes = new Uint8Array(2352 * users.length);
+    users.forEach((user, block) => {
+        const all = new Uint8Array(2048);
+        all.set(user);
+        bytes.set(calls.encode(calls.address(block), all), 2352 * block);
+    });
+    return imageOfBytes(bytes);
+}
+
+/** An image of these bytes, whose first sector is block 0. */
+export function imageOfBytes(bytes) {
+    const reader = { size: bytes.length, read: async (at, length) => bytes.slice(at, at + length) };
+    return { name: 'game.bin', bytes, reader, base: 0, addressed: 0, sectors: Math.floor(bytes.length / 2352) };
+}
+
+/** What writes make of a file. */
+export async function writtenBy(writes) {
+    const bytes = new Uint8Array(Math.max(0, ...writes.map(({ position, data }) => position + (data.size ?? data.length))));
+    for (const { position, data } of writes) bytes.set(new Uint8Array(await new Blob([data]).arrayBuffer()), position);
+    return Buffer.from(bytes.buffer);
+}

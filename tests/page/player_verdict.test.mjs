@@ -1,0 +1,115 @@
+// What a player's image is to a patcher, as far as its patches say it.
+
+import assert from 'node:assert/strict';
+import { createHash } from 'node:crypto';
+import { test } from 'node:test';
+import { calls, imageOf, imageOfBytes, page, parts } from './page.mjs';
+
+const { isPatched, judgeImage } = await page('player/verdict.js');
+const { reasonForPlayer, reasonsOf } = await page('player/reason.js');
+const { applyPatches } = await page('../core/script/patches.js');
+const { bytesOfPieces } = await page('../core/bytes.js');
+const { scriptFor } = await page('save/patch_job.js');
+
+const app = { calls, parts };
+const ascii = text => new TextEncoder().encode(text);
+const game = imageOf([ascii('hello'), ascii('world'), ascii('again')]);
+
+/** The image that a script makes. */
+async function patchedBy(script, image = game) {
+    const { pieces, status } = await applyPatches(calls, image.reader, await scriptFor(app, script, 0), { base: 0 });
+    assert.equal(status, 0);
+    const parts = [];
+    for await (const bytes of bytesOfPieces(image.reader, pieces)) parts.push(...bytes);
+    return imageOfBytes(Uint8Array.from(parts));
+}
+
+/** The image with another byte in it. */
+function changed(image, at, sectors = image.sectors) {
+    const bytes = image.bytes.slice(0, sectors * 2352);
+    bytes[at] ^= 255;
+    return imageOfBytes(bytes);
+}
+
+function judged(image, script, more = {}) {
+    const data = { base: 0, carry: false, script, image: { size: image.bytes.length, sha1: '' }, result: '', ...more };
+    return judgeImage(app, data, image, { signal: { aborted: false }, progress() {} });
+}
+
+const isDone = (image, script) => isPatched(app, { reader: image.reader, base: 0, script });
+
+const sha1 = ({ bytes }) => createHash('sha1').update(bytes).digest('hex');
+
+test('an image is patched already if the script changes nothing in it, whose patches overlap too', async () => {
+    for (const script of ['cdpatch 1\nset 0 0 4A was 68\n', 'cdpatch 1\nset 0 0 4142 was 6865\nset 0 1 4344 was 426C\nfill 1 0 3 20\nrebuild 2\n']) {
+        const made = await patchedBy(script);
+        assert.equal(await isDone(made, script), true);
+        assert.equal(await isDone(game, script), false);
+        assert.equal(await isDone(changed(made, 16), script), false);
+        assert.equal((await judged(made, script, { result: sha1(made) })).verdict, 'patched');
+    }
+});
+
+test('a verdict says whether other bytes or damage refuse the patches', async () => {
+    const script = 'cdpatch 1\nset 0 0 4A was 68\nset 1 0 4A was 77\n';
+    const other = imageOf([ascii('hello'), ascii('earth'), ascii('again')]);
+    const { verdict, refused, patches, words } = await judged(other, script);
+    assert.deepEqual([verdict, refused, patches, words], ['other', [5], 2, 'refused: old bytes differ at block 1 offset 0']);
+    assert.deepEqual(await judged(changed(game, 2352 + 400), script).then(it => [it.verdict, it.refused]), ['damaged', [2]]);
+    assert.deepEqual(await judged(changed(game, 2352 * 2 - 2, 1), script).then(it => [it.verdict, it.refused]), ['other', [4]]);
+    assert.deepEqual(await judged(changed(game, 2352 + 4), script).then(it => [it.verdict, it.refused]), ['other', [1]]);
+});
+
+test('each reason that refuses a place has its own words', () => {
+    const words = reasonsOf(9, [5, 5, 2, 1, 4]);
+    assert.deepEqual(words.map(it => it.split('. ')[0]), ['2 of 9 places hold other bytes', '1 of 9 places is damaged',
+        '1 of 9 places holds no data here', '1 of 9 places is not in this image']);
+    assert.deepEqual(reasonsOf(2, [2]).filter(it => it.includes('release')), []);
+});
+
+globalThis.Node = class {};
+globalThis.document = { createElement: () => ({ text: '', append(...more) { this.text += more.join(''); } }) };
+
+/** A verdict, and what stands under it. */
+async function said(image, script, more = {}) {
+    const it = await judged(image, script, more);
+    const reason = reasonForPlayer(it, image.bytes.length, (more.image ?? { size: image.bytes.length }).size);
+    return [it.verdict, reason && reason.text];
+}
+
+test('only the SHA-1 says that an image is right or patched', async () => {
+    const script = 'cdpatch 1\nset 3 0 00 was 41\nset 4 0 00 was 42\n';
+    const author = imageOf([1, 2, 3, 4, 5].map(() => ascii('A')));
+    const zeros = imageOf([1, 2, 3, 4, 5, 6, 7].map(() => new Uint8Array(2)));
+    const image = { size: author.bytes.length, sha1: sha1(author) };
+    const [verdict, words] = await said(zeros, script, { image });
+    assert.equal(verdict, 'changed');
+    assert.equal(words, 'There is nothing to patch. But this is not the image that the author made: its SHA-1 is another one. ' +
+        'Your image has 16,464 bytes, and the author’s has 11,760.');
+    assert.equal((await said(zeros, script, { image, result: sha1(zeros) }))[0], 'patched');
+    assert.equal((await said(author, 'cdpatch 1\nset 3 0 42\n', { image }))[0], 'right');
+    const without = 'cdpatch 1\nset 3 0 00\n';
+    assert.equal((await said(zeros, without, { image }))[0], 'changed');
+});
+
+test('an image fits only if it is as long as the author’s and all that is written names its old bytes', async () => {
+    const size = game.bytes.length;
+    const other = changed(game, 2352 * 2 + 20);
+    const image = { size, sha1: '' };
+    const set = 'set 0 0 4A was 68\n';
+    const rows = [
+        [`${set}set 1 0 41 was 77\n`, image, 'fits', /^All 2 places hold the bytes that the author saw\. The rest of the disc differs/],
+        [set, image, 'fits', /^The place holds/],
+        [`${set}set 1 0 41\n`, image, 'unknown', /^1 of 2 changes names no old bytes, so nothing shows whether it fits\.$/],
+        ['set 0 0 41\nfill 1 0 100 00\n', image, 'unknown', /^2 of 2 changes name no old bytes, so nothing shows whether they fit\.$/],
+        [`${set}fill 1 0 1 41\n`, image, 'unknown', /^1 of 2/],
+        [`${set}rebuild 1\n`, image, 'unknown', /^1 of 2/],
+        [set, { size: size + 2352, sha1: '' }, 'unknown', /^The place holds .* Your image has 7,056 bytes, and the author’s has 9,408\.$/],
+    ];
+    for (const [lines, wanted, verdict, words] of rows) {
+        const [it, text] = await said(other, `cdpatch 1\n${lines}`, { image: wanted });
+        assert.equal(it, verdict, lines);
+        assert.match(text, words);
+    }
+    assert.equal((await said(other, 'cdpatch 2\naddress 1 00:02:05\n', { image }))[0], 'unknown');
+});

@@ -1,0 +1,72 @@
+// Scripts that are too long for their lines to be shown.
+
+import assert from 'node:assert/strict';
+import { test } from 'node:test';
+import { calls, page } from './page.mjs';
+
+const { ScriptLines } = await page('app/script_lines.js');
+const { isLong } = await page('app/script_long.js');
+
+test('a script is too long above 4 MB, or 150,000 lines', () => {
+    assert.equal(isLong(`cdpatch 1\n${'#'.repeat(3999990)}`), false);
+    assert.equal(isLong(`cdpatch 1\n${'#'.repeat(3999991)}`), true);
+    assert.equal(isLong('\n'.repeat(149999)), false);
+    assert.equal(isLong('\n'.repeat(150000)), true);
+});
+
+test('of the longest script whose lines are shown each line is read once, and once more if it has too many patches', () => {
+    let read = 0;
+    const counting = Object.create(calls);
+    counting.readLine = function (...given) {
+        read += 1;
+        return calls.readLine.apply(this, given);
+    };
+    for (const [line, rounds] of [['#', 1], ['x', 1], ['rebuild 7', 2], ['x'.repeat(20), 1]]) {
+        const text = `cdpatch 1\n${`${line}\n`.repeat(149990)}`.slice(0, 4000000);
+        assert.equal(isLong(text), false);
+        const lines = new ScriptLines(counting);
+        read = 0;
+        lines.replace(text, 'x.txt');
+        assert.equal(lines.lines.length, 149992);
+        assert.ok(read <= rounds * lines.lines.length, `${line}: ${read}`);
+    }
+});
+
+test('the words of a fault are made once, however many lines have it', () => {
+    const lines = new ScriptLines(calls);
+    lines.replace(`cdpatch 1\n${'x\nset 0 0\n'.repeat(500)}`, '', '');
+    let made = 0;
+    const faultLine = calls.faultLine.bind(calls);
+    calls.faultLine = (number, fault) => { made += 1; return faultLine(number, fault); };
+    try {
+        const words = lines.lines.map((_, i) => lines.wordsAt(i));
+        assert.deepEqual([words[0], words[1], words[999], words[1001]], ['', 'unknown verb', 'unknown verb', '']);
+        assert.equal(words[2], words[1000]);
+        assert.notEqual(words[2], '');
+    } finally {
+        calls.faultLine = faultLine;
+    }
+    assert.equal(made, 2);
+});
+
+test('a long script takes the place of all lines, is given out whole, and makes way for them again', () => {
+    const lines = new ScriptLines(calls);
+    lines.edit(1, 1, ['rebuild 7', 'x']);
+    const long = `cdpatch 1\n${'#'.repeat(5000000)}`;
+    lines.setLong(long, 'long.txt');
+    assert.equal(lines.text(), long);
+    assert.deepEqual([lines.lines.map(({ text }) => text), lines.faults, lines.name, lines.isSaved()], [[''], 0, 'long.txt', false]);
+    lines.noteSaved();
+    assert.equal(lines.isSaved(), true);
+    lines.setLong(`${long}\n`, 'longer.txt');
+    assert.equal(lines.isSaved(), false);
+    assert.equal(lines.undo(), -1);
+    lines.leaveLong();
+    assert.deepEqual([lines.text(), lines.patches, lines.faults, lines.name], ['cdpatch 1\nrebuild 7\nx', 1, 1, '']);
+    assert.equal(lines.undo(), 1);
+    lines.setLong(long, 'long.txt');
+    lines.replace('cdpatch 2\nrebuild 8\n', 'short.txt');
+    assert.deepEqual([lines.text(), lines.name, lines.version], ['cdpatch 2\nrebuild 8\n', 'short.txt', 2]);
+    assert.equal(lines.undo(), 0);
+    assert.deepEqual([lines.text(), lines.name], ['cdpatch 1\n', '']);
+});

@@ -1,0 +1,46 @@
+// What is said of sectors: the bytes at which broken codes cross, and findings grouped into places.
+
+import assert from 'node:assert/strict';
+import { test } from 'node:test';
+import { calls, imageOf, page } from './page.mjs';
+
+const { crossingsOf } = await page('disc/crossings.js');
+const { otherBase, placeGuess, placesOf } = await page('disc/places.js');
+const { MARK, SurveyMarks } = await page('app/marks.js');
+
+test('bytes are named at which broken columns and diagonals cross', () => {
+    const { bytes } = imageOf([new Uint8Array(8)]);
+    bytes[500] ^= 3;
+    const { crossings, columns, diagonals } = crossingsOf(calls, bytes);
+    assert.deepEqual([crossings.filter(at => at < 2076), columns, diagonals], [[500], 1, 1]);
+});
+
+test('a place ends if 700 sectors follow without a finding', () => {
+    const marks = new Uint8Array(5000);
+    for (const i of [10, 709, 1409, 2109]) marks[i] = MARK.EDC;
+    assert.deepEqual(placesOf({ marks, known: 2000 }).map(({ first, last, sectors }) => [first, last, sectors.length]), [[10, 709, 2], [1409, 1409, 1]]);
+    assert.equal(placesOf({ marks, known: 5000 }).length, 3);
+});
+
+/** What is found in ten sectors with these addresses, of which some are damaged. */
+function marksOf(base, addresses, damaged = []) {
+    const records = new Uint8Array(60);
+    addresses.forEach((address, i) => records.set([2, Number(address !== base + i), 0, Number(damaged.includes(i)), 0, 0], 6 * i));
+    const marks = new SurveyMarks(base, 10);
+    marks.add(records, 10);
+    return marks;
+}
+
+test('a base by which no sector has its address is not called copy protection, and another one is offered', () => {
+    const addresses = Array.from({ length: 10 }, (_, i) => i);
+    const all = [...addresses];
+    const wrong = marksOf(100, addresses, all);
+    assert.deepEqual(placesOf(wrong).map(place => placeGuess(place, wrong.isElsewhere())), ['another base?']);
+    assert.equal(otherBase({ base: 100, addressed: 0 }, wrong), 0);
+    const right = marksOf(0, addresses, all);
+    assert.deepEqual(placesOf(right).map(place => placeGuess(place, right.isElsewhere())),
+        ['10 in a row: perhaps on purpose (copy protection)']);
+    const one = marksOf(100, [100, ...addresses.slice(1)]);
+    const cases = [[0, 0, right], [100, 0, one], [100, null, wrong], [0, -150, wrong]];
+    assert.deepEqual(cases.map(([base, addressed, marks]) => otherBase({ base, addressed }, marks)), [null, null, null, null]);
+});

@@ -1,0 +1,31 @@
+// Cue sheets in which files get other names.
+
+import assert from 'node:assert/strict';
+import { test } from 'node:test';
+import { page } from './page.mjs';
+
+const { sheetNaming } = await page('save/cue_rewrite.js');
+
+test('a file is named anew in the lines that name it, and all else stays', () => {
+    const rows = {
+        'FILE "game.bin" BINARY': 'FILE "new.bin" BINARY', '  file game.bin  BINARY \r': '  file "new.bin"  BINARY \r',
+        'FILE "C:\\x\\GAME.BIN" BINARY': 'FILE "new.bin" BINARY', 'FILE my/game.bin MOTOROLA': 'FILE "new.bin" MOTOROLA',
+    };
+    for (const [line, wanted] of Object.entries(rows)) assert.equal(sheetNaming(`REM\n${line}\nREM`, [['game.bin', 'new.bin']]), `REM\n${wanted}\nREM`);
+    const spaces = 'FILE a b.bin BINARY\nFILE "a b.bin" WAVE';
+    assert.equal(sheetNaming(spaces, [['a b.bin', 'x.bin']]), 'FILE "x.bin" BINARY\nFILE "x.bin" WAVE');
+});
+
+test('a sheet that does not name the file is none', () => {
+    for (const line of ['FILE "other.bin" BINARY', 'FILE game.bin', 'FILE "game.bin BINARY', 'FILE', 'PROFILE game.bin BINARY', 'REM FILE "game.bin" BINARY',
+        'FILE "game.bin"BINARY', 'FILE "game.bin" BINARY MORE']) assert.equal(sheetNaming(line, [['game.bin', 'new.bin']]), '', line);
+});
+
+test('a long line with many gaps takes no longer than any other', () => {
+    const gaps = ' '.repeat(40000);
+    const lines = [`FILE a${gaps}b${gaps}\u2028x y`, `FILE a${' '.repeat(50000)}b${' '.repeat(50000)}`, `FILE ${'a '.repeat(50000)}`, ' '.repeat(100000), `FILE "${'" '.repeat(50000)}`,
+        `${'FILE a b\n'.repeat(12500)}`, `FILE a${'\u2028 '.repeat(50000)}`];
+    const began = performance.now();
+    for (const line of lines) assert.equal(sheetNaming(line, [['game.bin', 'new.bin']]), '');
+    assert.ok(performance.now() - began < 20000, `${performance.now() - began} ms`);
+});

@@ -1,0 +1,117 @@
+// What the page knows: typed bytes and lines of the script, and what ends its jobs.
+
+import assert from 'node:assert/strict';
+import { test } from 'node:test';
+import { calls, imageOf, page } from './page.mjs';
+
+const { App } = await page('app/state.js');
+const { Typing } = await page('disc/typing.js');
+
+test('a byte that is typed twice keeps what was there first', () => {
+    const app = new App(calls, null, null);
+    const typing = new Typing(app);
+    for (const [offset, byte, before] of [[5, 0x41, 1], [6, 0x42, 2], [5, 0x43, 0x41], [7, 0x44, 3]]) typing.type(9, offset, byte, before);
+    assert.equal(app.script.text(), 'cdpatch 1\nset 9 5 434244 was 010203\n');
+    typing.type(9, 100, 0x45, 4);
+    assert.equal(app.script.text(), 'cdpatch 1\nset 9 5 434244 was 010203\nset 9 100 45 was 04\n');
+    app.script.edit(0, 1, ['cdpatch 1', '# first']);
+    typing.type(9, 101, 0x46, 5);
+    assert.equal(app.script.text(), 'cdpatch 1\n# first\nset 9 5 434244 was 010203\nset 9 100 4546 was 0405\n');
+    app.script.edit(3, 1, ['set 9 100 4546 was 0405 ']);
+    typing.type(9, 102, 0x47, 6);
+    assert.equal(app.script.text(), 'cdpatch 1\n# first\nset 9 5 434244 was 010203\nset 9 100 4546 was 0405 \nset 9 102 47 was 06\n');
+});
+
+test('who takes another script is given back the one that was in no file', () => {
+    const app = new App(calls, null, null);
+    const backs = [];
+    app.on('script', change => { backs.push(change.back); });
+    app.setScript('cdpatch 1\nrebuild 1\n', 'a.txt', true);
+    app.addLines(['rebuild 2']);
+    app.setScript('cdpatch 1\nrebuild 3\n', 'b.txt', true);
+    assert.deepEqual(backs.map(back => back !== null), [false, false, true]);
+    app.script.edit(1, 1, ['rebuild 4']);
+    assert.equal(backs[2](), 1);
+    assert.deepEqual([app.script.name, app.script.text()], ['a.txt', 'cdpatch 1\nrebuild 1\nrebuild 2\n']);
+});
+
+test('a job with the second image ends with it, and the next one goes on', async () => {
+    const app = new App(calls, null, null);
+    const ended = [];
+    const begin = () => app.runPair(async signal => new Promise(done => {
+        signal.addEventListener('abort', () => { ended.push(signal); done(); });
+    }));
+    const jobs = [begin(), begin()];
+    app.endPairing();
+    await Promise.all(jobs);
+    assert.equal(ended.length, 2);
+    begin();
+    assert.equal(ended.length, 2);
+});
+
+test('saves are counted until they end, and nothing but their Cancel ends them', async () => {
+    const app = new App(calls, null, null);
+    const ends = [];
+    const save = () => app.runSave((signal, cancel) => new Promise((done, fail) => {
+        signal.addEventListener('abort', () => fail(new Error('cancelled')));
+        ends.push({ signal, cancel, done });
+    }));
+    const saves = [save(), save()];
+    assert.equal(app.saves, 2);
+    app.endPairing();
+    app.closing.abort();
+    assert.deepEqual(ends.map(({ signal }) => signal.aborted), [false, false]);
+    ends[0].cancel();
+    await assert.rejects(saves[0], /cancelled/);
+    assert.equal(app.saves, 1);
+    ends[1].done();
+    await saves[1];
+    assert.equal(app.saves, 0);
+});
+
+test('each change is told to who listens, after it', () => {
+    const app = new App(calls, null, null);
+    const told = [];
+    const names = ['image', 'second', 'survey', 'surveyed', 'hash', 'files', 'place', 'script', 'line', 'encoding', 'panel', 'patcher'];
+    for (const name of names) app.on(name, detail => told.push([name, detail, app.image, app.second, app.files, app.encoding, app.panel]));
+    const after = change => {
+        told.length = 0;
+        change();
+        return told.map(([name]) => name).join(' ');
+    };
+    const [image, second] = [imageOf([Uint8Array.of(1)]), imageOf([Uint8Array.of(2)])];
+    const signal = app.setImage(image);
+    assert.equal(after(() => app.setImage(image)), 'image second');
+    assert.deepEqual([told[0][2], signal.aborted, app.reading.signal.aborted], [image, true, false]);
+    assert.equal(after(() => app.setSecond(second)), 'second');
+    assert.equal(told[0][3], second);
+    let survey = null;
+    assert.equal(after(() => { survey = app.beginSurvey(0, 1); }), 'survey');
+    app.addToSurvey(survey, { block: 0, records: calls.survey(image.bytes, 0) });
+    assert.deepEqual([survey.known, survey.marks.mode1(), app.survey === survey], [1, 1, true]);
+    assert.equal(after(() => app.endSurvey(survey, true)), 'survey surveyed');
+    assert.ok(survey.over && survey.ended > 0);
+    assert.equal(after(() => app.setFiles({ files: [] })), 'files');
+    assert.deepEqual(told[0][4], { files: [] });
+    assert.equal(after(() => app.setSums(image, { sha1: 'ab', crc32: 'cd' })), 'hash');
+    assert.deepEqual([told[0][1], image.sha1, image.crc32], [2352, 'ab', 'cd']);
+    assert.equal(after(() => app.addTable('game.tbl', {})), 'encoding');
+    assert.deepEqual([told[0][5], app.tables.has('game.tbl')], ['game.tbl', true]);
+    assert.equal(after(() => app.goToLine(4)), 'panel line');
+    assert.deepEqual([told[0][6], told[1][1]], ['script', 4]);
+    assert.equal(after(() => app.goTo(5, 6, true)), 'panel place');
+    assert.deepEqual([told[1][1], app.place], [{ show: true, comes: true }, { block: 5, offset: 6 }]);
+    app.setImage(null);
+    assert.deepEqual([app.image, app.second, app.survey, app.files, app.place], [null, null, null, null, { block: -1, offset: -1 }]);
+});
+
+test('a service is given back to who had it', async () => {
+    const app = new App(calls, null, null);
+    const opened = [];
+    app.serve({ open: async files => void opened.push('page', ...files) });
+    const giveBack = app.serve({ open: async files => void opened.push('player', ...files) });
+    await app.open([1]);
+    giveBack();
+    await app.open([2]);
+    assert.deepEqual(opened, ['player', 1, 'page', 2]);
+});

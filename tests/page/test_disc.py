@@ -1,0 +1,540 @@
+"""The panel Disc: opening, the map, findings, the program's texts, a sector and what is typed there."""
+
+import math
+import random
+import subprocess
+import unittest
+import zipfile
+import zlib
+from pathlib import Path
+
+import chromium
+import discs
+from common import PAGE, SECTOR_SIZE, TOP, Server, damaged, folder, image_of, run_program, sector, sha1, waited
+from sector import SYNC
+from selenium.webdriver.common.action_chains import ActionChains
+from selenium.webdriver.common.keys import Keys
+
+VERDICT = '#disc-line .lead'
+SECTORS = len(discs.game()) // SECTOR_SIZE
+
+# What workers are given to survey waits until `letGo` posts so many of it, or all and what comes later; also what they hash if `hashWaits`.
+HELD = '''const { postMessage } = Worker.prototype; Object.assign(globalThis, { waiting: [], holds: true, hashWaits: false });
+Worker.prototype.postMessage = function (...given) {
+    const post = () => postMessage.apply(this, given);
+    if (holds && (given[0].pieces || (hashWaits && given[0].hash))) waiting.push(post);
+    else post();
+};
+globalThis.letGo = (count = Infinity) => {
+    globalThis.holds = count < Infinity;
+    waiting.splice(0, count).forEach(post => post());
+};'''
+
+
+def scratched(tail: bytes = b'') -> bytes:
+    """The game with nine damaged sectors, one with another address, two without a sync field, a little audio and a tail."""
+    image = bytearray(discs.game())
+    for block in range(30, 66, 4):
+        for at in range(3):
+            image[block * SECTOR_SIZE + 300 + at] ^= 0x5A + at
+    image[90 * SECTOR_SIZE:91 * SECTOR_SIZE] = sector(3000, b'elsewhere')
+    for block in (100, 101):
+        image[block * SECTOR_SIZE:block * SECTOR_SIZE + 12] = bytes(12)
+    dice = random.Random(3)
+    return bytes(image) + dice.randbytes(40 * SECTOR_SIZE) + tail
+
+
+def file_of(data: bytes, name: str = 'game.bin') -> Path:
+    path = folder('disc') / name
+    path.write_bytes(data)
+    return path
+
+
+class Disc(unittest.TestCase):
+    browser: chromium.Chromium
+
+    @classmethod
+    def setUpClass(cls) -> None:
+        cls.browser = chromium.shared()
+
+    def setUp(self) -> None:
+        self.browser.open(PAGE)
+        self.browser.wait('#open-files')
+        self.browser.attempts()
+
+    def opened(self, *paths: Path) -> chromium.Chromium:
+        """The page, which was just opened, with these files, read to the end."""
+        browser = self.browser
+        browser.give('#files', paths)
+        browser.wait(VERDICT, 'Mode 1')
+        return browser
+
+    def place(self) -> str:
+        return str(self.browser.run("return document.querySelector('#map').getAttribute('aria-valuetext')"))
+
+    def at(self) -> int:
+        return int(self.browser.run("return document.querySelector('#map').getAttribute('aria-valuenow')"))
+
+    def wait_for_bytes(self) -> None:
+        """Until the bytes of the sector have the focus."""
+        name = "return document.activeElement.getAttribute('aria-label')"
+        waited(lambda: self.browser.run(name) == 'Bytes of the sector', 'no focus in the sector')
+
+    def typed_script(self) -> str:
+        """The script in its panel, as it is saved."""
+        self.browser.click('#tab-script')
+        self.browser.run("[...document.querySelectorAll('#panel-script button')].find(it => it.innerText === 'Save script…').click()")
+        path = self.browser.downloaded('script.txt')
+        text = str(waited(path.read_text, 'the script is empty'))
+        path.unlink()
+        return text
+
+    # ---- opening
+
+    def test_it_opens_by_the_button_from_a_file_and_sends_nothing(self) -> None:
+        image = scratched()
+        browser = self.opened(file_of(image))
+        self.assertEqual(browser.text(VERDICT).split('.')[0], f'9 of {SECTORS - 2} Mode 1 sectors are damaged, in 1 place; '
+                         '2 lost their sync field or mode; 1 has another address')
+        browser.wait('.sha1', sha1(image))
+        self.assertEqual(browser.attempts(), [])
+
+    def test_it_opens_by_a_drop_from_a_server_and_asks_it_for_nothing_more(self) -> None:
+        server = Server(PAGE.parent)
+        self.addCleanup(server.close)
+        browser = self.browser
+        browser.open(f'{server.url}/{PAGE.name}')
+        browser.wait('#open-files')
+        browser.drop('#drop', [file_of(discs.game())])
+        browser.wait(VERDICT, f'All {SECTORS} Mode 1 sectors are sound')
+        browser.wait('.sha1', sha1(discs.game()))
+        self.assertEqual(browser.attempts(), [])
+        self.assertEqual([line for line in server.requests if PAGE.name not in line], [])
+
+    def test_a_cue_sheet_is_opened_with_its_bins(self) -> None:
+        place = folder('cue')
+        first, music, second = (place / f'game (Track {number}).bin' for number in (1, 2, 3))
+        first.write_bytes(discs.game())
+        music.write_bytes(random.Random(4).randbytes(500 * SECTOR_SIZE))
+        second.write_bytes(image_of([b'second', b'track'] * 40, base=680 + 150))
+        sheet = place / 'game.cue'
+        tracks = ((1, first, 'MODE1/2352'), (2, music, 'AUDIO'), (3, second, 'MODE1/2352'))
+        sheet.write_text(''.join(f'FILE "{path.name}" BINARY\n  TRACK {number:02} {kind}\n    INDEX 01 00:00:00\n'
+                                 for number, path, kind in tracks))
+        browser = self.opened(sheet, music, second, first)
+        self.assertIn('game.cue', browser.text('#disc-line'))
+        self.assertEqual(browser.text('#disc-line .name'), first.name)
+        browser.run('''const choice = document.querySelector('#disc-line select'); choice.value = '3';
+            choice.dispatchEvent(new Event('change'))''')
+        browser.wait('#disc-line .name', second.name)
+        browser.wait(VERDICT, 'All 80 Mode 1 sectors are sound')
+        self.assertEqual(browser.text('#disc-line dl dd').split()[0], '830')
+
+    def test_a_cue_sheet_by_itself_says_what_to_open(self) -> None:
+        place = folder('cue')
+        sheet = place / 'game.cue'
+        sheet.write_text(''.join(f'FILE "game (Track {i}).bin" BINARY\n  TRACK 0{i} {kind}\n    INDEX 01 00:00:00\n'
+                                 for i, kind in ((1, 'MODE1/2352'), (2, 'AUDIO'))))
+        self.browser.give('#files', [sheet])
+        self.browser.wait('.say.bad', 'Select or drop the cue sheet and these together:')
+        self.assertIn('game (Track 1).bin, game (Track 2).bin', self.browser.text('.say.bad'))
+
+    def test_what_is_no_raw_image_is_named_with_what_to_do(self) -> None:
+        place = folder('others')
+        with zipfile.ZipFile(place / 'game.zip', 'w') as packed:
+            packed.writestr('game.bin', b'x' * 5000)
+        iso = b''.join(discs.game()[at + 16:at + 2064] for at in range(0, len(discs.game()), SECTOR_SIZE))
+        others = {'game.chd': (b'MComprHD' + bytes(5000), 'chdman extractcd -i "game.chd"'), 'game.iso': (iso, 'an ISO image'),
+                  'game.zip': ((place / 'game.zip').read_bytes(), 'an archive'), 'game.ecm': (b'ECM\0' + bytes(99), 'unecm'),
+                  'game.txt': (b'hello', 'Choose a raw image'), 'game.bin': (b'', 'an empty file')}
+        browser = self.browser
+        for name, (data, words) in others.items():
+            with self.subTest(name):
+                browser.give('#files', [file_of(data, name)])
+                browser.wait('.say.bad', words)
+                self.assertIn(name, browser.text('.say.bad'))
+                self.assertEqual(browser.run("return document.querySelector('#start').hidden"), False)
+
+    def test_a_cue_sheet_says_which_files_it_does_not_name(self) -> None:
+        sheet = folder('cue') / 'game.cue'
+        sheet.write_text('FILE "game.bin" BINARY\n  TRACK 01 MODE1/2352\n    INDEX 01 00:00:00\n')
+        browser = self.opened(sheet, file_of(discs.game()), file_of(scratched(), 'other.bin'))
+        browser.wait('#messages', 'Not opened: other.bin.')
+        self.assertIn('The cue sheet does not name it: game.cue.', browser.text('#messages'))
+        self.assertEqual(browser.text('#disc-line .name'), 'game.bin')
+
+    def test_a_packed_image_beside_a_script_has_a_command_that_any_shell_takes(self) -> None:
+        browser = self.browser
+        browser.give('#files', [file_of(b'cdpatch 1\n', 'a.txt'), file_of(b'MComprHD' + bytes(5000), "it's $HOME.chd")])
+        browser.wait('.say.bad', "A compressed image (CHD), which cdpatch cannot read: it's $HOME.chd")
+        command = browser.text('.say.bad .line-out')
+        words = subprocess.run(['sh', '-c', f'printf "%s\\n" {command}'], stdout=subprocess.PIPE, check=True).stdout.decode().splitlines()
+        self.assertEqual(words, ['chdman', 'extractcd', '-i', 'disc.chd', '-o', 'disc.cue', '-ob', 'disc.bin'])
+
+    def test_an_image_of_audio_is_shown(self) -> None:
+        audio = random.Random(4).randbytes(500 * SECTOR_SIZE)
+        sheet = file_of(b'FILE "game.bin" BINARY\n  TRACK 01 AUDIO\n    INDEX 01 00:00:00\n', 'game.cue')
+        for sheets in ((), (sheet,)):
+            with self.subTest(sheets=len(sheets)):
+                self.setUp()
+                browser = self.opened(file_of(audio), *sheets)
+                browser.wait(VERDICT, 'There is no Mode 1 sector here')
+                browser.wait('.sha1', sha1(audio))
+                browser.find('#map').send_keys(Keys.END)
+                waited(lambda: self.place() == 'Block 499, no sync field: audio, or nothing that is known', self.place())
+
+    def test_more_images_than_one_beside_the_open_one_are_refused(self) -> None:
+        browser = self.opened(file_of(discs.game()))
+        browser.give('#files', [file_of(scratched(), 'a.bin'), file_of(discs.game(), 'b.bin')])
+        browser.wait('.say.bad', 'An image is open already: game.bin.')
+        self.assertIn('Open one more, a.bin or b.bin, to compare it.', browser.text('.say.bad'))
+        self.assertEqual(browser.text('#disc-line .name'), 'game.bin')
+
+    def test_workers_that_can_read_no_file_are_given_bytes(self) -> None:
+        browser = self.browser
+        browser.run('''const real = Worker.prototype.postMessage; globalThis.posted = { files: 0, bytes: 0 };
+            Worker.prototype.postMessage = function (message, ...given) {
+                const pieces = message.pieces?.map(piece => piece.file ? { ...piece, file: new Blob() } : piece);
+                if (pieces) posted[pieces[0].file ? 'files' : 'bytes'] += 1;
+                real.call(this, pieces ? { ...message, pieces } : message, ...given);
+            }''')
+        image = scratched() * 120
+        browser.give('#files', [file_of(image)])
+        browser.wait(VERDICT, '1,080 of 21,600 Mode 1 sectors are damaged')
+        browser.wait('.sha1', sha1(image))
+        files, bytes_given = browser.run('return [posted.files, posted.bytes]')
+        self.assertEqual(bytes_given, math.ceil(len(image) / SECTOR_SIZE / 1024))
+        self.assertTrue(0 < files < bytes_given, files)
+
+    def test_all_hashes_are_copied(self) -> None:
+        browser = self.opened(file_of(discs.game()))
+        browser.wait('.sha1', sha1(discs.game()))
+        browser.run('navigator.clipboard.writeText = async text => { globalThis.copied = text; }')
+        browser.run("[...document.querySelectorAll('#disc-line button')].find(it => it.innerText === 'Copy all hashes').click()")
+        lines = ['game.bin', f'size {len(discs.game())}', f'CRC-32 {zlib.crc32(discs.game()):08x}', f'SHA-1 {sha1(discs.game())}', '']
+        self.assertEqual(browser.run('return globalThis.copied'), '\n'.join(lines))
+
+    def test_the_style_is_that_of_the_sources(self) -> None:
+        """What esbuild squeezes has the same rules."""
+        rules = '''const source = new CSSStyleSheet(); source.replaceSync(arguments[0]);
+            const text = rule => rule.cssText.replace(/,\\s+/g, ',');
+            return [source, document.styleSheets[0]].map(sheet => [...sheet.cssRules].map(text))'''
+        source, joined = self.browser.run(rules, (TOP / 'web/page/style.css').read_text(encoding='utf-8'))
+        self.assertGreater(len(source), 100)
+        self.assertEqual(joined, source)
+
+    def test_two_files_of_one_name_are_refused(self) -> None:
+        browser = self.browser
+        browser.give('#files', [file_of(discs.game()), file_of(scratched())])
+        browser.wait('.say.bad', 'Two of these files have one name')
+
+    def test_a_file_that_is_gone_is_said(self) -> None:
+        path = file_of(discs.game())
+        browser = self.opened(path)
+        browser.wait('.sha1', sha1(discs.game()))
+        path.write_bytes(bytes(100))
+        browser.find('#map').send_keys(Keys.END)
+        browser.wait('.say.bad', 'cannot be read any more')
+        self.assertIn('game.bin', browser.text('.say.bad'))
+
+    def test_the_example_disc_opens(self) -> None:
+        browser = self.browser
+        browser.click('#open-example')
+        browser.wait(VERDICT, '16 of 270 Mode 1 sectors are damaged, in 1 place')
+        browser.wait('#findings', 'a scratch: every 9th sector')
+
+    def test_no_panel_is_wider_than_a_phone(self) -> None:
+        browser = self.browser
+        browser.click('#open-example')
+        browser.wait('.sha1')
+        for panel in ('disc', 'text', 'script', 'publish'):
+            browser.click(f'#tab-{panel}')
+            self.assertLessEqual(browser.wider(320), 0, panel)
+
+    def test_another_base_is_offered_if_no_sector_has_the_address_of_its_block(self) -> None:
+        browser = self.opened(discs.written(game=discs.scratched())['game'])
+        browser.wait('#disc-line .lead button', 'Repair from another dump')
+        browser.wait('.sha1', sha1(discs.scratched()))
+        browser.click('#disc-line dl .btn')
+        browser.type('#base', '100')
+        browser.press(Keys.ENTER)
+        browser.wait('#disc-line .lead', 'the base is probably 0, not 100. 1 sector is damaged.')
+        self.assertEqual(browser.run('return document.activeElement.innerText'), 'Change')
+        self.assertNotIn('copy protection', browser.text('#findings'))
+        browser.run("document.querySelector('#disc-line .lead .main').click()")
+        browser.wait('#disc-line .lead', f'1 of {len(discs.game()) // 2352} Mode 1 sectors')
+
+    def test_reading_can_be_cancelled_and_begun_again(self) -> None:
+        browser = self.browser
+        browser.run(f'{HELD} hashWaits = true')
+        browser.give('#files', [file_of(discs.game() * 120)])
+        browser.wait(VERDICT, 'Reading the disc')
+        browser.press(Keys.ESCAPE)
+        browser.run("document.querySelector('#disc-line .lead button').focus()")
+        browser.wait(VERDICT, 'Reading the disc')
+        browser.press(Keys.ESCAPE)
+        browser.wait(VERDICT, 'and no further')
+        browser.run('letGo()')
+        browser.wait('#disc-line .sha-wait', 'not\u00a0known')
+        browser.click('#tab-publish')
+        browser.wait('#panel-publish', 'The image was not read to its end.')
+        browser.click('#tab-disc')
+        browser.click(f'{VERDICT} button')
+        browser.wait(VERDICT, 'Mode 1 sectors fit')
+
+    def test_the_hashes_are_calculated_beside_the_survey(self) -> None:
+        browser = self.browser
+        browser.run(HELD)
+        browser.give('#files', [file_of(discs.game())])
+        browser.wait('.sha1', sha1(discs.game()))
+        browser.wait(VERDICT, 'Reading the disc: 0 %')
+        browser.run('letGo()')
+        browser.wait(VERDICT, 'Mode 1 sectors are sound')
+
+    def test_the_line_of_the_disc_keeps_its_controls_while_it_is_read(self) -> None:
+        browser = self.browser
+        browser.run(HELD)
+        browser.give('#files', [file_of(discs.game() * 120)])
+        browser.wait(VERDICT, 'Reading the disc')
+        shown = browser.text(VERDICT)
+        browser.run("globalThis.kept = ['.lead .btn', '.change'].map(it => document.querySelector(`#disc-line ${it}`)); kept[1].focus()")
+        browser.run('letGo(4)')
+        waited(lambda: browser.text(VERDICT) != shown, 'the disc is not read')
+        self.assertEqual(browser.run('return kept.map(it => it.isConnected)'), [True, True])
+        ActionChains(browser.driver).click_and_hold(browser.find('#disc-line .change')).perform()
+        browser.run('letGo()')
+        browser.wait('#disc-line .sha1')
+        self.assertTrue(browser.run('return document.activeElement === kept[1]'))
+        ActionChains(browser.driver).release().perform()
+        browser.wait('#disc-line #base')
+
+    # ---- the map
+
+    def test_the_keys_of_the_map(self) -> None:
+        browser = self.opened(file_of(scratched()))
+        self.assertEqual(browser.run('return document.activeElement.id'), 'map')
+        last = SECTORS + 39
+        for keys, block in ((Keys.HOME, 0), (Keys.ARROW_RIGHT, 1), ('n', 30), ('n', 34), ('p', 30), (Keys.END, last), ('r', last),
+                            (Keys.PAGE_UP, 0), ('r', SECTORS), (Keys.ARROW_LEFT, SECTORS - 1), (Keys.PAGE_DOWN, last), ('p', 101)):
+            browser.press(keys)
+            self.assertEqual(self.at(), block, keys)
+        self.assertEqual(self.place(), 'Block 101, no sync field: audio, or nothing that is known, inside Mode 1: sync field or mode lost')
+        browser.press('R')
+        self.assertEqual(self.at(), 0)
+        browser.press('n')
+        self.assertEqual(self.place(), 'Block 30, Mode 1, damaged: edc p=3 q=3')
+        browser.press('g')
+        self.assertEqual(browser.run('return document.activeElement.id'), 'go-to')
+        browser.type('#go-to', '90\n')
+        browser.wait('#sector-title', 'block 90')
+        self.assertIn('address', self.place())
+
+    def test_up_and_down_move_by_a_row(self) -> None:
+        browser = self.opened(file_of(discs.game()))
+        browser.press(Keys.HOME, Keys.ARROW_DOWN)
+        row = self.at()
+        width, cell = browser.run("const map = document.querySelector('#map'); return [map.width, map.width / map.clientWidth]")
+        self.assertEqual(cell, 1)
+        self.assertEqual(width % row, 0)
+        browser.press(Keys.ARROW_DOWN, Keys.ARROW_UP)
+        self.assertEqual(self.at(), row)
+
+    def pixels(self, colour: str) -> list[list[int]]:
+        """The places of the pixels of a colour of the style on the map."""
+        found: list[list[int]] = self.browser.run('''const map = document.querySelector('#map');
+            const colour = getComputedStyle(document.documentElement).getPropertyValue(arguments[0]).trim();
+            const want = [1, 3, 5].map(at => parseInt(colour.slice(at, at + 2), 16));
+            const { data } = map.getContext('2d').getImageData(0, 0, map.width, map.height);
+            const found = [];
+            for (let i = 0; i < data.length; i += 4) {
+                if (want.every((it, k) => it === data[i + k])) found.push([i / 4 % map.width, Math.floor(i / 4 / map.width)]);
+            }
+            return found;''', colour)
+        return found
+
+    def test_one_bad_sector_among_many_is_seen_and_met_by_a_click(self) -> None:
+        block = 17000
+        self.browser.size(360)
+        self.addCleanup(self.browser.size, 1280)
+        other = SYNC + bytes([0, 2, 0, 2]) + bytes(SECTOR_SIZE - 16)
+        image = other * block + damaged(sector(block, b'bad'), 0) + other * 8000
+        browser = self.opened(file_of(image))
+        browser.wait('#map')
+        waited(lambda: self.pixels('--f-edc'), 'no finding on the map')
+        bad = self.pixels('--f-edc')
+        (left, top), (right, bottom) = bad[0], bad[-1]
+        self.assertEqual([right - left, bottom - top, len(bad)], [1, 1, 4])
+        for x, y in bad:
+            browser.press('g')
+            browser.type('#go-to', '5\n')
+            browser.run('''const map = document.querySelector('#map'), box = map.getBoundingClientRect();
+                const place = { clientX: box.left + arguments[0] + 0.5, clientY: box.top + arguments[1] + 0.5 };
+                map.dispatchEvent(new MouseEvent('click', place))''', x, y)
+            self.assertEqual(self.at(), block)
+            browser.find('#map').send_keys(Keys.HOME)
+
+    def test_the_legend_shows_one_kind_alone(self) -> None:
+        browser = self.opened(file_of(scratched()))
+        browser.wait('.legend')
+        waited(lambda: self.pixels('--k-mode1'), 'no Mode 1 on the map')
+        entry = "const it = [...document.querySelectorAll('.legend button')].find(it => it.innerText.includes('data damaged'));"
+        browser.run(f'{entry} it.click()')
+        waited(lambda: not self.pixels('--k-mode1'), 'Mode 1 is on the map still')
+        self.assertNotEqual(self.pixels('--f-edc'), [])
+        self.assertEqual(browser.run(f"{entry} return it.getAttribute('aria-pressed')"), 'true')
+        browser.run(f'{entry} it.click()')
+        waited(lambda: self.pixels('--k-mode1'), 'Mode 1 does not come back')
+
+    # ---- findings and texts
+
+    def test_findings_are_grouped_into_places_that_open(self) -> None:
+        image = bytearray(SYNC + bytes([0, 2, 0, 2]) + bytes(SECTOR_SIZE - 16)) * 2000
+        for block in (10, 400, 1090, 1800):
+            image[block * SECTOR_SIZE:(block + 1) * SECTOR_SIZE] = sector(block, b'')
+            image[block * SECTOR_SIZE + 2100] ^= 1
+        browser = self.opened(file_of(bytes(image)))
+        folds = "return [...document.querySelectorAll('#findings tbody .fold')].map(it => it.innerText)"
+        rows = waited(lambda: browser.run(folds), 'no places')
+        self.assertEqual(rows, ['▸ 10–1090', '▸ 1800'])
+        browser.click('#findings .fold')
+        browser.wait('#findings tr.sub', 'p=1 q=1')
+        blocks = browser.run("return [...document.querySelectorAll('#findings tr.sub .fold')].map(it => it.innerText)")
+        self.assertEqual(blocks, ['10', '400', '1090'])
+        browser.run("document.querySelectorAll('#findings tr.sub .fold')[1].click()")
+        browser.wait('#sector-title', 'block 400')
+        browser.wait('.say.thin', 'The user data of this sector fit their EDC')
+
+    def test_the_texts_are_the_programs_to_the_byte(self) -> None:
+        path = file_of(scratched(b'tail'))
+        browser = self.opened(path)
+        for tab, name in (('findings', 'audit'), ('runs', 'list')):
+            browser.click(f'#findings [data-tab={tab}]')
+            browser.run("[...document.querySelectorAll('#findings header button')].find(it => it.innerText === 'Save…').click()")
+            saved = browser.downloaded(f'{name}.txt').read_text()
+            self.assertEqual(saved, run_program(name, path)[1])
+        browser.click('#findings [data-tab=text]')
+        self.assertEqual(browser.text('#findings pre').rstrip('\n'), run_program('audit', path)[1].rstrip('\n'))
+
+    # ---- a sector
+
+    def test_a_sector_is_shown_in_hex_and_in_an_encoding(self) -> None:
+        image = discs.game()
+        browser = self.opened(file_of(image))
+        block = discs.first_block()
+        browser.press('g')
+        browser.type('#go-to', f'{block}\n')
+        browser.wait('#sector-title', f'block {block}')
+        digits = browser.run("return [...document.querySelectorAll('.hex i[data-at]')].map(it => it.innerText).join('')")
+        self.assertEqual(bytes.fromhex(digits), image[block * SECTOR_SIZE:(block + 1) * SECTOR_SIZE])
+        self.assertIn('スタート', browser.text('.hex'))
+        browser.wait('#panel-disc .foot', 'file /DATA/MSG00.DAT at 0')
+        browser.run('''const choice = document.querySelector('#panel-disc select'); choice.value = 'UTF-16BE';
+            choice.dispatchEvent(new Event('change'))''')
+        waited(lambda: 'スタート' not in browser.text('.hex'), 'the encoding stays')
+
+    def test_the_bytes_are_outlined_where_broken_columns_and_diagonals_cross(self) -> None:
+        browser = self.opened(file_of(damaged(discs.game(), 50, 75)))
+        browser.press('n')
+        browser.wait('.say.bad', 'edc p=1 q=1')
+        outlined = browser.run("return [...document.querySelectorAll('.hex i.sus')].map(it => Number(it.dataset.at))")
+        self.assertEqual(outlined, [16 + 75])
+        self.assertIn('they cross at one byte, offset 75, outlined below', browser.text('.say.bad'))
+
+    def test_typed_bytes_become_lines_of_the_script_that_the_program_applies(self) -> None:
+        image = discs.game()
+        path = file_of(image)
+        browser = self.opened(path)
+        browser.press('g')
+        browser.type('#go-to', '60\n')
+        browser.wait('#sector-title', 'block 60')
+        browser.find('#map').send_keys(Keys.ENTER)
+        self.wait_for_bytes()
+        browser.press(Keys.ARROW_DOWN, 'c', '0', 'f', 'f')
+        browser.press(Keys.ARROW_LEFT, '1', '2')
+        browser.press(Keys.ARROW_DOWN, '3', '4')
+        old = image[60 * SECTOR_SIZE + 16:]
+        lines = ['cdpatch 1', f'set 60 16 C012 was {old[16:18].hex().upper()}', f'set 60 34 34 was {old[34:35].hex().upper()}', '']
+        changed = "return [...document.querySelectorAll('.hex i.new')].map(it => Number(it.dataset.at)).filter(at => at < 2064)"
+        waited(lambda: browser.run(changed) == [32, 33, 50], 'three changed bytes')
+        script = self.typed_script()
+        self.assertEqual(script, '\n'.join(lines))
+        (path.parent / 'script.txt').write_text(script)
+        self.assertEqual(run_program('apply', path, path.parent / 'script.txt', path.parent / 'new.bin')[0], 0)
+        fresh = (path.parent / 'new.bin').read_bytes()[60 * SECTOR_SIZE + 16:]
+        self.assertEqual(fresh[16:18].hex() + fresh[34:35].hex(), 'c01234')
+
+    def test_bytes_that_were_typed_are_taken_back(self) -> None:
+        browser = self.opened(file_of(discs.game()))
+        browser.press('g')
+        browser.type('#go-to', '60\n')
+        browser.wait('#sector-title', 'block 60')
+        browser.find('#map').send_keys(Keys.ENTER)
+        self.wait_for_bytes()
+        browser.press('c', '0', 'f', 'f', Keys.ARROW_DOWN, '3', '4', '5')
+        browser.press('z', held=Keys.CONTROL)
+        browser.press('z', held=Keys.CONTROL)
+        changed = "return [...document.querySelectorAll('.hex i.new')].map(it => Number(it.dataset.at)).filter(at => at < 2064)"
+        waited(lambda: browser.run(changed) == [16, 17], 'two changed bytes')
+        browser.press('z', held=Keys.CONTROL)
+        waited(lambda: browser.run(changed) == [], 'no changed byte')
+        browser.press('z', held=Keys.CONTROL)
+        browser.wait('#announced', 'The last change of the script was not typed here.')
+
+    def test_a_byte_that_is_typed_twice_keeps_what_was_there_first(self) -> None:
+        image = discs.game()
+        browser = self.opened(file_of(image))
+        browser.press('g')
+        browser.type('#go-to', '61\n')
+        browser.wait('#sector-title', 'block 61')
+        browser.find('#map').send_keys(Keys.ENTER)
+        self.wait_for_bytes()
+        browser.press('a', 'a', Keys.ARROW_LEFT, 'b', 'b')
+        old = image[61 * SECTOR_SIZE + 16]
+        self.assertEqual(self.typed_script(), f'cdpatch 1\nset 61 0 BB was {old:02X}\n')
+
+    def test_a_damaged_sector_says_what_becomes_of_typed_bytes(self) -> None:
+        browser = self.opened(file_of(damaged(discs.game(), 50, 75)))
+        browser.press('n')
+        browser.wait('.foot', 'This sector is damaged: Check refuses the change, unless damaged sectors are patched too (carry)')
+        browser.press('g')
+        browser.type('#go-to', '60\n')
+        browser.wait('#sector-title', 'block 60')
+        waited(lambda: 'This sector is damaged' not in browser.text('.foot'), 'a sound sector is called damaged')
+
+    def test_parity_cannot_be_typed_over(self) -> None:
+        browser = self.opened(file_of(discs.game()))
+        browser.find('#map').send_keys(Keys.ENTER)
+        browser.wait('.fields')
+        browser.run("[...document.querySelectorAll('.fields button')].find(it => it.innerText.startsWith('P parity')).click()")
+        browser.find('.hex').send_keys('00')
+        self.assertIn('Only the user data', browser.text('#announced'))
+        self.assertEqual(browser.run("return document.querySelector('#count-script').hidden"), True)
+
+    # ---- for everyone
+
+    def test_every_control_has_a_name_and_groups_are_one_stop(self) -> None:
+        browser = self.opened(file_of(scratched()))
+        browser.press('n')
+        browser.wait('.say.bad', 'edc')
+        browser.click('#findings .fold')
+        self.assertEqual(browser.nameless(), [])
+        self.setUp()
+        self.opened(file_of(scratched()))
+        browser.wait('#findings table')
+        browser.run("document.querySelector('.skip').focus()")
+        stops = browser.tab_stops()
+        self.assertLess(stops.index('map'), 12, stops)
+        self.assertLess(len(stops), 26, stops)
+        for width in (360, 480, 620, 760, 900, 1180, 1366, 1600):
+            self.assertLessEqual(browser.wider(width), 0, width)
+
+    def test_f6_goes_from_card_to_card(self) -> None:
+        browser = self.opened(file_of(scratched()))
+        browser.wait('#findings')
+        where = "const card = document.activeElement.closest('.card, #bar, footer'); return card ? card.innerText.slice(0, 12) : 'none'"
+        seen = []
+        for _ in range(7):
+            browser.press(Keys.F6)
+            seen.append(browser.run(where))
+        self.assertEqual(len(set(seen)), 6, seen)
+        self.assertEqual(seen[6], seen[0])

@@ -1,0 +1,398 @@
+"""Publish, and the patcher as players have it: its bytes, the four answers, what is saved, and what hostile or broken ones do."""
+
+import base64
+import json
+import zlib
+from typing import Any
+
+import common
+import discs
+from pages import GATE, PICKER, PageTest, applied, patcher
+
+CUE = 'FILE "game.bin" BINARY\n  TRACK 01 MODE1/2352\n    INDEX 01 00:00:00\n'
+HOSTILE = '<img src=x onerror=alert(1)>'
+
+# What an extension does that gives pages a style of its own: before all others, or after them.
+FOREIGN = '''const it = document.createElement('style');
+    it.textContent = 'body { filter: invert(1) }';
+    document.head[arguments[0]](it)'''
+
+
+def result() -> bytes:
+    """What the author's script makes of the game."""
+    files = discs.written(game=discs.game(), english=discs.script())
+    return applied(files['game'], files['english'])[2]
+
+
+def data_of(saved: bytes) -> dict[str, Any]:
+    """What stands after the page in a patcher."""
+    packed = saved[len(common.PAGE.read_bytes()):].split(b'\n')[1]
+    head, script = zlib.decompress(base64.b64decode(packed)).split(b'\n', 1)
+    return {**json.loads(head), 'script': script.decode()}
+
+
+class Publish(PageTest):
+    def publish(self, *files: str) -> None:
+        """Opens the game with a script, and writes the title."""
+        paths = discs.written(game=discs.game(), english=discs.script())
+        cue = paths['game'].with_suffix('.cue')
+        cue.write_text(CUE)
+        self.open_files(*([cue] if files else []), paths['game'])
+        self.wait_for_hash()
+        self.open_script(paths['english'])
+        self.browser.click('#tab-publish')
+        self.browser.wait('#panel-publish', 'tried on this image: 6 would apply, 0 refused')
+        self.browser.type('#patcher-title', HOSTILE)
+
+    def test_a_patcher_is_the_page_byte_for_byte_and_data_after_it(self) -> None:
+        self.publish()
+        self.browser.type('#patcher-note', 'All menus.')
+        self.press('Save as a patcher')
+        saved = self.browser.downloaded('img src=x onerror=alert(1).html').read_bytes()
+        page = common.PAGE.read_bytes()
+        self.assertEqual(saved[:len(page)], page)
+        self.assertEqual(saved[len(page):len(page) + 15], b'cdpatch-data 1 ')
+        self.assertEqual(set(saved[len(page):]) & set(b'<>&"\''), set())
+        self.browser.wait('#panel-publish .say.good', 'Saved: img src=x onerror=alert(1).html')
+        self.assertEqual(self.browser.attempts(), [])
+
+    def test_the_published_copy_is_a_player_with_a_cue_sheet(self) -> None:
+        self.publish('cue')
+        self.browser.type('#patcher-name', 'Starlit.bin')
+        self.press('Save as a patcher')
+        saved = self.browser.downloaded('img src=x onerror=alert(1).html')
+        self.browser.open(saved)
+        self.browser.wait('#player h1', HOSTILE)
+        self.browser.give('#player-files', [discs.written(game=discs.game())['game']])
+        self.browser.wait('#verdict', 'This is the right disc.')
+        self.assertIn('6 changes. The new file needs 1 MB of space.', self.browser.text('#player'))
+        self.press('Patch and save')
+        self.assertEqual(self.browser.downloaded('Starlit.bin').read_bytes(), result())
+        self.browser.wait('#player', 'It is exactly the image that the author made: the SHA-1 is the same.')
+        self.press('Save the cue sheet')
+        sheet = self.browser.downloaded('Starlit.cue')
+        self.assertEqual(common.waited(sheet.read_text, 'the cue sheet is empty'), CUE.replace('game.bin', 'Starlit.bin'))
+        self.assertEqual(self.browser.run('return document.images.length'), 0)
+        self.assertEqual(self.browser.attempts(), [])
+
+    def test_publishing_makes_no_slice_for_each_patch(self) -> None:
+        script = 'cdpatch 1\n' + ''.join(f'fill {block} 0 1 41\n' for block in range(200, 19000, 12))
+        files = discs.written(long=discs.long_disc(), script=script)
+        self.open_image(files['long'])
+        self.open_script(files['script'])
+        self.browser.run('''globalThis.slices = 0;
+            const { slice } = Blob.prototype;
+            Blob.prototype.slice = function (...given) { globalThis.slices += 1; return slice.apply(this, given); }''')
+        self.browser.click('#tab-publish')
+        self.browser.wait('#panel-publish', 'tried on this image: 1567 would apply, 0 refused')
+        self.browser.type('#patcher-title', 'Title')
+        self.press('Save as a patcher')
+        saved = self.browser.downloaded('Title.html').read_bytes()
+        self.assertLess(self.browser.run('return slices'), 200)
+        self.assertEqual(data_of(saved)['result'], common.sha1(applied(files['long'], files['script'])[2]))
+
+    def test_a_patcher_has_the_script_that_was_tried(self) -> None:
+        self.publish()
+        self.browser.run(GATE)
+        self.press('Save as a patcher')
+        self.browser.wait('#panel-publish .progress')
+        self.press('Save as a patcher')
+        self.browser.click('#tab-script')
+        self.browser.click('.editor textarea')
+        self.browser.press('# later')
+        self.browser.run('openGate()')
+        saved = self.browser.downloaded('img src=x onerror=alert(1).html').read_bytes()
+        self.assertEqual(data_of(saved)['script'], discs.script())
+        self.assertEqual([it.name for it in self.browser.downloads.iterdir()], ['img src=x onerror=alert(1).html'])
+
+    def test_a_style_that_is_put_before_the_pages_own_lets_nothing_be_published_and_the_page_says_why(self) -> None:
+        self.publish()
+        self.browser.run(FOREIGN, 'prepend')
+        self.press('Save as a patcher')
+        self.browser.wait('#panel-publish .say.bad', 'Something in this browser has changed this page')
+        self.browser.wait('#panel-publish .say.bad', 'No patcher was saved.')
+        self.assertEqual(list(self.browser.downloads.iterdir()), [])
+
+    def test_a_policy_that_is_put_before_the_pages_own_lets_nothing_be_published(self) -> None:
+        self.publish()
+        self.browser.run('const it = document.createElement("meta"); it.httpEquiv = "Content-Security-Policy"; document.head.prepend(it)')
+        self.press('Save as a patcher')
+        self.browser.wait('#panel-publish .say.bad', 'Something in this browser has changed this page')
+        self.assertEqual(list(self.browser.downloads.iterdir()), [])
+
+    def test_a_style_that_was_changed_is_not_published(self) -> None:
+        self.publish()
+        self.browser.run('document.querySelector("style").append(" ")')
+        self.press('Save as a patcher')
+        self.browser.wait('#panel-publish .say.bad', 'Something in this browser has changed this page')
+        self.assertEqual(list(self.browser.downloads.iterdir()), [])
+
+    def test_a_style_that_is_put_after_the_pages_own_is_in_no_patcher(self) -> None:
+        self.publish()
+        self.browser.run(FOREIGN, 'append')
+        self.press('Save as a patcher')
+        saved = self.browser.downloaded('img src=x onerror=alert(1).html').read_bytes()
+        page = common.PAGE.read_bytes()
+        self.assertEqual(saved[:len(page)], page)
+
+    def test_it_is_refused_while_a_patch_is_refused(self) -> None:
+        files = discs.written(game=discs.game(), english=discs.refused())
+        self.open_image(files['game'])
+        self.open_script(files['english'])
+        self.browser.click('#tab-publish')
+        self.browser.wait('#panel-publish', 'tried on this image: 6 would apply, 2 refused')
+        self.browser.type('#patcher-title', 'Title')
+        self.assertTrue(self.is_off('Save as a patcher') and self.is_off('See it as a player'))
+        self.press('Go to line 11')
+        label = 'return document.activeElement.getAttribute("aria-label")'
+        self.assertIn('Script, line 11 of 13', self.browser.run(label))
+
+    def test_no_licence_is_said_beside_the_button(self) -> None:
+        self.publish()
+        self.assertIn('No licence has been chosen for cdpatch yet.', self.browser.text('#no-licence'))
+        self.assertIn('The old bytes come from the game (32 bytes).', self.browser.text('#panel-publish'))
+
+    def test_an_author_sees_it_as_a_player_and_goes_back(self) -> None:
+        self.publish()
+        self.press('See it as a player')
+        self.browser.wait('#player h1', HOSTILE)
+        self.press('Back to Publish')
+        self.browser.wait('#panel-publish h2', 'A patcher for your players')
+        self.assertEqual(self.browser.text('#home'), 'cdpatch')
+
+
+class Player(PageTest):
+    def play(self, image: bytes, script: str = '', **other: object) -> None:
+        """Opens a patcher and gives it an image."""
+        self.open_patcher(patcher(discs.game(), result(), script or discs.script(), **other))
+        self.browser.drop('#player', [discs.written(mine=image)['mine']])
+
+    def open_patcher(self, data: bytes) -> None:
+        self.path = common.folder('patcher') / 'starlit.html'
+        self.path.write_bytes(data)
+        self.browser.open(self.path)
+
+    def test_the_right_disc(self) -> None:
+        self.play(discs.game())
+        self.browser.wait('#verdict', 'This is the right disc.')
+        self.assertEqual(self.browser.run('return document.activeElement.innerText'), 'Patch and save…')
+        self.press('Patch and save')
+        self.assertEqual(self.browser.downloaded('Starlit (English).bin').read_bytes(), result())
+        self.browser.wait('#player', 'the SHA-1 is the same')
+        self.browser.wait('#player', f'It must have {len(discs.game()):,} bytes.')
+
+    def test_another_dump_that_the_patch_fits(self) -> None:
+        other = common.damaged(discs.game(), 150)
+        self.play(other, discs.named())
+        self.browser.wait('#verdict', 'This is another dump, but the patch fits it.')
+        self.assertIn('All 4 places hold the bytes that the author saw.', self.browser.text('#player'))
+        self.press('Patch and save')
+        files = discs.written(other=other, english=discs.named())
+        self.assertEqual(self.browser.downloaded('Starlit (English).bin').read_bytes(), applied(files['other'], files['english'])[2])
+        self.assertNotIn('the SHA-1 is the same', self.browser.text('#player'))
+
+    def test_another_dump_that_the_patch_does_not_fit(self) -> None:
+        block = discs.first_block()
+        user = bytearray(discs.game()[block * 2352 + 16:block * 2352 + 2064])
+        user[0:2] = b'XX'
+        other = discs.game()[:block * 2352] + common.sector(block, bytes(user)) + discs.game()[(block + 1) * 2352:]
+        self.play(other)
+        self.browser.wait('#verdict', 'This is another dump, and the patch does not fit it.')
+        self.assertIn('1 of 6 places holds other bytes.', self.browser.text('#player'))
+        self.press('Details')
+        self.browser.wait('.hashes', f'refused: old bytes differ at block {block} offset 0')
+        self.assertEqual(list(self.browser.downloads.iterdir()), [])
+        self.press('Save with the 5 changes that fit')
+        files = discs.written(other=other, english=discs.script())
+        self.assertEqual(self.browser.downloaded('Starlit (English).bin').read_bytes(), applied(files['other'], files['english'])[2])
+
+    def test_a_damaged_dump_is_not_called_another_release(self) -> None:
+        self.play(common.damaged(discs.game(), discs.first_block() + 1))
+        self.browser.wait('#verdict', 'This dump is damaged in places that the patch changes.')
+        self.assertIn('1 of 6 places is damaged.', self.browser.text('#player'))
+        self.assertNotIn('release', self.browser.text('#player'))
+
+    def test_an_image_that_is_patched_already(self) -> None:
+        self.play(result())
+        self.browser.wait('#verdict', 'This image is patched already.')
+        self.assertIn('There is nothing to do.', self.browser.text('#player'))
+
+    def test_an_image_that_is_patched_already_has_its_cue_sheet(self) -> None:
+        self.open_patcher(patcher(discs.game(), result(), discs.script()))
+        image = discs.written(mine=result())['mine']
+        sheet = image.with_suffix('.cue')
+        sheet.write_text('FILE "mine.bin" BINARY\n  TRACK 01 MODE1/2352\n    INDEX 01 00:00:00\n')
+        self.browser.drop('#player', [sheet, image])
+        self.browser.wait('#verdict', 'This image is patched already.')
+        self.press('Save the cue sheet')
+        saved = self.browser.downloaded('mine.cue')
+        self.assertEqual(common.waited(saved.read_text, 'the cue sheet is empty'), sheet.read_text())
+
+    def test_music_is_not_taken_for_the_disc(self) -> None:
+        self.play(bytes(range(1, 255)) * 2352)
+        self.browser.wait('#player .say.bad', 'This is music; choose the data track: mine.bin')
+
+    def test_patched_already_is_known_by_the_hash_too(self) -> None:
+        script = f'cdpatch 1\nset {discs.first_block()} 0 5374617274202020\n'
+        files = discs.written(game=discs.game(), script=script)
+        made = applied(files['game'], files['script'])[2]
+        self.open_patcher(patcher(discs.game(), made, script))
+        self.browser.drop('#player', [discs.written(made=made)['made']])
+        self.browser.wait('#verdict', 'This image is patched already.')
+
+    def test_the_right_disc_is_patched_with_the_base_of_the_author(self) -> None:
+        script = f'cdpatch 1\nset {discs.first_block() + 100} 0 41\n'
+        files = discs.written(game=discs.game(), script=script)
+        made = applied(files['game'], files['script'], '--base', '100')[2]
+        self.open_patcher(patcher(discs.game(), made, script, base=100))
+        for image, said in ((discs.game(), 'This is the right disc.'), (made, 'This image is patched already.')):
+            self.browser.drop('#player', [discs.written(mine=image)['mine']])
+            self.browser.wait('#verdict', said)
+
+    def test_the_track_is_the_one_that_the_patch_was_made_for(self) -> None:
+        self.open_patcher(patcher(discs.game(), result(), discs.script()))
+        files = discs.written(first=common.image_of([b'first'] * 20), game=discs.game())
+        sheet = files['game'].with_suffix('.cue')
+        sheet.write_text(''.join(f'FILE "{name}.bin" BINARY\n  TRACK 0{i + 1} MODE1/2352\n    INDEX 01 00:00:00\n'
+                                 for i, name in enumerate(files)))
+        self.browser.drop('#player', [sheet, *files.values()])
+        self.browser.wait('#verdict', 'This is the right disc.')
+
+    def test_the_image_that_was_dropped_last_is_judged(self) -> None:
+        self.open_patcher(patcher(discs.game(), result(), discs.script()))
+        self.browser.run(f'{GATE} Object.assign(globalThis, {{ held: 1, least: {len(discs.game())} }})')
+        files = discs.written(other=common.damaged(discs.game(), 150), mine=discs.game())
+        self.browser.drop('#player', [files['other']])
+        self.browser.wait('#player .progress')
+        common.waited(lambda: self.browser.run('return globalThis.reads') == 1, 'the first image is not read')
+        self.browser.drop('#player', [files['mine']])
+        self.browser.wait('#verdict', 'This is the right disc.')
+        self.browser.run('openGate(); return new Promise(done => setTimeout(done, 500))')
+        self.assertEqual(self.browser.text('#verdict'), 'This is the right disc.')
+        self.assertIn('mine.bin', self.browser.text('#player'))
+
+    def test_a_result_that_is_not_the_authors_is_not_saved(self) -> None:
+        self.play(discs.game(), result='0' * 40)
+        self.browser.wait('#verdict', 'This is the right disc.')
+        self.press('Patch and save')
+        self.browser.wait('#player .say.bad', 'The patched image is not the one that the author made')
+        self.assertEqual(list(self.browser.downloads.iterdir()), [])
+
+    def test_a_hostile_title_note_and_script_stay_texts(self) -> None:
+        hostile = f'{HOSTILE}</plaintext><script>caught.push("ran")</script>'
+        self.play(discs.game(), title=hostile, note=hostile, author=hostile, script=f'cdpatch 1\n# {hostile}\nrebuild 0\n')
+        self.browser.wait('#player h1', hostile)
+        self.press('Read the script')
+        self.browser.wait('#player-script pre', f'# {hostile}')
+        self.assertEqual(self.browser.run('return [document.images.length, document.scripts.length]'), [0, 1])
+        self.assertEqual(self.browser.attempts(), [])
+
+    def test_a_cut_patcher_is_refused(self) -> None:
+        self.open_patcher(patcher(discs.game(), result(), discs.script())[:-100])
+        self.browser.wait('#messages .say.bad, #start-message .say.bad', 'This patcher cannot be used.')
+        self.assertEqual(self.browser.text('#player'), '')
+
+    def test_an_altered_program_does_not_start(self) -> None:
+        data = patcher(discs.game(), result(), discs.script())
+        self.open_patcher(data.replace(b"'use strict';", b"'use strict' ;", 1))
+        self.browser.wait('#not-started', 'cdpatch has not started.')
+        self.assertEqual(self.browser.text('#player'), '')
+
+    def test_a_patcher_that_is_dropped_on_ones_own_page_is_compared_with_it(self) -> None:
+        good = patcher(discs.game(), result(), discs.script())
+        for data, said in ((good, 'This cdpatch, byte for byte: starlit.html'),
+                           (good.replace(b'<title>', b'<title >', 1), 'Not this cdpatch: starlit.html')):
+            self.browser.open(common.PAGE)
+            path = common.folder('patcher') / 'starlit.html'
+            path.write_bytes(data)
+            self.browser.drop('#drop', [path])
+            self.browser.wait('#compared', said)
+            self.browser.wait('#player h1', 'Starlit Detective in English')
+            self.assertEqual(self.browser.run('return location.href'), common.PAGE.as_uri())
+        self.browser.drop('#player', [discs.written(mine=discs.game())['mine']])
+        self.browser.wait('#verdict', 'This is the right disc.')
+
+    def test_a_patcher_is_compared_with_the_page_also_if_a_style_is_put_before_its_own(self) -> None:
+        path = common.folder('patcher') / 'starlit.html'
+        path.write_bytes(patcher(discs.game(), result(), discs.script()))
+        self.browser.run(FOREIGN, 'prepend')
+        self.browser.drop('#drop', [path])
+        self.browser.wait('#compared', 'This cdpatch, byte for byte: starlit.html')
+
+    def test_the_full_page_opens_from_a_patcher(self) -> None:
+        self.play(discs.game())
+        self.browser.wait('#verdict', 'This is the right disc.')
+        self.press('Open this in the full cdpatch')
+        self.browser.wait('#disc-line .name', 'mine.bin')
+        self.browser.click('#tab-script')
+        self.browser.wait('#panel-script header .tag', '6 patches, version 1')
+        self.browser.click('#tab-publish')
+        fields = 'return ["title", "author", "note", "name"].map(it => document.querySelector(`#patcher-${it}`).value)'
+        self.assertEqual(self.browser.run(fields), ['Starlit Detective in English', 'Team Comet', 'All menus.\nChapter 1.', 'Starlit (English).bin'])
+        self.assertFalse(self.browser.asks_before_leaving())
+        self.browser.type('#patcher-note', 'All of it.')
+        self.assertTrue(self.browser.asks_before_leaving())
+
+    def republished(self) -> bytes:
+        """What the full page saves of the patcher that is open, as the file of its image."""
+        self.press('Open this in the full cdpatch')
+        self.browser.wait('#disc-line .name', 'mine.bin')
+        self.wait_for_hash()
+        self.browser.click('#tab-publish')
+        self.browser.wait('#panel-publish', '0 refused')
+        self.press('Save as a patcher')
+        return self.browser.downloaded('Starlit Detective in English.html').read_bytes()
+
+    def test_a_patcher_with_a_base_of_its_own_is_published_again(self) -> None:
+        script = f'cdpatch 1\nset {discs.first_block() + 100} 0 41\n'
+        files = discs.written(game=discs.game(), script=script)
+        made = applied(files['game'], files['script'], '--base', '100')[2]
+        self.open_patcher(patcher(discs.game(), made, script, base=100))
+        self.browser.drop('#player', [discs.written(mine=discs.game())['mine']])
+        self.browser.wait('#verdict', 'This is the right disc.')
+        self.assertEqual(data_of(self.republished())['base'], 100)
+
+    def test_a_patcher_with_carry_is_published_again(self) -> None:
+        image = common.damaged(discs.game(), discs.first_block() + 1)
+        files = discs.written(image=image, script=discs.script())
+        made = applied(files['image'], files['script'], '--carry')[2]
+        self.open_patcher(patcher(image, made, discs.script(), carry=True))
+        self.browser.drop('#player', [discs.written(mine=image)['mine']])
+        self.browser.wait('#verdict', 'This is the right disc.')
+        data = data_of(self.republished())
+        self.assertEqual([data['carry'], data['result']], [True, common.sha1(made)])
+
+
+class Streamed(PageTest):
+    stub = PICKER
+
+    def test_what_is_dropped_while_an_image_is_saved_is_refused_by_name(self) -> None:
+        path = common.folder('patcher') / 'starlit.html'
+        path.write_bytes(patcher(discs.game(), result(), discs.script()))
+        self.browser.open(path)
+        self.browser.give('#player-files', [discs.written(mine=discs.game())['mine']])
+        self.browser.wait('#verdict', 'This is the right disc.')
+        self.browser.run('chosen.hold()')
+        self.press('Patch and save')
+        self.browser.wait('#player .progress')
+        self.assertEqual(self.focused(), 'steps: Cancel')
+        self.browser.drop('#player', [discs.written(other=discs.game())['other']])
+        self.browser.wait('#messages .say.warn', 'Not opened: other.bin.')
+        self.browser.run('chosen.release()')
+        self.browser.wait('#saved', 'Saved: Starlit (English).bin')
+        self.assertEqual(self.browser.text('#messages'), '')
+
+    def test_a_player_streams_what_the_author_made_and_nothing_else(self) -> None:
+        for wanted, state in ((common.sha1(result()), 'closed'), ('0' * 40, 'aborted')):
+            path = common.folder('patcher') / 'starlit.html'
+            path.write_bytes(patcher(discs.game(), result(), discs.script(), result=wanted))
+            self.browser.open(path)
+            self.browser.give('#player-files', [discs.written(mine=discs.game())['mine']])
+            self.browser.wait('#verdict', 'This is the right disc.')
+            self.press('Patch and save')
+            common.waited(lambda: self.browser.run('return chosen.state') == state, f'not {state}')
+            if state == 'closed':
+                self.browser.wait('#saved', 'Saved: Starlit (English).bin')
+                self.assertEqual(self.chosen_bytes(), result())
+            else:
+                self.browser.wait('#player .say.bad', 'is not the one that the author made')

@@ -1,0 +1,359 @@
+"""Random actions, seeded, against a small model of the page: what is open, what is unsaved, what runs, and what was saved.
+
+`RANDOM_ACTIONS` says how many there are, and `RANDOM_SEED` which; a failure names its seed and the last actions.
+"""
+
+import os
+import random
+from collections.abc import Callable
+from pathlib import Path
+from typing import Any
+
+import common
+import discs
+import random_model
+from pages import PICKER, PageTest, applied
+from random_model import Model
+from selenium.webdriver.common.keys import Keys
+from test_publish import data_of
+
+ACTIONS = int(os.environ.get('RANDOM_ACTIONS', '300'))
+SEED = int(os.environ.get('RANDOM_SEED', '1'))
+# The page is opened anew after so many.
+EPISODE = 50
+
+STATE = '''const text = css => document.querySelector(css)?.textContent ?? '';
+    const shown = document.querySelector('.player') ? 'player' : document.querySelector('#tabs').hidden ? ''
+        : document.querySelector('[role=tab][aria-selected=true][id^=tab-]').id.slice(4);
+    const tag = [...document.querySelectorAll('#panel-script header .tag')].some(it => it.textContent === 'in no file yet');
+    const asked = new Event('beforeunload', { cancelable: true });
+    dispatchEvent(asked);
+    const second = document.querySelector('#second-title');
+    return { panel: shown, image: document.querySelector('#disc-line').hidden ? '' : text('#disc-line .name'),
+        second: second && !second.closest('[hidden]:not(.panel)') ? second.textContent.replace('Second image: ', '') : '', unsaved: tag,
+        asks: asked.defaultPrevented, bars: document.querySelectorAll('.progress').length, errors: caught.length,
+        name: text('#panel-script header h2') }'''
+SPOTS = {'disc': ['#map', '.hex', '#findings button'], 'text': ['#find-text'], 'script': ['.editor textarea'],
+         'publish': ['#patcher-title', '#patcher-note']}
+
+
+class Random(PageTest):
+    stub = PICKER
+
+    def test_random_actions_agree_with_the_model(self) -> None:
+        for episode in range(0, ACTIONS, EPISODE):
+            seed = SEED * 1000 + episode // EPISODE
+            self.play(random.Random(seed), min(EPISODE, ACTIONS - episode), f'seed {seed}')
+
+    def play(self, dice: random.Random, count: int, said: str) -> None:
+        self.setUp()
+        self.dice, self.model = dice, Model()
+        self.images = {name: data for name, data in random_model.images().items()}
+        self.paths = {path.name: path for path in discs.written(**{name[:-4]: data for name, data in self.images.items()}).values()}
+        done: list[str] = []
+        for _ in range(count):
+            choice: list[Callable[[], None]] = self.possible()
+            action = dice.choice(choice)
+            done.append(action.__name__)
+            try:
+                action()
+                self.judge()
+            except Exception as error:
+                error.add_note(f'{said}, after {len(done)} actions, the last ones {done[-8:]}')
+                raise
+        if self.model.saving:
+            self.release()
+
+    def possible(self) -> list[Callable[[], None]]:
+        """What can be done now, the likely things more than once."""
+        model = self.model
+        if model.panel == 'player':
+            return [self.back_to_publish, self.leave_player]
+        some = [self.give_image, self.give_script, self.drop_image]
+        if model.panel == '':
+            return some
+        some += [self.change_panel, self.change_panel, self.escape]
+        if model.panel == 'script':
+            some += [self.type_line, self.type_line, self.undo, self.redo, self.save_script]
+        if model.image:
+            some += {'disc': [self.type_byte, self.type_byte], 'text': [self.add_text],
+                     'script': [self.check, self.apply, self.undo_script] if model.patches() else [],
+                     'publish': [self.type_title, self.see, self.publish]}[model.panel]
+        if model.panel == 'disc' and model.second:
+            some += [self.close_second, self.open_instead, self.save_repaired, self.save_repaired]
+        if model.saving:
+            some += [self.release, self.cancel]
+        return some
+
+    # ---- what the page shows
+
+    def state(self) -> dict[str, Any]:
+        return dict(self.browser.run(STATE))
+
+    def judge(self) -> None:
+        due = self.model.state()
+        found: dict[str, Any] = {}
+
+        def agrees() -> bool:
+            found.update(self.state())
+            return all(found[key] == value for key, value in due.items())
+
+        try:
+            common.waited(agrees, 'the page differs')
+        except AssertionError as error:
+            differing = {key: (found[key], value) for key, value in due.items() if found[key] != value}
+            raise AssertionError(f'the page has, and the model: {differing}') from error
+        if self.model.panel == 'script':
+            self.assertEqual('\n'.join(row.split('|')[1] for row in self.rows()), self.model.text())
+
+    # ---- opening
+
+    def another(self) -> str:
+        """The name of an image that is not the second one: only then it is seen when it has come."""
+        return self.dice.choice(sorted(set(self.images) - {self.model.second}))
+
+    def give_image(self) -> None:
+        name = self.another()
+        self.open_files(self.paths[name])
+        self.after_image(name)
+
+    def drop_image(self) -> None:
+        name = self.another()
+        self.browser.drop('main', [self.paths[name]])
+        self.after_image(name)
+
+    def after_image(self, name: str) -> None:
+        fresh = self.model.image == ''
+        if not self.model.open_image(name):
+            self.browser.wait('#messages .say.warn', f'Not opened: {name}.')
+        elif fresh:
+            self.wait_for_hash()
+        else:
+            self.browser.wait('#second-body .tally, #second-body .say.good')
+
+    def give_script(self) -> None:
+        name, text = self.dice.choice(sorted(random_model.SCRIPTS.items()))
+        path = discs.written(**{name[:-4]: text})[name[:-4]]
+        self.open_files(path)
+        lost = self.model.open_script(name, text)
+        if lost:
+            self.browser.wait('#messages .say.warn', 'Your script was in no file')
+            if self.dice.random() < 0.5:
+                self.press('Bring it back')
+                self.model.bring_back()
+
+    def change_panel(self) -> None:
+        self.model.panel = self.dice.choice(['disc', 'text', 'script', 'publish'])
+        self.browser.click(f'#tab-{self.model.panel}')
+
+    # ---- the script
+
+    def type_line(self) -> None:
+        if len(self.model.text().split('\n')) > 18:
+            return
+        self.browser.click('.editor textarea')
+        self.browser.press(Keys.PAGE_DOWN, Keys.PAGE_DOWN, Keys.END)
+        line = random_model.line(self.dice)
+        if self.model.text().split('\n')[-1] != '':
+            self.browser.press(Keys.ENTER)
+            self.model.edit(f'{self.model.text()}\n')
+        self.browser.press(line)
+        self.model.edit(self.model.text() + line)
+        self.browser.press(Keys.ENTER)
+        self.model.edit(f'{self.model.text()}\n')
+
+    def undo(self) -> None:
+        self.browser.click('.editor textarea')
+        self.browser.press('z', held=Keys.CONTROL)
+        self.model.undo()
+
+    def redo(self) -> None:
+        self.browser.click('.editor textarea')
+        self.browser.press('y', held=Keys.CONTROL)
+        self.model.redo()
+
+    def save_script(self) -> None:
+        self.browser.click('.editor textarea')
+        self.browser.press('s', held=Keys.CONTROL)
+        path = self.browser.downloaded(self.model.name() or 'script.txt')
+        self.assertEqual(path.read_text(), self.model.text())
+        path.unlink()
+        self.model.note_saved()
+
+    def type_byte(self) -> None:
+        block = self.model.next_block()
+        self.browser.find('#map').send_keys('g')
+        self.browser.type('#go-to', str(block))
+        self.browser.press(Keys.ENTER)
+        self.browser.wait('#sector-title', f'block {block}')
+        self.browser.run('document.querySelector(".hex").focus()')
+        self.browser.press(Keys.HOME)
+        at = 'return document.querySelector(".hex").getAttribute("aria-activedescendant")'
+        self.browser.run('document.querySelector("#byte-16").click()')
+        common.waited(lambda: self.browser.run(at) == 'byte-16', 'not at the first byte')
+        self.browser.press('a5')
+        self.model.add_line(f'set {block} 0 A5 was {self.images[self.model.image][block * 2352 + 16]:02X}')
+
+    def add_text(self) -> None:
+        if 'Start' in self.model.text() or discs.START.hex().upper() in self.model.text():
+            return
+        self.browser.type('#find-text', 'スタート')
+        self.browser.press(Keys.ENTER)
+        self.browser.wait('#panel-text .hits tbody mark')
+        common.waited(lambda: self.browser.run('return document.activeElement.id === "new-text"'), 'the new text has no focus')
+        self.browser.type('#new-text', 'Start')
+        self.browser.press(Keys.ENTER)
+        self.browser.wait('#panel-text .hits', 'in the script')
+        self.model.add_line(f"set {discs.first_block()} 0 {'Start   '.encode().hex().upper()} was {discs.START.hex().upper()}")
+
+    def check(self) -> None:
+        if self.model.saving and self.model.saving.card == 'script':
+            return
+        self.back_to_check()
+        self.press('Check')
+        self.browser.wait('#panel-script .tally', 'would apply')
+
+    def script_file(self) -> Path:
+        return discs.written(script=self.model.text())['script']
+
+    def undo_script(self) -> None:
+        if self.model.name() == '' or 'rebuild' in self.model.text() and self.model.patches() == self.model.text().count('rebuild'):
+            return
+        self.press('Make the undo script')
+        path = self.browser.downloaded(f'{self.model.name()[:-4]} (undo).txt')
+        out = applied(self.paths[self.model.image], self.script_file())[2]
+        again = applied(discs.written(patched=out)['patched'], path)[2]
+        self.assertEqual(again, self.images[self.model.image])
+        path.unlink()
+
+    def back_to_check(self) -> None:
+        """Closes what is said of the last save."""
+        self.browser.run('[...document.querySelectorAll("#panel-script button.back")].forEach(it => it.click())')
+
+    # ---- saving
+
+    def hold(self) -> None:
+        self.browser.run('Object.assign(chosen, { writes: [], state: "none", begun: 0, removed: false, asked: 0 }); chosen.hold()')
+
+    def begun(self) -> None:
+        common.waited(lambda: self.browser.run('return chosen.begun > 0'), 'nothing is written')
+
+    def apply(self) -> None:
+        if self.model.saving:
+            return
+        self.hold()
+        due = applied(self.paths[self.model.image], self.script_file())[2]
+        self.back_to_check()
+        self.press('Apply and save')
+        self.begun()
+        self.model.begin('script', due)
+
+    def save_repaired(self) -> None:
+        due = random_model.repaired(self.images[self.model.image], self.images[self.model.second])
+        if due is None:
+            return
+        if self.model.saving is None:
+            self.hold()
+        self.press('Repair from it')
+        self.press('Save repaired image')
+        if self.model.saving is None:
+            self.begun()
+            self.model.begin('second', due)
+        elif self.model.saving.card == 'second':
+            self.press('Save repaired image')
+            self.assertEqual(self.browser.run('return chosen.asked'), 1)
+
+    def release(self) -> None:
+        """The save that runs ends, with what the program makes."""
+        saving = self.model.saving
+        assert saving is not None
+        self.browser.run('chosen.release()')
+        common.waited(lambda: self.browser.run('return chosen.state') == 'closed', 'the save does not end')
+        self.assertEqual(self.chosen_bytes(), saving.due)
+        self.model.saving = None
+
+    def cancel(self) -> None:
+        saving = self.model.saving
+        assert saving is not None
+        card = {'script': '#panel-script .side', 'second': '#second-body'}[saving.card]
+        if not self.browser.run('const it = document.querySelector(arguments[0] + " .job-end button"); return it !== null && it.checkVisibility()', card):
+            return
+        self.browser.run('document.querySelector(arguments[0] + " .job-end button").focus()', card)
+        self.browser.press(Keys.ESCAPE)
+        self.browser.wait(f'{card} .job-end .say.warn', 'End the saving?')
+        if self.dice.random() < 0.5:
+            self.press('Go on saving')
+            return
+        self.press('End it')
+        self.browser.run('chosen.release()')
+        self.browser.wait(f'{card} .say', 'Cancelled.')
+        self.assertEqual(self.browser.run('return [chosen.state, chosen.removed]'), ['aborted', True])
+        self.model.saving = None
+
+    def escape(self) -> None:
+        spots = SPOTS[self.model.panel] if self.model.image or self.model.panel != 'disc' else []
+        shown = [css for css in spots if self.browser.run('return document.querySelector(arguments[0])?.checkVisibility() === true', css)]
+        if shown:
+            self.browser.run('document.querySelector(arguments[0]).focus()', self.dice.choice(shown))
+        self.browser.press(Keys.ESCAPE)
+
+    # ---- two images
+
+    def close_second(self) -> None:
+        self.press('Close it')
+        if self.model.saving:
+            self.browser.wait('#messages .say.warn', 'An image is being saved.')
+        else:
+            self.model.second = ''
+
+    def open_instead(self) -> None:
+        self.press('Open it instead')
+        self.browser.run('document.querySelector("#second-body .btn.main").click()')
+        if self.model.saving:
+            self.browser.wait('#messages .say.warn', 'An image is being saved.')
+            self.press('Repair from it')
+            return
+        self.model.image, self.model.second = self.model.second, ''
+        self.browser.wait('#disc-line .name', self.model.image)
+        self.wait_for_hash()
+
+    # ---- Publish
+
+    def type_title(self) -> None:
+        self.model.title = f'Title {self.dice.randrange(1000)}'
+        self.browser.type('#patcher-title', self.model.title)
+        self.model.edited = True
+
+    def ready(self) -> bool:
+        return self.model.publishable(self.images)
+
+    def see(self) -> None:
+        if not self.ready():
+            return
+        common.waited(lambda: not self.is_off('See it as a player'), 'nothing can be shown')
+        self.press('See it as a player')
+        self.browser.wait('#player h1', self.model.title)
+        self.model.panel = 'player'
+
+    def back_to_publish(self) -> None:
+        self.press('Back to Publish')
+        self.model.panel = 'publish'
+
+    def leave_player(self) -> None:
+        self.press('Open this in the full cdpatch')
+        if self.model.saving:
+            self.browser.wait('#messages .say.warn', 'An image is being saved.')
+        else:
+            self.model.panel = 'script'
+
+    def publish(self) -> None:
+        if not self.ready():
+            return
+        common.waited(lambda: not self.is_off('Save as a patcher'), 'nothing can be published')
+        self.press('Save as a patcher')
+        path = self.browser.downloaded(f'{self.model.title}.html')
+        data = data_of(path.read_bytes())
+        out = applied(self.paths[self.model.image], self.script_file())[2]
+        self.assertEqual((data['script'], data['result']), (self.model.text(), common.sha1(out)))
+        path.unlink()
+        self.model.edited = False

@@ -1,0 +1,428 @@
+"""The panel Script: what is typed, faults, Check, Apply and save, and the undo script, beside what the program prints and writes."""
+
+import zlib
+from pathlib import Path
+
+import common
+import discs
+from pages import BUTTON, GATE, PICKER, PageTest, applied
+from selenium.webdriver.common.keys import Keys
+
+# Counts the characters that the page encodes, the texts that it decodes, the elements that it makes, and the pieces of files that it reads.
+COUNTED = '''globalThis.counted = {};
+const count = (owner, name, key, size) => {
+    const real = owner[name];
+    owner[name] = function (...given) {
+        counted[key] += size(...given);
+        return real.apply(this, given);
+    };
+};
+count(TextEncoder.prototype, 'encode', 'characters', text => text.length);
+count(TextDecoder.prototype, 'decode', 'texts', () => 1);
+count(Document.prototype, 'createElement', 'elements', () => 1);
+count(Blob.prototype, 'arrayBuffer', 'sectors', () => 1);'''
+
+
+class Script(PageTest):
+    def test_check_says_what_the_program_prints(self) -> None:
+        files = discs.written(game=discs.scratched(), english=discs.refused())
+        self.open_image(files['game'])
+        self.open_script(files['english'])
+        self.press('Check')
+        self.browser.wait('.tally', 'refused')
+        status, text = common.run_program('check', files['game'], files['english'])
+        self.assertEqual(self.browser.run('return document.querySelector("pre.log").textContent'), text)
+        self.assertIn(f'status {status}', self.browser.text('#panel-script .side'))
+        said = {line.split(': ', 1)[0]: line.split(': ', 1)[1] for line in text.split('\n')[:-2]}
+        shown = {f"line {row.split('|')[0]}": row.split('|')[2] for row in self.rows() if row.split('|')[2]}
+        self.assertEqual(shown, said)
+        self.assertIn('5 of 8 patches fit this image. The 3 others would be left out.', self.browser.text('#panel-script .side'))
+
+    def test_apply_saves_what_the_program_writes(self) -> None:
+        files = discs.written(game=discs.scratched() + b'tail', english=discs.refused())
+        self.open_image(files['game'])
+        self.open_script(files['english'])
+        self.press('Apply and save')
+        saved = self.browser.downloaded('game (patched).bin')
+        status, text, out = applied(files['game'], files['english'])
+        self.assertEqual(saved.read_bytes(), out)
+        self.browser.wait('#panel-script .side', 'without 3 of 8 patches')
+        self.assertEqual(self.browser.run('return document.querySelector("pre.log").textContent'), text)
+        self.browser.wait('#saved-sha1', common.sha1(out))
+        self.assertEqual(self.browser.text('#saved-crc32'), f'{zlib.crc32(out):08x}')
+        one_line = 'return document.querySelector("#saved-sha1").offsetHeight === document.querySelector("#saved-crc32").offsetHeight'
+        self.assertTrue(self.browser.run(one_line))
+        self.press('Open the new image')
+        self.browser.wait('#disc-line .name', 'game (patched).bin')
+        self.browser.wait('#disc-line .sha1', common.sha1(out))
+        self.assertEqual((status, self.browser.attempts()), (1, []))
+
+    def test_one_cue_sheet_names_each_track_that_was_saved(self) -> None:
+        files = discs.written(first=common.image_of([b'first'] * 20), music=bytes(range(256)) * 2352, last=common.image_of([b'last'] * 20, 500),
+                              both='cdpatch 1\nset 3 0 46 was 66\nset 503 0 4C was 6C\n')
+        sheet = files['both'].with_name('game.cue')
+        sheet.write_text(''.join(f'FILE "{name}.bin" BINARY\n  TRACK 0{i + 1} {kind}\n    INDEX 01 00:00:00\n' for i, (name, kind) in enumerate(
+            {'first': 'MODE1/2352', 'music': 'AUDIO', 'last': 'MODE1/2352'}.items())))
+        self.open_files(sheet, *[files[name] for name in ('first', 'music', 'last')])
+        self.wait_for_hash()
+        self.open_script(files['both'])
+        self.press('Apply and save')
+        self.browser.downloaded('first (patched).bin')
+        self.browser.run("const it = document.querySelector('#disc-line select'); it.value = '3'; it.dispatchEvent(new Event('change'))")
+        self.browser.wait('#disc-line .name', 'last.bin')
+        self.press('Apply and save')
+        self.browser.downloaded('last (patched).bin')
+        self.browser.wait('#panel-script .side', 'The cue sheet names files too that you saved before: first (patched).bin')
+        self.press('Save a cue sheet')
+        saved = self.browser.downloaded('game (patched).cue')
+        wanted = sheet.read_text().replace('first.bin', 'first (patched).bin').replace('last.bin', 'last (patched).bin')
+        self.assertEqual(common.waited(saved.read_text, 'the cue sheet is empty'), wanted)
+
+    def test_carry_patches_damaged_sectors_too(self) -> None:
+        files = discs.written(game=discs.scratched(), english=discs.script())
+        self.open_image(files['game'])
+        self.open_script(files['english'])
+        self.press('Check')
+        self.browser.wait('.tally', '1\nrefused')
+        self.browser.click('#panel-script input[type=checkbox]')
+        self.press('Apply and save')
+        saved = self.browser.downloaded('game (patched).bin')
+        status, _, out = applied(files['game'], files['english'], '--carry')
+        self.assertEqual((status, saved.read_bytes()), (0, out))
+
+    def test_a_saved_file_that_is_dropped_again_is_checked(self) -> None:
+        files = discs.written(game=discs.game(), english=discs.script())
+        self.open_image(files['game'])
+        self.open_script(files['english'])
+        self.press('Apply and save')
+        saved = self.browser.downloaded('game (patched).bin')
+        self.browser.wait('#saved-sha1', common.sha1(saved.read_bytes()))
+        self.browser.drop('#panel-script', [saved])
+        self.browser.wait('#panel-script .say', 'Right: game (patched).bin')
+        self.assertNotIn('Keep this page open', self.browser.text('#panel-script .side'))
+        saved.write_bytes(saved.read_bytes()[:-1])
+        self.browser.drop('#panel-script', [saved])
+        self.browser.wait('#panel-script .say', 'it was not saved to its end')
+        saved.write_bytes(applied(files['game'], files['english'])[2])
+        self.browser.drop('#panel-script', [saved])
+        self.press('Open it')
+        self.browser.wait('#second-title', 'game (patched).bin')
+
+    def test_what_was_saved_makes_way_for_check_if_the_script_changes(self) -> None:
+        files = discs.written(game=discs.game(), english=discs.script(), other='cdpatch 1\nrebuild 1\n')
+        self.open_image(files['game'])
+        self.open_script(files['english'])
+        for typed in (False, True):
+            self.press('Apply and save')
+            self.browser.downloaded('game (patched).bin').unlink()
+            self.browser.wait('#panel-script .side h2', 'Saving by your browser')
+            if typed:
+                self.browser.click('.editor textarea')
+                self.browser.press('# ')
+            else:
+                self.open_script(files['other'])
+            self.browser.wait('#panel-script .side h2', 'Check')
+
+    def test_a_saved_file_is_not_judged_before_the_sum_of_the_image_is_known(self) -> None:
+        files = discs.written(game=discs.game(), english=discs.script())
+        self.open_image(files['game'])
+        self.open_script(files['english'])
+        self.browser.run(f'{GATE} Object.assign(globalThis, {{ held: 1, least: {len(discs.game())} }})')
+        self.press('Apply and save')
+        self.browser.drop('#panel-script', [self.browser.downloaded('game (patched).bin')])
+        common.waited(lambda: self.browser.run('return globalThis.reads') == 2, 'the dropped file is not read')
+        self.browser.run('openGate()')
+        self.browser.wait('#panel-script [role=status] .say', 'Right: game (patched).bin')
+
+    def test_a_fault_is_said_in_the_words_of_the_program_with_help(self) -> None:
+        script = 'cdpatch 1\nset 26 0 537 was 8358\nset 26 2105 41 was 42\nreplace 26 0 41\n'
+        files = discs.written(game=discs.game(), faulty=script)
+        self.open_image(files['game'])
+        self.open_script(files['faulty'])
+        self.assertEqual([row.split('|')[2] for row in self.rows()], ['', 'bad hex', 'offset over 2047', 'unknown verb', ''])
+        _, text = common.run_program('check', files['game'], files['faulty'])
+        self.assertIn('bad hex', text)
+        self.assertIn('An odd number of digits: 3. Two digits make one byte.', self.browser.text('.editor'))
+        self.assertIn('3 lines have a fault', self.browser.text('#panel-script .side'))
+        self.assertIn('The lines are 2, 3 and 4.', self.browser.text('#panel-script .side'))
+        self.assertTrue(self.is_off('Check') and self.is_off('Apply and save'))
+        self.press('Block 27 offset 57?')
+        self.browser.wait('#panel-script header .tag', '2 faults')
+        self.assertIn('set 27 57 41 was 42', self.script_text())
+
+    def test_keys_edit_lines_and_undo_takes_back(self) -> None:
+        self.open_image(discs.written(game=discs.game())['game'])
+        self.browser.click('#tab-script')
+        self.browser.click('.editor textarea')
+        self.browser.press(Keys.ARROW_DOWN, 'rebuild 1', Keys.ENTER, 'rebuild 2', Keys.ENTER, '# end')
+        self.assertEqual([row.split('|')[1] for row in self.rows()], ['cdpatch 1', 'rebuild 1', 'rebuild 2', '# end'])
+        self.browser.press(Keys.HOME, Keys.BACKSPACE)
+        self.assertEqual([row.split('|')[1] for row in self.rows()][2:], ['rebuild 2# end'])
+        self.browser.press('z', held=Keys.CONTROL)
+        self.assertEqual([row.split('|')[1] for row in self.rows()][2:], ['rebuild 2', '# end'])
+        self.browser.press(Keys.ARROW_UP, Keys.ARROW_UP, held=Keys.SHIFT)
+        self.browser.press(Keys.DELETE)
+        self.assertEqual([row.split('|')[1] for row in self.rows()], ['# end'])
+        self.browser.press('z', held=Keys.CONTROL)
+        self.browser.press(Keys.ENTER, held=Keys.CONTROL)
+        self.browser.wait('.tally', '2\nwould apply')
+        self.assertEqual(self.script_text(), 'cdpatch 1\nrebuild 1\nrebuild 2\n# end')
+
+    def type_script(self) -> None:
+        """Writes a script of one patch."""
+        self.browser.click('#tab-script')
+        self.browser.click('.editor textarea')
+        self.browser.press(Keys.ARROW_DOWN, 'rebuild 1')
+
+    def test_a_script_that_is_opened_does_not_lose_the_one_before_it(self) -> None:
+        files = discs.written(game=discs.game(), english=discs.script())
+        self.open_image(files['game'])
+        self.type_script()
+        self.open_script(files['english'])
+        self.browser.wait('#messages .say.warn', 'Your script was in no file')
+        self.press('Bring it back')
+        self.assertEqual([row.split('|')[1] for row in self.rows()], ['cdpatch 1', 'rebuild 1'])
+        self.assertEqual(self.browser.text('#panel-script header h2'), 'New script')
+        self.browser.click('.editor textarea')
+        self.browser.press('y', held=Keys.CONTROL)
+        self.browser.wait('#panel-script header h2', 'english.txt')
+        self.browser.press('z', held=Keys.CONTROL)
+        self.assertEqual(self.script_text(), 'cdpatch 1\nrebuild 1')
+
+    def test_a_script_in_no_file_is_not_left_unasked(self) -> None:
+        self.open_image(discs.written(game=discs.game())['game'])
+        self.assertFalse(self.browser.asks_before_leaving())
+        self.type_script()
+        self.assertTrue(self.browser.asks_before_leaving())
+        self.browser.wait('#panel-script header .tag.warn', 'in no file yet')
+        self.browser.press('s', held=Keys.CONTROL)
+        self.assertEqual(self.browser.downloaded('script.txt').read_text(), 'cdpatch 1\nrebuild 1')
+        self.assertFalse(self.browser.asks_before_leaving())
+        self.assertNotIn('in no file', self.browser.text('#panel-script header'))
+
+    def test_the_focus_stays_in_the_card_that_works(self) -> None:
+        files = discs.written(game=discs.scratched(), english=discs.script())
+        self.open_image(files['game'])
+        self.open_script(files['english'])
+        for name, shown, then in (('Check', '.tally', 'Check: Go to line'), ('Apply and save', '#saved-sha1', 'Check: Back to Check')):
+            self.browser.run(f'{BUTTON}.focus()', name)
+            self.browser.press(Keys.ENTER)
+            self.browser.wait(shown)
+            common.waited(lambda: self.focused().startswith(then), f'{self.focused()} has the focus')
+        self.browser.press(Keys.ENTER)
+        self.browser.run('document.querySelector("#panel-script input[type=checkbox]").focus()')
+        self.browser.press(' ')
+        self.assertEqual(self.browser.run('return document.activeElement.type'), 'checkbox')
+
+    def test_f8_goes_from_one_wrong_line_to_the_next(self) -> None:
+        self.open_script(discs.written(faulty='cdpatch 1\nrebuild x\n# note\nrebuild 2\nrebuild y\n')['faulty'])
+        self.browser.click('.editor textarea')
+        where = []
+        for held in ('', '', '', Keys.SHIFT):
+            self.browser.press(Keys.F8, held=held)
+            where.append(self.browser.run('return document.activeElement.getAttribute("aria-label")').split(':')[0])
+        self.assertEqual(where, [f'Script, line {i} of 6' for i in (2, 5, 2, 5)])
+
+    def test_the_line_with_the_caret_is_explained(self) -> None:
+        files = discs.written(game=discs.game(), english=discs.script())
+        self.open_image(files['game'])
+        self.open_script(files['english'])
+        self.browser.click('.editor textarea')
+        self.browser.press(Keys.ARROW_DOWN, Keys.ARROW_DOWN, Keys.ARROW_DOWN)
+        self.browser.wait('.explain', f'Line 4: write 8 bytes at offset 0 of block {discs.first_block()}, in /DATA/MSG00.DAT')
+        self.browser.wait('.explain', 'Start␣␣␣')
+        self.browser.wait('.explain', 'スタート')
+
+    def test_only_visible_lines_of_65535_are_drawn(self) -> None:
+        script = 'cdpatch 1\n' + ''.join(f'set {i} 0 {"4A" * (4096 if i == 9 else 8)}\n' for i in range(65535))
+        self.open_script(discs.written(large=script)['large'])
+        self.browser.wait('#panel-script header .tag', '65,535 patches')
+        self.assertLess(len(self.rows()), 80)
+        self.browser.click('.editor textarea')
+        self.browser.press(Keys.END, held=Keys.CONTROL)
+        self.assertEqual(self.rows()[-2].split('|')[:2], ['65536', 'set 65534 0 4A4A4A4A4A4A4A4A'])
+        self.browser.press('rebuild 7')
+        self.browser.wait('#panel-script header .tag', '1 fault')
+        self.assertEqual(self.rows()[-1], '65537|rebuild 7|more than 65535 patches')
+        self.assertEqual(self.browser.attempts(), [])
+
+    def test_a_key_in_65535_lines_asks_about_its_own_line_alone(self) -> None:
+        """What the page encodes for the module and hears from it, what it makes, and what it reads of the image."""
+        files = discs.written(game=discs.game(), large='cdpatch 1\n' + ''.join(f'set {i % 180} {i % 2048} 4A was 4B\n' for i in range(65535)))
+        self.open_image(files['game'])
+        self.open_script(files['large'])
+        self.browser.wait('#panel-script header .tag', '65,535 patches')
+        self.press('Check')
+        self.browser.wait('.tally', 'refused')
+        self.browser.click('.editor textarea')
+        self.browser.press(Keys.HOME, Keys.ARROW_DOWN)
+        self.browser.run(COUNTED)
+        # The first key ends what Check has said of all lines; the third makes a fault of the line, and the last one ends it.
+        for digits in ('4A', '4C', '4', '4D'):
+            counts = self.browser.run('''const area = document.querySelector('.editor textarea');
+                Object.assign(counted, { characters: 0, texts: 0, elements: 0, sectors: 0 });
+                area.value = `set 7 8 ${arguments[0]}`;
+                area.dispatchEvent(new Event('input'));
+                return counted''', digits)
+            self.assertLess(counts['characters'], 300, digits)
+            self.assertLess(counts['texts'], 300, digits)
+            self.assertLess(counts['elements'], 1000, digits)
+            self.assertEqual(counts['sectors'], 0, digits)
+        self.browser.wait('#panel-script header .tag', '65,535 patches')
+
+    def test_a_key_reads_no_sector_that_is_not_shown(self) -> None:
+        files = discs.written(game=discs.game(), english=discs.script())
+        block = discs.first_block()
+        self.open_image(files['game'])
+        self.browser.press('g')
+        self.browser.type('#go-to', f'{block}\n')
+        self.browser.wait('#sector-title', f'block {block}')
+        self.open_script(files['english'])
+        self.browser.run(f'{GATE} globalThis.held = 0')
+        self.browser.click('.editor textarea')
+        self.browser.press(Keys.END, held=Keys.CONTROL)
+        self.browser.press(f'set {block} 1 41', Keys.ENTER, '# end')
+        self.assertEqual(self.browser.run('return globalThis.reads'), 0)
+        self.browser.click('#tab-disc')
+        shown = 'return [16, 17].map(at => document.querySelector(`.hex i[data-at="${at}"]`).innerText)'
+        common.waited(lambda: self.browser.run(shown) == ['53', '41'], 'the sector is that of another script')
+
+    def test_the_undo_script_makes_the_old_image_again(self) -> None:
+        files = discs.written(game=discs.game(), english=discs.script())
+        self.open_image(files['game'])
+        self.open_script(files['english'])
+        self.press('Make the undo script')
+        undo = self.browser.downloaded('english (undo).txt')
+        _, _, patched = applied(files['game'], files['english'])
+        self.assertNotEqual(patched, discs.game())
+        status, _, again = applied(discs.written(patched=patched)['patched'], undo)
+        self.assertEqual((status, again), (0, discs.game()))
+
+    def test_the_undo_script_of_carried_damage_says_that_it_wants_carry(self) -> None:
+        files = discs.written(game=discs.scratched(), english=discs.script())
+        self.open_image(files['game'])
+        self.open_script(files['english'])
+        self.browser.click('#panel-script input[type=checkbox]')
+        self.press('Make the undo script')
+        self.browser.wait('#messages .say', 'Apply it with carry, as this script.')
+        undo = self.browser.downloaded('english (undo).txt')
+        _, _, patched = applied(files['game'], files['english'], '--carry')
+        status, _, again = applied(discs.written(patched=patched)['patched'], undo, '--carry')
+        self.assertEqual((status, again), (0, discs.scratched()))
+
+    def test_an_undo_script_can_be_cancelled(self) -> None:
+        files = discs.written(game=discs.game(), english=discs.script())
+        self.open_image(files['game'])
+        self.open_script(files['english'])
+        self.browser.run(GATE)
+        self.press('Make the undo script')
+        self.browser.wait('#panel-script .progress')
+        self.press('Cancel')
+        self.browser.run('openGate()')
+        self.browser.wait('#messages .say', 'No undo script was made.')
+        self.assertEqual(list(self.browser.downloads.iterdir()), [])
+
+    def test_the_undo_script_can_be_made_of_an_image_that_is_opened_later(self) -> None:
+        files = discs.written(game=discs.game(), english=discs.script())
+        self.open_script(files['english'])
+        self.assertTrue(self.is_off('Make the undo script'))
+        self.open_image(files['game'])
+        self.browser.click('#tab-script')
+        self.assertFalse(self.is_off('Make the undo script'))
+
+    def test_a_file_that_shrinks_saves_nothing(self) -> None:
+        files = discs.written(game=discs.game(), english=discs.script())
+        self.open_image(files['game'])
+        self.open_script(files['english'])
+        files['game'].write_bytes(discs.game()[:100000])
+        self.press('Apply and save')
+        self.browser.wait('#panel-script .say.bad', 'cannot be read any more')
+        self.assertIn('No image was kept', self.browser.text('#panel-script .side'))
+        self.assertEqual(list(self.browser.downloads.glob('game*')), [])
+
+    def test_a_base_that_is_not_0_is_that_of_the_image(self) -> None:
+        image = common.image_of([b'one', b'two', b'three'], 1000)
+        files = discs.written(track=image, later='cdpatch 1\nset 1001 0 54574F was 74776F\nrebuild 5\n')
+        self.open_image(files['track'])
+        self.open_script(files['later'])
+        self.press('Check')
+        self.browser.wait('.tally', '1\nrefused')
+        _, text = common.run_program('check', '--base', '1000', files['track'], files['later'])
+        self.assertEqual(self.browser.run('return document.querySelector("pre.log").textContent'), text)
+
+    def test_a_script_of_its_head_line_alone_is_shown(self) -> None:
+        self.open_files(discs.written(head='cdpatch 1\n')['head'])
+        self.browser.wait('#panel-script header h2', 'head.txt')
+        self.browser.wait('#panel-script h2', 'No patches yet')
+
+
+class Streaming(PageTest):
+    stub = PICKER
+
+    def begin(self, copies: int = 1) -> dict[str, Path]:
+        """Opens a game, or copies of it one after the other, and its script."""
+        files = discs.written(game=discs.game() * copies, english=discs.script())
+        self.open_image(files['game'])
+        self.open_script(files['english'])
+        return files
+
+    def test_what_is_streamed_is_what_the_program_writes(self) -> None:
+        files = self.begin()
+        self.press('Apply and save')
+        self.browser.wait('#panel-script .say.good', 'Saved: game (patched).bin')
+        self.assertEqual(self.browser.run('return chosen.state'), 'closed')
+        self.assertEqual(self.chosen_bytes(), applied(files['game'], files['english'])[2])
+
+    def test_the_file_is_asked_for_at_the_click(self) -> None:
+        self.begin()
+        script = f'{BUTTON.replace("return", "const it =", 1)}; it.click(); return chosen.asked'
+        self.assertEqual(self.browser.run(script, 'Apply and save'), 1)
+
+    def test_a_saved_file_that_cannot_be_read_again_is_saved_all_the_same(self) -> None:
+        self.begin()
+        self.browser.run('chosen.gone = true')
+        self.press('Apply and save')
+        self.browser.wait('#panel-script .say.good', 'Saved: game (patched).bin')
+        self.browser.wait('#saved-sha1', 'not known')
+
+    def test_a_failure_at_each_write_keeps_no_image(self) -> None:
+        self.begin(40)
+        self.press('Apply and save')
+        self.browser.wait('#panel-script .say.good')
+        count = int(self.browser.run('return chosen.writes.length'))
+        self.assertGreater(count, 1)
+        for failing in [*range(count), 'close']:
+            self.press('Back')
+            self.browser.run('Object.assign(chosen, { writes: [], state: "none", failing: arguments[0], removed: false })', failing)
+            self.press('Apply and save')
+            self.browser.wait('#panel-script .say.bad', 'The disk is full')
+            self.assertIn('No image was kept', self.browser.text('#panel-script .side'))
+            self.assertEqual(self.browser.run('return [chosen.state, chosen.removed]'), ['aborted', True], f'write {failing}')
+
+    def test_cancel_in_the_middle_keeps_no_image(self) -> None:
+        self.begin()
+        self.browser.run('chosen.hold()')
+        self.press('Apply and save')
+        common.waited(lambda: self.browser.run('return chosen.begun > 0'), 'nothing was written')
+        self.press('Cancel')
+        self.browser.run('chosen.release()')
+        self.browser.wait('#panel-script .say', 'Cancelled.')
+        self.assertIn('No image was kept', self.browser.text('#panel-script .side'))
+        self.assertEqual(self.browser.run('return [chosen.state, chosen.removed]'), ['aborted', True])
+
+    def test_the_open_image_is_never_written_over(self) -> None:
+        game = self.begin()['game']
+        self.browser.run("document.body.insertAdjacentElement('beforeend', Object.assign(document.createElement('input'), { type: 'file', id: 'own' }))")
+        self.browser.give('#own', [game])
+        self.browser.run('chosen.own = document.querySelector("#own").files[0]')
+        self.press('Apply and save')
+        self.browser.wait('#panel-script .say.bad', 'is the open image itself')
+        self.assertEqual(self.browser.run('return [chosen.state, chosen.writes.length]'), ['none', 0])
+
+    def test_who_chooses_no_file_is_back_at_check(self) -> None:
+        self.begin()
+        self.browser.run('chosen.none = true')
+        self.press('Apply and save')
+        common.waited(lambda: self.browser.run('return chosen.asked') == 1, 'nobody was asked')
+        self.browser.wait('#panel-script .side h2', 'Check')
+        self.assertEqual(self.browser.run('return chosen.state'), 'none')

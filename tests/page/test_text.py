@@ -1,0 +1,310 @@
+"""The panel Text: hits, their tags, the length gauge, and replacing into the script."""
+
+import re
+import subprocess
+from pathlib import Path
+
+import common
+import decoders
+import discs
+from pages import PageTest, applied
+from selenium.webdriver.common.keys import Keys
+
+
+def places(text: bytes) -> list[str]:
+    """Where some bytes stand in the user data of the game, as 'block offset'."""
+    user = b''.join(discs.game()[at + 16:at + 2064] for at in range(0, len(discs.game()), 2352))
+    found = [match.start() for match in re.finditer(b'(?=' + re.escape(text) + b')', user)]
+    return [f'{at // 2048} {at % 2048}' for at in found]
+
+
+class Text(PageTest):
+    def find(self, text: str) -> None:
+        """Opens the game and finds a text by the keyboard."""
+        self.files = discs.written(game=discs.game())
+        self.open_image(self.files['game'])
+        self.browser.click('#tab-text')
+        self.browser.click('#find-text')
+        self.search(text)
+
+    def search(self, text: str) -> None:
+        """Types a text, presses Enter, and waits until the new text can be typed."""
+        self.browser.press(text, Keys.ENTER)
+        self.browser.wait('#panel-text .hits tbody mark')
+        common.waited(lambda: self.browser.run('return document.activeElement.id === "new-text"'), 'the new text has no focus')
+
+    def hits(self) -> list[str]:
+        cells = 'return [...document.querySelectorAll(".hits tbody tr")].map(row => [...row.cells].slice(0, 2).map(it => it.innerText.split(",")[0].trim()).join(" "))'
+        return list(self.browser.run(cells))
+
+    def row(self, number: int) -> str:
+        return self.browser.text(f'.hits tbody tr:nth-child({number})')
+
+    def test_each_hit_is_found_with_its_file_and_what_stands_round_it(self) -> None:
+        self.find('スタート')
+        self.assertEqual(self.hits(), places(discs.START))
+        self.assertEqual(len(self.hits()), 5)
+        common.waited(lambda: 'もう一度スタートに戻りますか？' in self.row(3), self.row(3))
+        self.assertIn('/DATA/MSG00.DAT', self.row(3))
+        self.assertIn('over a border of blocks', self.row(4))
+
+    def test_the_bytes_round_a_hit_fit_the_width_of_their_card(self) -> None:
+        self.find('スタート')
+        for width, rows in ((1280, ':not(.cols8)'), (360, '.cols8'), (1280, ':not(.cols8)')):
+            self.browser.size(width)
+            self.browser.wait(f'.hex.around{rows}', 'スタート')
+
+    def test_find_replace_check_and_apply_give_what_the_program_writes(self) -> None:
+        self.find('スタート')
+        self.browser.press('Start', Keys.ENTER)
+        self.browser.wait('.hits tbody tr:nth-child(1)', 'in the script, line 2')
+        self.browser.wait('#panel-text .side h2', f'Replace: block {discs.first_block()} offset')
+        self.press('Add for all 4 left')
+        self.browser.wait('#panel-text .say.good', '4 lines added to the script.')
+        self.browser.click('#tab-script')
+        script = self.script_text()
+        new = 'Start'.encode().ljust(8).hex().upper()
+        self.assertEqual(script, 'cdpatch 1\n' + ''.join(f'set {place} {new} was {discs.START.hex().upper()}\n' for place in places(discs.START)))
+        self.press('Check')
+        self.browser.wait('.tally', '5\nwould apply')
+        self.press('Apply and save')
+        saved = self.browser.downloaded('game (patched).bin').read_bytes()
+        self.assertEqual(saved, applied(self.files['game'], discs.written(script=script)['script'])[2])
+        self.assertEqual(self.browser.attempts(), [])
+
+    def shown(self, css: str) -> bool:
+        return bool(self.browser.run('return document.querySelector(arguments[0]).checkVisibility()', css))
+
+    def choose(self, encoding: str) -> None:
+        self.browser.run('document.querySelector("#find-encoding").value = arguments[0]; '
+                         'document.querySelector("#find-encoding").dispatchEvent(new Event("change"))', encoding)
+
+    def test_hits_are_shown_only_for_the_text_and_the_encoding_that_were_searched(self) -> None:
+        self.find('スタート')
+        self.choose('EUC-JP')
+        self.assertFalse(self.shown('.hits'))
+        self.choose('CP932')
+        self.assertTrue(self.shown('.hits'))
+        self.browser.click('#find-text')
+        self.browser.press(Keys.BACKSPACE)
+        self.assertFalse(self.shown('.hits'))
+        self.browser.press('ト')
+        self.assertTrue(self.shown('.hits'))
+
+    def test_what_was_not_searched_is_not_called_searched(self) -> None:
+        self.open_image(discs.written(game=discs.game())['game'])
+        self.browser.click('#tab-text')
+        self.browser.click('#find-text')
+        self.browser.press('存在しない', Keys.ENTER)
+        self.browser.wait('#panel-text .say', 'No hit in Shift-JIS (CP932).')
+        self.browser.type('#find-text', 'Café')
+        self.browser.press(Keys.ENTER)
+        self.browser.wait('.hint', "CP932 has no 'é'")
+        self.assertNotIn('searched to the end', self.browser.text('#panel-text'))
+
+    def test_hits_are_counted_anew_after_the_script_has_changed(self) -> None:
+        self.find('スタート')
+        self.browser.press('Start', Keys.ENTER)
+        self.browser.wait('.hits tbody tr:nth-child(1)', 'in the script, line 2')
+        self.assertFalse(self.is_off('Add for all 4 left'))
+        self.browser.click('#tab-script')
+        self.browser.click('.editor textarea')
+        self.browser.press('z', held=Keys.CONTROL)
+        self.browser.click('#tab-text')
+        self.assertFalse(self.is_off('Add for all 5 left'))
+        self.assertNotIn('in the script', self.row(1))
+
+    def test_a_line_that_writes_a_hit_already_is_replaced(self) -> None:
+        self.find('スタート')
+        self.browser.press('Start', Keys.ENTER)
+        self.browser.wait('.hits tbody tr:nth-child(1)', 'in the script, line 2')
+        self.browser.click('.hits tbody tr:nth-child(1)')
+        self.browser.wait('#panel-text .main', 'Replace line 2')
+        self.browser.type('#new-text', 'Begin')
+        self.press('Replace line 2')
+        self.browser.click('#tab-script')
+        new = 'Begin'.encode().ljust(8).hex().upper()
+        self.assertEqual(self.script_text(), f'cdpatch 1\nset {places(discs.START)[0]} {new} was {discs.START.hex().upper()}\n')
+
+    def test_a_text_that_is_too_long_is_not_added(self) -> None:
+        self.find('スタート')
+        self.browser.press('Start game')
+        self.browser.wait('#new-length', '10 bytes, 2 too many for the 8 of the old text')
+        self.assertEqual(self.browser.run('return document.querySelectorAll(".gauge .over").length'), 2)
+        self.assertTrue(self.is_off('Add to the script') and self.is_off('Add for all'))
+        self.browser.press(Keys.ENTER)
+        self.press('Add to the script')
+        self.assertTrue(self.browser.run('return document.querySelector("#count-script").hidden'))
+
+    def test_a_wide_space_fills_only_what_it_fits(self) -> None:
+        self.find('スタート')
+        self.browser.press('Star')
+        self.browser.run('document.querySelector("#panel-text select.short").value = "8140"; '
+                         'document.querySelector("#panel-text select.short").dispatchEvent(new Event("change"))')
+        self.browser.wait('.line-out', f'was {discs.START.hex().upper()}')
+        self.assertIn('53746172' + '8140' * 2, self.browser.text('.line-out'))
+        self.browser.click('#new-text')
+        self.browser.press('t')
+        self.browser.wait('#panel-text .say.bad', '3 bytes cannot be filled with that')
+        self.assertTrue(self.is_off('Add to the script'))
+
+    def texts(self, texts: dict[str, str]) -> None:
+        """Opens an image with a block for each text, in the encoding by which it stands here."""
+        self.open_image(discs.written(texts=common.image_of([text.encode(name) for name, text in texts.items()]))['texts'])
+        self.browser.click('#tab-text')
+
+    def replaced(self, block: int, encoding: str, old: str, new: str) -> str:
+        """The line that replaces a text at the beginning of a block, with what fills it up by default."""
+        self.choose(encoding)
+        self.browser.type('#find-text', old)
+        self.browser.press(Keys.ENTER)
+        self.browser.wait('#panel-text .side h2', f'Replace: block {block} offset 0')
+        self.browser.type('#new-text', new)
+        self.browser.wait('.line-out', f'was {old.encode(encoding).hex().upper()}')
+        return self.browser.text('.line-out')
+
+    def fills(self) -> list[str]:
+        return list(self.browser.run('return [...document.querySelector("#panel-text select.short").options].map(it => it.text)'))
+
+    def test_a_shorter_text_is_filled_up_with_the_space_of_its_encoding(self) -> None:
+        self.texts({'UTF-16LE': 'スタート', 'CP932': 'おわり'})
+        self.assertIn(f"set 0 0 {'go  '.encode('utf-16-le').hex().upper()} was", self.replaced(0, 'UTF-16LE', 'スタート', 'go'))
+        self.assertEqual(self.fills(), ['20 00 space', '00 30 wide space', '00', 'another byte…'])
+
+    def test_a_wide_space_is_that_of_the_encoding(self) -> None:
+        self.texts({'CP932': 'スタート', 'EUC-JP': 'スタート'})
+        self.replaced(0, 'CP932', 'スタート', 'ゴー')
+        self.assertEqual(self.fills()[1], '81 40 wide space')
+        self.replaced(1, 'EUC-JP', 'スタート', 'ゴー')
+        self.assertEqual(self.fills(), ['20 space', 'A1 A1 wide space', '00', 'another byte…'])
+        self.browser.run('document.querySelector("#panel-text select.short").selectedIndex = 1; '
+                         'document.querySelector("#panel-text select.short").dispatchEvent(new Event("change"))')
+        self.browser.wait('.line-out', f"set 1 0 {'ゴー　　'.encode('euc-jp').hex().upper()} was")
+
+    def test_a_text_in_another_encoding_of_two_bytes_is_found_and_replaced(self) -> None:
+        others = [it for it in common.encodings() if 'found' in it]
+        self.open_image(discs.written(texts=common.image_of([it['texts'][0].encode(it['codec']) for it in others]))['texts'])
+        self.browser.click('#tab-text')
+        for block, it in enumerate(others):
+            old, new = it['texts'][0], it['found'][2]
+            self.choose(it['name'])
+            self.browser.type('#find-text', old)
+            self.browser.press(Keys.ENTER)
+            self.browser.wait('#panel-text .side h2', f'Replace: block {block} offset 0')
+            self.browser.type('#new-text', new)
+            fresh = new.encode(it['codec']).ljust(len(old.encode(it['codec']))).hex().upper()
+            self.browser.wait('.line-out', f"set {block} 0 {fresh} was {old.encode(it['codec']).hex().upper()}")
+
+    def test_chromium_reads_pairs_of_bytes_as_the_tables_have_them(self) -> None:
+        self.assertGreater(sum(len(pairs) for pairs in decoders.tables().values()), 50000)
+        self.assertEqual(decoders.differing(self.browser.run), [])
+
+    def test_hits_that_may_begin_inside_a_character_are_not_added_for_all(self) -> None:
+        # In CP932 殻 is 8A6B, so that only the second and the third 'kz' begin a character.
+        self.open_image(discs.written(inside=common.image_of([b'\0' + '殻z'.encode('cp932') + b'\0kz\0kz', b'', b'']))['inside'])
+        self.browser.click('#tab-text')
+        self.browser.click('#find-text')
+        self.search('kz')
+        self.browser.wait('.hits tbody tr:nth-child(1)', 'perhaps in the middle of a character (byte before: 8A)')
+        self.browser.press('xx')
+        self.press('Add for all 3 left')
+        self.browser.wait('#panel-text .say.warn', '1 hit left: block 0 offset 2: perhaps in the middle of a character (byte before: 8A)')
+        self.browser.click('#tab-script')
+        self.assertEqual(self.script_text(), 'cdpatch 1\nset 0 5 7878 was 6B7A\nset 0 8 7878 was 6B7A\n')
+
+    def said_of_hits(self) -> list[str]:
+        """Of each hit that is shown its place, its file, and whether it may begin in the middle of a character."""
+        return list(self.browser.run('''return [...document.querySelectorAll('.hits tbody tr')].map(row => {
+            const doubt = [...row.querySelectorAll('.tag')].map(it => it.textContent).find(it => it.startsWith('perhaps')) || '';
+            return [row.cells[0].textContent.replace(/,.*/, ''), ...[1, 2].map(i => row.cells[i].textContent), doubt].join(' ') })'''))
+
+    def cdscript(self, image: Path, *words: str) -> str:
+        node = subprocess.run(['node', common.cdscript(), words[0], image, *words[1:]], stdout=subprocess.PIPE, stderr=subprocess.PIPE, check=False)
+        return node.stdout.decode()
+
+    def test_the_page_says_of_each_hit_what_cdscript_says_and_replaces_all_by_the_same_script(self) -> None:
+        # In CP932 殻 is 8A6B, and in UTF-16 and EUC-JP a space is not what it is there.
+        texts = b'\0' + '殻z'.encode('cp932') + b'\0kz\0kz'.ljust(2048, b'.') * 2 + 'スタート'.encode('utf-16-le') + 'スタート'.encode('euc-jp')
+        image = discs.written(hits=common.image_of(common.iso_of({'ONE.BIN': texts, 'TWO.BIN': texts})))['hits']
+        self.open_image(image)
+        self.browser.click('#tab-text')
+        script = 'cdpatch 1\n'
+        for encoding, old, new in (('CP932', 'kz', 'x'), ('UTF-16LE', 'スタート', 'go'), ('EUC-JP', 'スタート', 'ゴー')):
+            self.choose(encoding)
+            self.browser.click('#find-text')
+            self.browser.run('document.querySelector("#find-text").value = ""')
+            self.search(old)
+            lines = [line.split('\t') for line in self.cdscript(image, 'find', old, '--encoding', encoding).splitlines()]
+            due = [f"{block} {offset} {file.partition('+')[0]} {''.join(doubt)}" for block, offset, _, file, _, *doubt in lines]
+            common.waited(lambda: self.said_of_hits() == due, f'{due}')
+            self.browser.type('#new-text', new)
+            self.press('Add for all')
+            self.browser.wait('#panel-text .say', 'added to the script.')
+            script += self.cdscript(image, 'replace', old, new, '--all', '--encoding', encoding).removeprefix('cdpatch 1\n')
+        self.assertEqual(len(script.splitlines()), 1 + 8 + 2 + 2)
+        self.browser.click('#tab-script')
+        self.assertEqual(self.script_text(), script)
+
+    def test_a_long_run_of_characters_says_which_hits_begin_inside_one(self) -> None:
+        # Each byte of a run of 亜 (889F) may begin a character, but the last one of 殻 (8A6B).
+        run = ('殻' + '亜' * 60).encode('cp932').replace(b'\x88\x9f', b'\x89\x89') + 'あ'.encode('cp932')
+        self.open_image(discs.written(run=common.image_of([b'.' + run]))['run'])
+        self.browser.click('#tab-text')
+        self.choose('hex')
+        self.browser.click('#find-text')
+        self.search('8989')
+        self.choose('CP932')
+        self.browser.wait('.hits tbody tr:nth-child(119)', 'あ')
+        marked = self.browser.run('return [...document.querySelectorAll(".hits tbody tr")].map(it => it.innerText.includes("in the middle"))')
+        self.assertEqual(marked, [i % 2 == 1 for i in range(119)])
+
+    def test_a_hit_may_begin_inside_a_character(self) -> None:
+        user = [bytes([0x2E] * 20) + '海Xスタ'.encode('cp932'), b'\0' + bytes([0x83, 0x83]) + b'X']
+        self.open_image(discs.written(inside=common.image_of(user))['inside'])
+        self.browser.click('#tab-text')
+        self.browser.run('document.querySelector("#find-encoding").value = "hex"; '
+                         'document.querySelector("#find-encoding").dispatchEvent(new Event("change"))')
+        self.browser.type('#find-text', '43 58')
+        self.browser.press(Keys.ENTER)
+        self.browser.wait('#panel-text .hits tbody mark')
+        self.browser.run('document.querySelector("#find-encoding").value = "CP932"; '
+                         'document.querySelector("#find-encoding").dispatchEvent(new Event("change"))')
+        self.browser.wait('.hits tbody tr', 'perhaps in the middle of a character (byte before: 8A)')
+
+    def test_a_table_of_the_game_is_an_encoding(self) -> None:
+        image = common.image_of([b'\x10\x11\x12\x10\xFF', b'', b''])
+        place = common.folder('table')
+        (place / 'game.tbl').write_text('10=あ\n11=い\n12=う\n20=A\n21=B\nFF=<end>\n')
+        self.open_image(discs.written(table=image)['table'])
+        self.browser.click('#tab-text')
+        self.browser.give('#panel-text input[type=file]', [place / 'game.tbl'])
+        self.browser.wait('#panel-text .say.good', 'Loaded: game.tbl')
+        self.browser.click('#find-text')
+        self.search('いう')
+        self.browser.press('AB', Keys.ENTER)
+        self.browser.wait('#count-script', '1')
+        self.browser.click('#tab-script')
+        self.assertEqual(self.script_text(), 'cdpatch 1\nset 0 1 2021 was 1112\n')
+        (place / 'bad.tbl').write_text('10=あ\nno line\n')
+        self.browser.drop('#main', [place / 'bad.tbl'])
+        self.browser.wait('#panel-text .say.bad', 'line 2 of the table is not HEX=TEXT')
+
+    def test_a_damaged_sector_is_not_replaced(self) -> None:
+        self.open_image(discs.written(game=discs.scratched())['game'])
+        self.browser.click('#tab-text')
+        self.browser.click('#find-text')
+        self.search('スタート')
+        self.browser.press('Start')
+        self.press('Add for all 5 left')
+        self.browser.wait('#panel-text .say.warn', f'block {discs.first_block() + 1} is damaged: repair it first')
+        self.assertEqual(self.browser.text('#count-script').split()[0], '3')
+
+    def test_no_hit_says_what_was_searched(self) -> None:
+        self.open_image(discs.written(game=discs.game())['game'])
+        self.browser.click('#tab-text')
+        self.browser.click('#find-text')
+        self.browser.press('存在しない', Keys.ENTER)
+        self.browser.wait('#panel-text .say', 'No hit in Shift-JIS (CP932).')
+        self.browser.wait('#panel-text .say', f'The user data of {len(discs.game()) // 2352} sectors were searched to the end.')
+        self.browser.type('#find-text', '한')
+        self.browser.wait('.hint', "CP932 has no '한' (U+D55C), character 1 of the text")

@@ -1,0 +1,212 @@
+"""What the page says is so: counts, names and places; and it shows what it was asked for."""
+
+import random
+from pathlib import Path
+
+import common
+import discs
+from pages import GATE, NO_PICKER, PageTest
+from selenium.webdriver.common.keys import Keys
+
+# The reading of the open image's volume descriptor, at sector 16, waits until the gate is opened.
+LATE_FILES = '''const { slice, arrayBuffer } = Blob.prototype, held = new WeakSet();
+const open = new Promise(done => { globalThis.openFiles = done; });
+Blob.prototype.slice = function (from, ...given) {
+    const part = slice.call(this, from, ...given);
+    if (from === 16 * 2352 && !document.querySelector('#disc-line').hidden) held.add(part);
+    return part;
+};
+Blob.prototype.arrayBuffer = async function () {
+    if (held.has(this)) await open;
+    return arrayBuffer.call(this);
+};'''
+
+
+def with_lost(image: bytes, block: int) -> bytes:
+    """An image in which a sector has lost its sync field."""
+    return image[:block * 2352] + bytes(12) + image[block * 2352 + 12:]
+
+
+class Sayings(PageTest):
+    stub = NO_PICKER
+
+    def pair(self, first: bytes, second: bytes) -> dict[str, Path]:
+        files = discs.written(first=first, second=second)
+        self.open_image(files['first'])
+        self.open_files(files['second'])
+        self.browser.wait('#second-title', 'second.bin')
+        return files
+
+    def tally(self) -> list[str]:
+        self.browser.wait('#second-body .tally')
+        return list(self.browser.run('return [...document.querySelectorAll("#second-body .tally b")].map(it => it.innerText)'))
+
+    def legend(self) -> str:
+        return self.browser.text('.legend')
+
+    # ---- two images
+
+    def test_a_refused_repair_counts_nothing_as_repairable(self) -> None:
+        other = common.image_of([b'%d other' % block for block in range(len(discs.game()) // 2352)])
+        self.pair(common.damaged(discs.game(), 40), other)
+        self.browser.wait('#second-body .say.bad', 'Nothing is taken.')
+        self.assertEqual(self.browser.run('return document.querySelectorAll("#second-body .tally").length'), 0)
+        self.assertNotIn('can be repaired', self.legend())
+        self.browser.wait('.legend', 'data damaged')
+
+    def test_a_count_of_none_is_not_green(self) -> None:
+        self.pair(common.damaged(discs.game(), 40), common.damaged(discs.game(), 40))
+        self.assertEqual(self.tally(), ['0', '1', '0'])
+        self.assertEqual(self.browser.run('return document.querySelectorAll("#second-body .good-ink").length'), 0)
+
+    def test_a_sector_that_is_lost_in_both_dumps_cannot_be_repaired(self) -> None:
+        image = with_lost(common.damaged(common.damaged(discs.game(), 40), 60), 90)
+        self.pair(image, image)
+        self.assertEqual(self.tally(), ['0', '3', '0'])
+        self.browser.wait('[aria-label="Cannot be repaired: 3"]', '90')
+        self.assertEqual(self.browser.text('#count-disc').split()[0], '3')
+
+    def test_the_open_image_is_known_as_its_own_second_one(self) -> None:
+        file = discs.written(game=common.damaged(discs.game(), 40))['game']
+        self.open_image(file)
+        self.open_files(file)
+        self.browser.wait('[aria-labelledby=second-title] .say.warn', 'This is the open image itself.')
+
+    def test_a_file_that_is_listed_late_is_named_all_the_same(self) -> None:
+        image = common.damaged(discs.game(), discs.first_block())
+        files = discs.written(first=image, second=image)
+        self.browser.run(LATE_FILES)
+        self.open_files(files['first'], files['second'])
+        self.browser.wait('[aria-label="Cannot be repaired: 1"] td', str(discs.first_block()))
+        self.assertNotIn('in no file', self.browser.text('[aria-label="Cannot be repaired: 1"]'))
+        self.browser.run('openFiles()')
+        self.browser.wait('[aria-label="Cannot be repaired: 1"]', '/DATA/MSG00.DAT')
+
+    # ---- texts
+
+    def search(self, image: bytes, text: str, encoding: str = 'CP932') -> None:
+        self.open_image(discs.written(texts=image)['texts'])
+        self.browser.click('#tab-text')
+        self.choose(encoding)
+        self.browser.type('#find-text', text)
+        self.browser.press(Keys.ENTER)
+        self.browser.wait('#panel-text .hits tbody mark')
+
+    def choose(self, encoding: str) -> None:
+        self.browser.run('const it = document.querySelector("#find-encoding"); it.value = arguments[0]; it.dispatchEvent(new Event("change"))', encoding)
+
+    def test_a_tag_stands_once_at_a_hit(self) -> None:
+        self.search(common.image_of([b'\0' + '殻z'.encode('cp932') * 90]), 'kz')
+        loaded = 'return [...document.querySelectorAll(".hits .ctx")].every(it => it.innerText !== "…")'
+        common.waited(lambda: self.browser.run(loaded), 'no context')
+        tags = self.browser.run('return [...document.querySelectorAll(".hits tbody tr")].map(it => it.querySelectorAll(".tag.warn").length)')
+        self.assertEqual(tags, [1] * 90)
+
+    def test_many_hits_are_one_tab_stop(self) -> None:
+        self.search(discs.many_texts(), 'スタート')
+        self.browser.wait('#panel-text .hits tbody tr:nth-child(200)', 'スタート')
+        stops = 'return [...document.querySelectorAll(".hits tbody button")].filter(it => it.tabIndex === 0).map(it => it.innerText.trim())'
+        common.waited(lambda: len(self.browser.run(stops)) == 1, str(self.browser.run(stops)[:5]))
+        self.browser.run('document.querySelector(".hits tbody tr:nth-child(3) button").focus()')
+        self.browser.press(Keys.ARROW_DOWN, Keys.ENTER)
+        self.browser.wait('#panel-text .side h2', 'Replace: block 0 offset 78')
+
+    def test_what_is_before_a_hit_does_not_run_into_it(self) -> None:
+        self.search(common.image_of([b'.' * 37 + b'\x83' + '選択して'.encode('cp932') + b'\0']), '選択して')
+        marks = 'return [...document.querySelectorAll(".hex.around .t mark")].map(it => it.innerText).join("")'
+        common.waited(lambda: self.browser.run(marks) == '選択して', str(self.browser.run(marks)))
+
+    def test_a_character_of_private_use_is_shown_as_a_point(self) -> None:
+        self.search(common.image_of([b'..\xF0\x40\xF0\x41ABC']), 'ABC')
+        self.browser.wait('.hits .ctx', '··ABC')
+        self.browser.wait('.hex.around .t', '··ABC')
+        private = 'return /[\\ue000-\\uf8ff]/.test(document.querySelector("#panel-text").innerText)'
+        self.assertFalse(self.browser.run(private))
+
+    def test_a_sector_that_is_opened_from_another_panel_has_the_focus(self) -> None:
+        self.search(discs.game(), 'スタート')
+        self.press('Open the sector')
+        self.browser.wait('#sector-title', f'block {discs.first_block()}')
+        common.waited(lambda: self.browser.run('return document.activeElement.className === "hex"'), 'no focus in the sector')
+
+    # ---- a disc
+
+    def test_g_asks_for_a_block_while_a_second_image_is_open(self) -> None:
+        self.pair(discs.game(), discs.game())
+        self.browser.find('#map').send_keys('g')
+        self.assertEqual(self.browser.run('return document.activeElement.id'), 'go-to')
+        self.browser.press('7', Keys.ENTER)
+        self.browser.wait('#sector-title', 'block 7')
+
+    def test_a_block_that_is_not_there_is_said_to_all(self) -> None:
+        self.open_image(discs.written(game=discs.game())['game'])
+        self.browser.type('#go-to', '99999')
+        self.browser.press(Keys.ENTER)
+        self.browser.wait('#panel-disc .say.bad', f'The blocks of this image are 0 to {len(discs.game()) // 2352 - 1}.')
+        self.browser.type('#go-to', '5')
+        self.browser.press(Keys.ENTER)
+        self.browser.wait('#sector-title', 'block 5')
+        self.assertEqual(self.browser.text('#panel-disc .say.bad'), '')
+
+    def test_no_findings_are_green_only_if_something_was_tested(self) -> None:
+        for image, green in ((random.Random(4).randbytes(400 * 2352), 0), (discs.game(), 1)):
+            self.setUp()
+            self.open_image(discs.written(image=image)['image'])
+            self.browser.wait('#disc-line .lead', 'Mode 1 sector')
+            self.assertEqual(self.browser.run('return document.querySelectorAll("#disc-line dd .good-ink").length'), green)
+
+    def test_a_sector_that_has_lost_its_sync_is_called_so_in_runs_too(self) -> None:
+        self.open_image(discs.written(lost=with_lost(discs.game(), 90))['lost'])
+        self.browser.click('#findings [data-tab=runs]')
+        self.browser.wait('#findings tbody tr:nth-child(2)', 'sync or mode lost')
+        self.assertNotIn('audio', self.browser.text('#findings tbody'))
+
+    # ---- scripts
+
+    def test_what_is_meant_as_a_script_goes_to_the_editor(self) -> None:
+        lines = f'set {discs.first_block()} 0 41\n'
+        whole = f'cdpatch 1\n{lines}'
+        self.open_image(discs.written(game=discs.game())['game'])
+        given = {'nohead': lines.encode(), 'comment': f'# mine\n{lines}'.encode(), 'later': f'cdpatch 9\n{lines}'.encode(),
+                 'mark': b'\xef\xbb\xbf' + whole.encode(), 'utf16': whole.encode('utf-16')}
+        for name, data in given.items():
+            with self.subTest(name):
+                path = common.folder('scripts') / f'{name}.txt'
+                path.write_bytes(data)
+                self.open_files(path)
+                self.browser.wait('#panel-script header', path.name)
+                self.assertTrue(any(lines.strip() in row for row in self.rows()), self.rows())
+                if name in ('mark', 'utf16'):
+                    self.browser.wait('#messages .say.warn', 'which cdpatch does not read: ')
+                    self.browser.wait('#panel-script header .tag.warn', 'in no file yet')
+                    self.assertEqual(self.script_text(), whole)
+                elif name == 'nohead':
+                    self.browser.wait('.editor', 'A script begins with the line')
+                self.browser.click('#tab-disc')
+
+    def test_a_text_that_is_no_script_is_none(self) -> None:
+        for data in (b'Set the table, and the rest.\n', b'settle 1 2\n', b'hello\nset 1 2 3\n', '\ufeffFILE "game.bin" BINARY\n'.encode()):
+            path = common.folder('texts') / 'text.txt'
+            path.write_bytes(data)
+            self.setUp()
+            self.open_files(path)
+            self.browser.wait('#start-message .say.bad')
+
+    def test_a_patcher_is_said_to_have_the_name_that_it_has(self) -> None:
+        self.open_image(discs.written(game=discs.game())['game'])
+        self.open_script(discs.written(english=discs.named())['english'])
+        self.browser.click('#tab-publish')
+        self.browser.type('#patcher-title', 'Long Ago: English')
+        self.browser.wait('#panel-publish', '0 refused')
+        self.wait_for_hash()
+        self.press('Save as a patcher')
+        self.browser.wait('#panel-publish .say.good', 'Saved: Long Ago English.html')
+        self.browser.downloaded('Long Ago English.html')
+
+    def test_lines_that_are_made_are_counted_in_hits(self) -> None:
+        self.search(discs.many_texts(), 'スタート')
+        self.browser.type('#new-text', 'Start')
+        self.browser.run(GATE)
+        self.press('Add for all')
+        self.browser.wait('#panel-text .facts', '0 of 400 hits')
+        self.browser.run('openGate()')

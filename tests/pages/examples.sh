@@ -1,0 +1,179 @@
+# The examples of the README, the man page and the pages in docs/, as a reader pastes them: here, and from an unpacked tarball.
+
+# Runs one command of a transcript, and compares what it prints with what the transcript shows.
+transcript_step() {
+    local name=$1 command=$2
+    PATH=$scratch/plain:$PATH $plain -c "$command" > got 2>&1 < /dev/null
+    same "$name: $command" wanted got
+}
+
+# transcript NAME: runs the transcript on the standard input, of lines '$ COMMAND' each followed by what it prints.
+transcript() {
+    local name=$1 line command='' steps=0
+    : > wanted
+    while IFS= read -r line <&3; do
+        if [[ $line == '$ '* ]]; then
+            [ -n "$command" ] && transcript_step "$name" "$command"
+            command=${line#'$ '}
+            steps=$((steps + 1))
+            : > wanted
+        else
+            printf '%s\n' "$line" >> wanted
+        fi
+    done 3<&0
+    [ -n "$command" ] && transcript_step "$name" "$command"
+    judge "$name has steps" [ "$steps" -gt 0 ]
+}
+
+# blocks_of PAGE: the fenced blocks of a page, as files NUMBER.sh with what each is to print in NUMBER.wanted, which is that of the
+# block of text after it, or nothing. A block that needs commands, as in '```sh pv', has them in NUMBER.needs.
+blocks_of() {
+    awk '
+        /^```sh/ { number++; file = sprintf("%03d.sh", number); printf "" > file
+            printf "" > sprintf("%03d.wanted", number)
+            if (sub(/^```sh /, "")) print > sprintf("%03d.needs", number)
+            next }
+        /^```text/ { file = sprintf("%03d.wanted", number); next }
+        /^```/ { file = ""; next }
+        file != "" { print > file }
+        END { print number + 0 }' "$1"
+}
+
+# packaged COMMAND: the Debian package that has a command.
+packaged() {
+    case $1 in
+        chdman) echo mame-tools ;;
+        node) echo nodejs ;;
+        cdscript) echo 'binaryen and esbuild, for make' ;;
+        *) echo "$1" ;;
+    esac
+}
+
+# data_disc: a disc as a reader of the README has one: in block 16 the descriptor of a volume begins as ISO 9660 says.
+data_disc() {
+    local n
+    for ((n = 0; n < 17; n++)); do
+        printf '\000\377\377\377\377\377\377\377\377\377\377\000\000\002\000\001'
+        head -c 2336 /dev/zero
+    done > blank
+    {
+        echo 'cdpatch 2'
+        for ((n = 0; n < 17; n++)); do printf 'rebuild %d\naddress %d 00:02:%02d\n' $n $n $n; done
+        echo 'set 16 0 01434430303101'
+    } > format
+    cdpatch apply blank format disc.bin > /dev/null
+}
+
+# page NAME PAGE: runs the blocks of a page in one shell, in a new directory, and compares what each prints. Who reads the README of the
+# sources has what `make` made of a checkout, who reads that of the tarball has a disc.
+page() {
+    local name=$1 block needs command commands
+    local -A lacking=()
+    mkdir "$scratch/$name"
+    cd "$scratch/$name" || exit 1
+    case $name in
+        sources-readme) ln -s "$top/crates" "$program" . ;;
+        *-readme) data_disc ;;
+    esac
+    mkdir blocks
+    cd blocks || exit 1
+    judge "$name has blocks" test "$(blocks_of "$2")" -gt 0
+    for needs in *.needs; do
+        [ -e "$needs" ] || continue
+        read -ra commands < <(sed 's/\bnode\b/node cdscript/' "$needs")
+        for command in "${commands[@]}"; do
+            command -v "$command" > /dev/null && continue
+            lacking[$command]+=" ${needs%.needs}"
+            rm -f "${needs%.needs}.sh"
+        done
+    done
+    for command in "${!lacking[@]}"; do
+        missing "$command" "$(packaged "$command")" "$name, blocks${lacking[$command]}"
+    done
+    [ -n "$(compgen -G '*.sh')" ] || return
+    cd ..
+    for block in blocks/*.sh; do
+        echo ". '$PWD/$block' > '$PWD/${block%.sh}.got' 2> '$PWD/${block%.sh}.errors'"
+    done > whole
+    PATH=$scratch/plain:$PATH $plain -u whole < /dev/null
+    for block in blocks/*.sh; do
+        block=${block%.sh}
+        # Other programs may say on standard error how far they have come.
+        [ -e "$block.needs" ] || cat "$block.errors" >> "$block.got"
+        same "$name, block ${block#blocks/}: $(head -n 1 "$block.sh")" "$block.wanted" "$block.got"
+    done
+}
+
+# manual NAME PAGE: runs the examples of the man page in a new directory.
+manual() {
+    mkdir "$scratch/$1"
+    cd "$scratch/$1" || exit 1
+    sed -n '/^\.Bd -literal/,/^\.Ed/{/^\./!p}' "$2" | sed 's/\\e/\\/g' > example
+    transcript "the man page of $1" < example
+}
+
+# pages NAME DIRECTORY MANUAL: pastes all pages for users that are in a directory.
+pages() {
+    local name
+    page "$1-readme" "$2/README.md"
+    for name in SCRIPTS TRANSLATE REPAIR; do
+        page "$1-$name" "$2/docs/$name.md"
+    done
+    manual "$1-manual" "$3"
+}
+
+pages sources "$top" "$top/man/cdpatch.1"
+
+# The image and the scripts of docs/SPEED.md, a hundredth as long, and the commands of its table.
+sed -e 's/330000/3300/g' -e 's/329999/3299/' -e 's/327670/3270/' "$top/docs/SPEED.md" > "$scratch/short_speed"
+page speed "$scratch/short_speed"
+if [ -e long.bin ]; then
+    judge 'its image is sound' test "$(cdpatch audit long.bin)" = 'sectors 3300 mode1 3300 damaged 0 tail 0'
+    while IFS= read -r command <&3; do
+        rm -f out
+        $plain -c "$command" > log 2>&1
+        judge "docs/SPEED.md: $command" test $? = 0
+    done 3< <(sed -n 's/^| `\([^`]*\)`.*/\1/p' "$top/docs/SPEED.md")
+fi
+judge 'docs/SPEED.md has at most 40 lines' test "$(wc -l < "$top/docs/SPEED.md")" -le 40
+
+# The tarball, unpacked in an empty directory and installed, with nothing else of the project on the path.
+if ! missing make make 'the pages of the tarball'; then
+    mkdir "$scratch/from_tarball"
+    cd "$scratch/from_tarball" || exit 1
+    COMPLETIONS=$completions bash "$top/tools/dist.sh" "$program" "$library" "$joined" . > checksum
+    tar -xzf ./*.tar.gz
+    rm -f ./*.* 2> /dev/null
+    make --no-print-directory -s -C cdpatch-*-linux > said
+    judge 'make in the tarball installs nothing' test "$(cat said)" = 'Everything is built: make install installs it.'
+    make --no-print-directory -s -C cdpatch-*-linux install PREFIX="$PWD/prefix"
+    rm -r cdpatch-*-linux
+    installed=$PWD/prefix
+    path=$PATH
+    # The tools that the pages name, those that every system has, and the shell.
+    mkdir "$scratch/named"
+    for name in awk bash cat cmp cp cut dash date dd diff dirname find grep gunzip gzip head iconv ls ln mkdir mktemp mv od rm sed sh \
+        seq sha256sum sort tail test touch tr uniq wc yes genisoimage node perl; do
+        ! command -v "$name" > /dev/null || ln -s "$(command -v "$name")" "$scratch/named/$name"
+    done
+    PATH=$installed/bin:$scratch/named
+    judge 'the program is the installed one' test "$(command -v cdpatch)" = "$installed/bin/cdpatch"
+    pages tarball "$installed/share/doc/cdpatch" "$installed/share/man/man1/cdpatch.1"
+    # The patch of the README is for any disc with ISO 9660, and not for others.
+    cd "$scratch/tarball-readme" || exit 1
+    made='../sources-TRANSLATE/Game (Track 1).bin'
+    [ ! -e "$made" ] || judge 'the patch of the README is right for a disc of genisoimage' cdpatch check "$made" changes > log
+    cdpatch check "$top/crates/cd_vectors/data/cdrkit-8.bin" changes > log
+    judge 'and refused on a short image' test "$(head -n 1 log)" = 'line 2: refused: no block 16'
+    cdpatch check new.bin changes > log
+    judge 'and where it was applied' test "$(head -n 1 log)" = 'line 2: refused: old bytes differ at block 16 offset 1395'
+    PATH=$path
+    # Its pages name no command and no file that is only in the sources.
+    cd "$installed/share/doc/cdpatch" || exit 1
+    grep -nE 'crates/cd_vectors/data|make (check|test|dist|quick)|^ *make( |$)|sources -->' README.md docs/{SCRIPTS,TRANSLATE,REPAIR,INSTALL}.md > only
+    judge "the installed pages have only what works there: $(head -n 1 only)" test ! -s only
+    rm only
+    while IFS=: read -r page link <&3; do
+        judge "installed $page: $link is there" test -e "$(dirname "$page")/$link"
+    done 3< <(grep -oE '\]\([^) ]*\)' README.md CHANGELOG.md docs/*.md | sed -e 's/](//' -e 's/)$//' -e '/:#/d' -e 's/#.*//' | grep -v ':http')
+fi

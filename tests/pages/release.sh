@@ -1,0 +1,126 @@
+# `make dist`: the tarball and the packages install without a toolchain, and their bytes are those of their files, wherever and whenever
+# they are made.
+
+# pack DIRECTORY: a tarball of the program, of a copy of the sources in this directory, into `made` there.
+pack() {
+    mkdir -p "$1/made"
+    (cd "$top" && cp -r --parents Makefile install.mk README.md CHANGELOG.md docs man examples include python tools web "$OLDPWD/$1")
+    cp -r "$library" "$1/library"
+    cp -r "$completions" "$1/completions"
+    cp "$program" "$1/cdpatch"
+    [ ! -e "$joined/cdscript" ] || cp "$joined/cdscript" "$joined/cdpatch.html" "$1"
+    make --no-print-directory -s -C "$1" dist distdir=made > "$1/printed"
+}
+
+released() {
+    pack one
+    (umask 077 && LC_ALL=C pack 'another place' && rm -r 'another place/made')
+    find 'another place' -exec touch -d '2001-02-03' {} +
+    : > 'another place/docs/notes~'
+    mkdir 'another place/made'
+    (umask 027 && make --no-print-directory -s -C 'another place' dist distdir=made > log)
+    local name
+    name=$(cd one/made && ls ./*.tar.gz)
+    judge 'the tarball has the version in its name' test "$name" = "./cdpatch-$(cdpatch --help | sed -n '$s/cdpatch //p')-x86_64-linux.tar.gz"
+    judge 'two directories give the same bytes' diff -r one/made 'another place/made'
+    (umask 000 && make --no-print-directory -s -C 'another place' dist distdir=made > log)
+    judge 'nobody else may write what is packed' test -z "$(find 'another place/made' -type f -perm /022)"
+    judge 'the checksum is that of the tarball' eval "(cd one/made && sha256sum --status -c ./*.sha256)"
+    judge 'the checksums are printed' test "$(sort one/printed)" = "$(sort one/made/*.sha256)"
+    if [ -e "$joined/cdscript" ]; then
+        judge 'cdscript.js lies beside the tarball' cmp -s "$joined/cdscript" one/made/cdscript.js
+        judge 'cdpatch.html lies beside the tarball' cmp -s "$joined/cdpatch.html" one/made/cdpatch.html
+    fi
+    mkdir unpacked
+    tar -C unpacked -xzf "one/made/$name"
+    judge 'it unpacks into one directory of its own name' test "./$(ls unpacked).tar.gz" = "$name"
+    # Neither the toolchain nor the program of these tests is on the path.
+    PATH=/usr/bin:/bin make --no-print-directory -s -C unpacked/* install DESTDIR="$PWD/root" PREFIX=/usr
+    make --no-print-directory -s -C "$top" PROGRAM="$program" LIBRARY="$library" JOINED="$joined" COMPLETIONS="$completions" install DESTDIR="$PWD/wanted" PREFIX=/usr
+    judge 'make install in it installs what make install in the sources does' diff -r wanted root
+    judge 'the program is as it was' cmp -s "$program" root/usr/bin/cdpatch
+    judge 'the tarball has no file that is not installed, but the Makefile' test \
+        "$(find unpacked -type f | wc -l)" = "$(($(find root -type f | wc -l) + 1))"
+    packaged_for_debian
+    packaged_for_pip
+    [ ! -e one/made/cdscript.js ] || [ ! -e "$library/cdpatch.wasm" ] || packaged_for_npm
+    make --no-print-directory -s -C one dist distdir=made PROGRAM="$PWD/nothing" 2> log
+    judge 'nothing that was built, nothing packed' test $? != 0
+    make --no-print-directory -s -C one dist distdir=made LIBRARY="$PWD/nothing" 2> log
+    judge 'no library that was built, nothing packed' test $? != 0
+    make --no-print-directory -s -C one dist distdir=made COMPLETIONS="$PWD/nothing" 2> log
+    judge 'no completions that were made, nothing packed' test $? != 0
+}
+
+# listed DIRECTORY: its files and links.
+listed() { (cd "$1" && find . -type f -o -type l) | LC_ALL=C sort; }
+
+# What `make install` installs, by the names that Debian's package has for it.
+debian_names() {
+    { listed root | sed -E "s,lib/(libcdpatch|glibc|pkgconfig|cmake),lib/x86_64-linux-gnu/\1,; s,zsh/site-functions,zsh/vendor-completions,
+        s,share/cdpatch/python/cdpatch,lib/python3/dist-packages/cdpatch,; s,share/man/.*,&.gz,; s,/NOTICES,/copyright,; s,CHANGELOG.md,changelog.gz,
+        \\,cdpatch/python/,d"
+        printf './usr/share/%s\n' doc/cdpatch/changelog.Debian.gz lintian/overrides/cdpatch; } | LC_ALL=C sort
+}
+
+# debian COMMAND..: dpkg in the root `system`, which has nothing else.
+debian() { dpkg --root="$PWD/system" --force-depends --force-not-root --force-bad-path --log="$PWD/log" "$@" > log 2>&1; }
+
+packaged_for_debian() {
+    missing dpkg-deb dpkg "Debian's package" && return
+    mkdir -p system/var/lib/dpkg/{info,updates,triggers}
+    touch system/var/lib/dpkg/status
+    judge 'dpkg installs the package' debian --install one/made/cdpatch_*_amd64.deb
+    (cd system && rm -r var)
+    debian_names > wanted.names
+    listed system > got.names
+    same "Debian's package has what make install installs, in Debian's places" wanted.names got.names
+    judge 'the program in it is as it was' cmp -s "$program" system/usr/bin/cdpatch
+    judge 'the page of a call is a link in it' test "$(readlink system/usr/share/man/man3/cdpatch_apply.3.gz)" = libcdpatch.3.gz
+    judge 'its links lead to what it has' test -z "$(find system -xtype l)"
+    missing lintian lintian "Debian's package, by lintian" ||
+        judge 'lintian finds nothing in it, but that the owner has no address' test -z \
+            "$(lintian --no-cfg --allow-root one/made/*.deb 2>&1 | grep -v ' <>')"
+}
+
+packaged_for_pip() {
+    missing pip3 python3-pip 'the wheel' && return
+    pip3 --disable-pip-version-check install --no-index --quiet --target site one/made/*.whl > log 2>&1
+    judge 'pip installs the wheel' test -f site/cdpatch/libcdpatch.so.1
+    judge 'the library in it is as it was' cmp -s "$library/libcdpatch.so.1" site/cdpatch/libcdpatch.so.1
+    judge 'and a program in Python runs with it' test sectors_8_tail_0 = \
+        "$(cd site && python3 -B -c 'import cdpatch; print(cdpatch.listing(open("../disc.bin", "rb").read()).split("\n")[-2].replace(" ", "_"))')"
+}
+
+# A program that uses the package as its README says, on the image of the tests and one that is damaged; and what it prints.
+packaged_for_npm() {
+    missing npm npm 'the package for npm' && return
+    missing tsc node-typescript 'the package for npm' && return
+    mkdir -p npm/readme
+    cp disc.bin "$top/tests/pages/npm.mjs" "$top/tests/pages/npm.ts" npm
+    (cd npm && npm install --offline --no-audit --no-fund ../one/made/cdpatch-*.tgz > log 2>&1)
+    judge 'npm installs the package' test -f npm/node_modules/cdpatch/cdpatch.wasm
+    sed -n '/^```js$/,/^```$/p' "$top/web/npm/README.md" | sed '1d;$d' > npm/readme/readme.mjs
+    sed -n '/^```text$/,/^```$/p' "$top/web/npm/README.md" | sed '1d;$d' > npm/readme/wanted
+    head -c $((2048 * 20)) /dev/zero > npm/zeros
+    "$joined/cdscript" raw npm/zeros npm/readme/disc.bin
+    printf '%s\n' 'cdpatch 1' 'set 16 1395 48656C6C6F was 0000000000' > npm/script
+    (cd npm/readme && node readme.mjs > got 2>&1)
+    same "its README's example prints what it says" npm/readme/wanted npm/readme/got
+    cdpatch apply npm/readme/disc.bin npm/script npm/wanted.bin > log
+    judge 'and makes what the program makes' cmp -s npm/wanted.bin npm/readme/new.bin
+    judge 'all calls of the package agree with the program' eval '(cd npm && node npm.mjs "$(command -v cdpatch)")'
+    judge 'its types are those that a program in TypeScript sees' tsc --noEmit --strict --target es2022 --module es2022 \
+        --moduleResolution node --lib es2022,dom npm/npm.ts
+    judge 'it has the command' test "$(cd npm && npx --offline cdscript version)" = "$("$joined/cdscript" version)"
+    judge 'its module is the library'"'"'s' cmp -s "$library/cdpatch.wasm" npm/node_modules/cdpatch/cdpatch.wasm
+}
+
+# What two builds in different directories could differ in.
+judge 'the program has no path of the directory that it was built in' \
+    test -z "$(LC_ALL=C grep -aoE '(crates|home|tmp|root)/[a-z_/.]*|[a-z_]*\.rt\b' "$program")"
+
+if ! missing make make 'the tarball'; then
+    enter release
+    released
+fi

@@ -1,0 +1,312 @@
+#!/usr/bin/env bash
+# The program as a process, on real files: `bash tests/process/program.sh [PROGRAM]`. The last line is 'N passed, M failed'.
+set -u
+. "$(dirname "$0")/../lib/helpers.sh"
+
+# The README's first example.
+cp "$vectors" image
+printf 'cdpatch 1\n# five user bytes of block 1, from offset 16 on\nset 1 16 48454C4C4F\n' > script
+keep
+run apply image script out
+judge 'the first example' ended 0 'line 3: applied\napplied 1 refused 0\n'
+run audit out
+judge 'the audit of the first example' ended 0 'sectors 8 mode1 8 damaged 0 tail 0\n'
+judge 'the bytes of the first example' test "$(tail -c +2385 out | head -c 5)" = HELLO
+rm out
+
+# Three sectors of zeros, sync field and all: no patch of them is accepted.
+head -c 7056 /dev/zero > blank
+# The sectors of an image that other software wrote, from block 0 on.
+head -c 7056 "$vectors" > image
+printf 'cdpatch 1\nset 1 0 41\n' > script
+keep
+
+applied='line 2: applied\napplied 1 refused 0\n'
+
+run apply image script out
+judge 'a patch is applied' ended 0 "$applied"
+judge 'the output has the size of the image' test "$(stat -c %s out)" = 7056
+cmp -s image out
+judge 'the output is not the image' test $? = 1
+cp out patched
+
+run apply image script out
+judge 'an output that is there is refused' ended 2 "$no_output\n"
+judge 'an output that is there stays' cmp -s out patched
+rm out
+
+run audit patched
+judge 'the patched image is sound' ended 0 'sectors 3 mode1 3 damaged 0 tail 0\n'
+
+run check image script
+judge 'a check prints what apply prints' ended_without_output 0 "$applied"
+
+run apply image script out --base 2
+judge 'the base counts' ended 1 'line 2: refused: no block 1\napplied 0 refused 1\n'
+judge 'a refused patch changes nothing' cmp -s out image
+rm out
+run check image script --base 2
+judge 'the base of a check counts' ended_without_output 1 'line 2: refused: no block 1\napplied 0 refused 1\n'
+
+{ head -c 2351 image; printf '\377'; tail -c 4704 image; } > damaged
+printf 'cdpatch 1\nset 0 0 41\n' > first
+run check damaged first
+judge 'a damaged sector is refused' ended_without_output 1 'line 2: refused: block 0 is damaged\napplied 0 refused 1\n'
+run apply damaged first out --carry
+judge 'and is patched where damage is carried' ended 0 "$applied"
+run audit out
+judge 'its damage stays' ended 1 '0 q=1\nsectors 3 mode1 3 damaged 1 tail 0\n'
+rm out
+
+run apply blank script out
+judge 'a refused patch has status 1' ended 1 'line 2: refused: block 1 is not mode 1\napplied 0 refused 1\n'
+rm out
+
+"$program" apply - script out < image > log 2> errors
+status=$?
+judge 'an image on the standard input' ended 0 "$applied"
+judge 'the output of that' cmp -s out patched
+rm out
+
+run
+judge 'no words list the standard input' ended 0 'sectors 0 tail 0\n'
+
+run list missing
+judge 'no such image' ended 2 "$no_image\n"
+"$program" list '' > log 2> errors < image
+status=$?
+judge 'no name as image' ended 2 "$no_image\n"
+run apply '' script out
+judge 'no name as image to patch' ended_without_output 2 "$no_image\n"
+cp image ./-
+"$program" list - > log 2> errors < /dev/null
+status=$?
+judge 'the standard input comes before a file of the name -' ended 0 'sectors 0 tail 0\n'
+rm ./-
+run apply missing script out
+judge 'no such image to patch' ended_without_output 2 "$no_image\n"
+run apply image missing out
+judge 'no such script' ended_without_output 2 "$no_script\n"
+"$program" apply image - out > log 2> errors < script
+status=$?
+judge 'a script is no standard input' ended_without_output 2 "$no_script\n"
+run apply image '' out
+judge 'no name as script' ended_without_output 2 "$no_script\n"
+run apply missing missing out
+judge 'the script comes before the image' ended_without_output 2 "$no_script\n"
+
+mkdir directory
+run apply image directory out
+judge 'a directory as script' ended_without_output 2 "$no_script\n"
+run list directory
+judge 'a directory as image' ended 2 "$read_failed\n"
+run apply image script directory
+judge 'a directory as output' ended 2 "$no_output\n"
+run apply image script nowhere/out
+judge 'an output in a directory that is not there' ended 2 "$no_output\n"
+run apply image script image
+judge 'the image as output' ended 2 "$no_output\n"
+run apply image script script
+judge 'the script as output' ended 2 "$no_output\n"
+run apply image script ''
+judge 'no name as output' ended 2 "$no_output\n"
+ln -s nothing dangling
+run apply image script dangling
+judge 'a dangling link as output' ended 2 "$no_output\n"
+judge 'nothing at the end of the link' test ! -e nothing
+ln -s image to_image
+run apply image script to_image
+judge 'a link to the image as output' ended 2 "$no_output\n"
+ln image same_image
+run apply image script same_image
+judge 'another name of the image as output' ended 2 "$no_output\n"
+rm same_image
+echo kept > old
+ln -s old to_old
+run apply image script to_old
+judge 'a link to a file as output' ended 2 "$no_output\n"
+judge 'the file at the end of the link stays' test "$(cat old)" = kept
+for device in /dev/null /dev/full /dev/stdout; do
+    run apply image script $device
+    judge "$device as output" ended 2 "$no_output\n"
+done
+# This shell holds both ends of the FIFO, so that no one waits to open it.
+mkfifo fifo
+exec 5<> fifo
+run apply image script fifo
+judge 'a FIFO as output' ended 2 "$no_output\n"
+judge 'nothing in the FIFO' test "$(echo end >&5; head -n 1 <&5 | head -c 9)" = end
+exec 5>&-
+run apply image script -
+judge 'an output of the name -' ended 0 "$applied"
+judge 'it is a file' cmp -s ./- patched
+rm ./-
+
+for mask in 000:666 002:664 022:644 027:640 077:600; do
+    (umask "${mask%:*}" && run apply image script out; exit "$status")
+    status=$?
+    judge "an output under the umask ${mask%:*}" ended 0 "$applied"
+    judge "its mode under ${mask%:*}" test "$(stat -c %a out)" = "${mask#*:}"
+    rm -f out
+done
+
+# An image and a script that may only be read, by a user that has no other right to them.
+mkdir shelf
+cp "$program" shelf/cdpatch
+cp image script shelf
+chmod 755 . shelf shelf/cdpatch
+chmod 444 shelf/image shelf/script
+reader=()
+if [ "$(id -u)" = 0 ] && ! missing setpriv util-linux 'an image that may only be read'; then
+    reader=(setpriv --reuid=65534 --regid=65534 --clear-groups)
+    chown 65534 shelf
+fi
+if [ "$(id -u)" != 0 ] || [ ${#reader[@]} != 0 ]; then
+    (cd shelf && "${reader[@]}" ./cdpatch apply image script out) > log 2> errors
+    status=$?
+    judge 'an image that may only be read' ended 0 "$applied"
+    judge 'the output of that' cmp -s shelf/out patched
+    (cd shelf && "${reader[@]}" ./cdpatch audit image) > log 2> errors
+    status=$?
+    judge 'an audit of an image that may only be read' ended 0 'sectors 3 mode1 3 damaged 0 tail 0\n'
+    chmod 000 shelf/image
+    (cd shelf && "${reader[@]}" ./cdpatch list image) > log 2> errors
+    status=$?
+    judge 'an image that may not be read' ended 2 "$no_image\n"
+    chmod 444 shelf/image
+    chmod 555 shelf
+    (cd shelf && "${reader[@]}" ./cdpatch apply image script another) > log 2> errors
+    status=$?
+    judge 'an output in a directory that may only be read' ended 2 "$no_output\n"
+fi
+
+printf 'cdpatch 1\nset 1 0 4\n' > wrong
+run apply image wrong out
+judge 'a fault of the script' ended_without_output 2 'script line 2: bad hex\n'
+run apply missing wrong out
+judge 'a fault of the script comes before the image' ended_without_output 2 'script line 2: bad hex\n'
+
+patches=$(limit 'patches of a script')
+{ echo 'cdpatch 1'; yes 'rebuild 0' | head -n $((patches + 1)); } > many
+run apply image many out
+judge 'a patch too many' ended_without_output 2 "script line $((patches + 2)): more than $patches patches\n"
+
+truncate -s 67108865 long
+run apply image long out
+judge 'a script that is too long' ended_without_output 2 "$long_script\n"
+rm long
+
+# A limit on the size of a file stands for a disk that has room for so much.
+(
+    trap '' XFSZ
+    ulimit -f 4
+    run apply image script out
+    exit "$status"
+)
+status=$?
+judge 'a full disk' ended 2 "${applied}$write_failed\n"
+judge 'the output has what the full disk took' test "$(stat -c %s out)" = 4096
+judge 'output before a full disk' within out patched
+rm -f out
+
+"$program" apply image script out > /dev/full 2> errors
+status=$?
+: > log
+judge 'a full device as standard output' ended 2 ''
+judge 'the output, with a full device for the log' cmp -s out patched
+rm -f out
+
+"$program" list image > /dev/full 2> errors
+status=$?
+judge 'a listing to a full device' ended 2 ''
+
+run --help
+judge 'help has status 0' test "$status" = 0
+judge 'help has a text, only on standard output' eval 'grep -q Usage log && [ ! -s errors ]'
+"$program" --help > /dev/full 2> errors
+judge 'help to a full device has status 2' test $? = 2
+
+# Arguments that the parser refuses: its text is only on standard output, and no file is made.
+refused() {
+    run "$@"
+    judge "refused: $*" told_by_parser
+}
+told_by_parser() {
+    [ "$status" = 2 ] && grep -q '^error: ' log && [ ! -s errors ] && [ ! -e out ]
+}
+refused apply image script
+refused apply image script out more
+refused apply image script out --base 5 --carry more
+refused apply --base 5 --carry -- image script out more
+refused check image
+refused check image script more
+refused list image image
+refused list
+refused audit
+refused audit --base
+refused nothing
+refused --nothing
+refused ''
+refused -- list image
+refused --version
+refused apply image script out --base 449850
+refused apply image script out --base -1
+refused apply image script out --base 0 --base 0
+refused list image --carry
+refused audit image --carry
+refused check image script --carry --carry
+refused check image script --carry=true
+refused list image --base x
+refused Apply image script out
+refused help
+run list $'\xff'
+judge 'a word that is no text' ended 2 "$no_text\n"
+run list image --base 449849
+judge 'the largest base' ended 0 '449849-449851 mode1\nsectors 3 tail 0\n'
+
+# With a standard stream closed, no message goes into a file.
+for closed in 0 1 2 01 02 12 012; do
+    rm -f out
+    : > log
+    : > errors
+    case $closed in
+        0) "$program" apply image script out <&- > log 2> errors ;;
+        1) "$program" apply image script out >&- 2> errors ;;
+        2) "$program" apply image script out > log 2>&- ;;
+        01) "$program" apply image script out <&- >&- 2> errors ;;
+        02) "$program" apply image script out <&- > log 2>&- ;;
+        12) "$program" apply image script out >&- 2>&- ;;
+        012) "$program" apply image script out <&- >&- 2>&- ;;
+    esac
+    status=$?
+    case $closed in
+        *1*) judge "status, closed $closed" ended 2 '' ;;
+        *) judge "status, closed $closed" ended 0 "$applied" ;;
+    esac
+    judge "the output, closed $closed" cmp -s out patched
+done
+rm -f out
+
+"$program" apply - script out <&- > log 2> errors
+status=$?
+judge 'the standard input closed' ended 2 "$read_failed\n"
+judge 'no output of that' test ! -s out
+rm -f out
+
+# A pipe whose reader is gone, which it says first.
+mkfifo gone
+{
+    read -r _ < gone
+    "$program" apply image script out 2> errors
+    echo $? > pipe_status
+} | {
+    exec <&-
+    echo gone > gone
+}
+: > log
+status=$(cat pipe_status)
+judge 'a closed pipe' ended 2 ''
+judge 'the output, with a closed pipe for the log' cmp -s out patched
+rm -f out
+
+finish

@@ -1,0 +1,522 @@
+#!/usr/bin/env bash
+# Code without a contract: how the program opens, reads, writes and syncs the files and streams of a process:
+# `bash tests/process/system.sh [PROGRAM]`. The last line is 'N passed, M failed'.
+#
+# Beside each check stand wrong programs that it must refuse, as must-fail edits are for proofs (`tests/wrong/program/wrong.c`).
+set -u
+. "$(dirname "$0")/../lib/helpers.sh"
+. "$tests/wrong/program/programs.sh"
+
+here=$(pwd -P)
+right_program=$program
+prepare_large
+make_large 2351
+has_wrong_programs=
+prepare_wrong_programs 'the wrong programs' && has_wrong_programs=1
+has_strace=
+if ! missing strace strace 'calls of the system'; then
+    strace -qq -o trace -e inject=read:error=EIO:when=1 true 2> /dev/null
+    if [ -s trace ]; then
+        has_strace=1
+    else
+        skip 'calls of the system, which want a strace that may trace'
+    fi
+fi
+
+# row NAME CHECK WRONG..: counts whether a check holds of the program, and whether it refuses each of these wrong programs. That it
+# holds with a launcher that changes nothing shows that it refuses only what is wrong.
+row() {
+    local name=$1 check=$2 wrong
+    judge "$name" checked "$check"
+    [ -n "$has_wrong_programs" ] || return
+    program=$(wrong_program nothing)
+    judge "$name, by the launcher" checked "$check"
+    for wrong in "${@:3}"; do
+        program=$(wrong_program "$wrong")
+        judge "$name: refuses the program that $wrong" refused "$check"
+    done
+    program=$right_program
+}
+
+# What a shell says of a run that a signal ended, and a tool of a file that a wrong program did not make, is dropped.
+checked() {
+    rm -rf out log errors rest trace
+    "$1" 2> /dev/null
+}
+
+refused() {
+    ! checked "$1"
+}
+
+# traced NAME..: a row that strace is wanted for.
+traced() {
+    [ -z "$has_strace" ] || row "$@"
+}
+
+# answers COMMAND: whether the last run gave the right status and text, OUT, and nothing on standard error.
+answers() {
+    case $1 in
+        list) [ "$status" = 0 ] && cmp -s log list.log ;;
+        audit) [ "$status" = 1 ] && cmp -s log audit.log ;;
+        check) [ "$status" = 0 ] && cmp -s log large.log ;;
+        apply) [ "$status" = 0 ] && cmp -s log large.log && cmp -s out patched ;;
+    esac && [ ! -s errors ]
+}
+
+# ---- IMAGE and SCRIPT
+
+# The standard input is read from its place on.
+standard_input_from_its_place() {
+    {
+        dd bs=2352 count=1 of=/dev/null status=none
+        "$program" list - > log 2> errors
+    } < image
+    printf '0-38 mode1\n39-48 nosync\n49-82 mode1\nsectors 83 tail 2351\n' | cmp -s - log
+}
+
+# If IMAGE is a file, the standard input is as it was: a loop that reads names from it goes on.
+standard_input_left_alone() {
+    local command words
+    for command in list audit check apply; do
+        words=("$command" image)
+        [[ $command == list || $command == audit ]] || words+=(large.script)
+        [ $command != apply ] || words+=(out)
+        {
+            "$program" "${words[@]}" > log 2> errors
+            status=$?
+            cat > rest
+        } < large.log
+        answers $command && cmp -s rest large.log || return
+    done
+}
+
+# Two runs read one image and one script at once. The first waits with both read: its text does not fit into a full pipe.
+two_runs_at_once() {
+    local first ended
+    mkfifo full
+    exec 7<> full
+    rm full # its ends are left
+    dd if=/dev/zero of=/proc/self/fd/7 oflag=nonblock bs=4096 2> /dev/null
+    "$program" check image large.script >&7 2> first_errors < /dev/null &
+    first=$!
+    for _ in {1..500}; do
+        [[ $(ls -l "/proc/$first/fd" 2> /dev/null) == *"$here/image"* ]] && break
+        sleep 0.01
+    done
+    run check image large.script
+    dd if=/proc/self/fd/7 of=/dev/null iflag=nonblock bs=4096 2> /dev/null
+    wait $first
+    ended=$?
+    exec 7>&-
+    answers check && [ $ended = 0 ] && [ ! -s first_errors ]
+}
+
+# Names that are links, and a directory that is one.
+links_are_followed() {
+    ln -sf image linked
+    ln -sf large.script linked_script
+    mkdir -p room
+    ln -sfn room linked_room
+    run list linked
+    answers list || return
+    run apply linked linked_script linked_room/out
+    mv room/out out && answers apply
+}
+
+# Names with blanks and line feeds at their ends.
+names_are_taken_as_they_are() {
+    local blank
+    for blank in ' ' $'\t' $'\n'; do
+        cp image "image$blank"
+        cp large.script "script$blank"
+        run apply "image$blank" "script$blank" "out$blank"
+        mv "out$blank" out && answers apply || return
+        rm "image$blank" "script$blank" out
+    done
+}
+
+# The image takes no memory, however long it is.
+images_take_no_memory() {
+    (
+        ulimit -v 8000
+        "$program" list longest > log 2> errors < /dev/null
+    )
+    printf '0-999999 nosync\nsectors 1000000 tail 0\n' | cmp -s - log || return
+    (
+        ulimit -v 8000
+        "$program" check longest none.script > log 2> errors < /dev/null
+    )
+    echo 'applied 0 refused 0' | cmp -s - log || return
+    (
+        ulimit -v 8000
+        "$program" apply long none.script out > log 2> errors < /dev/null
+    )
+    echo 'applied 0 refused 0' | cmp -s - log && cmp -s out long
+}
+
+# A block device, such as a drive's.
+block_device() {
+    run list "$device"
+    printf '0-31 mode1\nsectors 32 tail 0\n' | cmp -s - log && [ "$status" = 0 ]
+}
+
+# Files are read 65,856 bytes at a time, and so is the standard input.
+reads_are_large() {
+    local given
+    for given in image -; do
+        strace -qq -s 0 -o trace -P "$here/image" -e trace=read "$program" list $given > log 2> errors < image
+        [ "$(grep -c ', 65856) ' trace)" = "$(wc -l < trace)" ] && [ "$(wc -l < trace)" = 5 ] || return
+    done
+}
+
+truncate -s 2352000000 longest
+truncate -s 9408000 long
+echo 'cdpatch 1' > none.script
+row 'the standard input is read from its place on' standard_input_from_its_place rewinds_standard_input
+row 'the standard input is not touched' standard_input_left_alone eats_standard_input
+row 'two runs at once on one image' two_runs_at_once locks_its_inputs
+row 'links are followed' links_are_followed refuses_links
+row 'names are taken as they are' names_are_taken_as_they_are cuts_blanks_off_names
+row 'an image takes no memory' images_take_no_memory keeps_the_image
+traced 'a read for each buffer' reads_are_large reads_a_sector_at_a_time
+for _ in 1 2 3 4; do cat "$vectors"; done > whole
+if device=$(losetup --find --show whole 2> /dev/null); then
+    trap 'losetup -d "$device"; rm -rf "$scratch"' EXIT
+    row 'a block device as image' block_device refuses_devices
+    losetup -d "$device"
+    trap 'rm -rf "$scratch"' EXIT
+else
+    skip 'a block device as image, which wants losetup and a user who may use it'
+fi
+
+# ---- OUT, and files that nobody asked for
+
+# OUT is made if there is none, in one call, only to be written; who else may use it is said by the umask.
+out_is_made_new() {
+    strace -qq -o trace -P "$here/out" -e trace=open,openat "$program" apply image large.script "$here/out" > log 2> errors
+    grep -qF '/out", O_WRONLY|O_CREAT|O_EXCL|O_NOCTTY|O_CLOEXEC, 0666) = ' trace && [ "$(wc -l < trace)" = 1 ]
+}
+
+# OUT has the right bytes, whose last are fewer than a buffer.
+out_is_written() {
+    run apply image large.script out
+    answers apply
+}
+
+# No file but OUT is left in the working directory, the temporary one or at home.
+no_other_file_is_left() {
+    rm -rf work temporary home
+    mkdir work temporary home
+    (
+        cd work || exit
+        TMPDIR=../temporary HOME=../home "$program" apply ../image ../large.script out > ../log 2> ../errors < /dev/null
+    )
+    [ "$(find work temporary home | sort | paste -sd ' ')" = 'home temporary work work/out' ]
+}
+
+# No other is opened to be written, made, removed or renamed meanwhile.
+no_other_file_is_touched() {
+    strace -qq -o trace -e trace=%file,ftruncate,fchmod,fchown "$program" apply image large.script out > log 2> errors
+    grep -E 'O_WRONLY|O_RDWR|O_CREAT|O_TRUNC|^(unlink|rename|mkdir|rmdir|link|symlink|mknod|f?truncate|f?chmod|[fl]?chown|utime)' \
+        trace > touched
+    [ "$(wc -l < touched)" = 1 ] && grep -q '"out"' touched
+}
+
+# A limit on file sizes as every shell has it, with the signal that comes with it: it kills, as the man page says.
+size_limit_kills() {
+    (
+        ulimit -f 4
+        exec "$program" apply image large.script out > log 2> errors
+    ) 2> /dev/null
+    [ $? = 153 ] && [ ! -s log ] && [ ! -s errors ] && within out patched && [ "$(stat -c %s out)" = 4096 ]
+}
+
+# What was sent to OUT before a read of the image failed is written.
+out_has_what_was_sent() {
+    strace -qq -o trace -P "$here/image" -e inject=read:error=EIO:when=3 "$program" apply "$here/image" large.script out > log 2> errors
+    [ $? = 2 ] && within out patched && [ "$(stat -c %s out)" -ge $((2 * 65856 - 2352)) ]
+}
+
+traced 'OUT is made new, in one call' out_is_made_new looks_before_it_makes_out appends_to_out may_read_out hides_out_from_others
+row 'OUT has the right bytes' out_is_written says_more_than_was_taken
+row 'no other file is left' no_other_file_is_left leaves_a_file_here leaves_a_temporary_file leaves_a_file_at_home
+traced 'no other file is touched' no_other_file_is_touched leaves_a_file_here leaves_a_temporary_file leaves_a_file_at_home
+row 'a limit on file sizes kills' size_limit_kills ignores_the_limit_on_file_sizes
+traced 'OUT has what was sent' out_has_what_was_sent drops_what_is_held
+
+# ---- errors of all kinds, and two in one run
+
+kinds='EAGAIN EACCES EPERM EOPNOTSUPP ENOSYS EINVAL ENXIO ETIMEDOUT ENOSPC'
+
+# fails CALL FILE LINE WHEN [IMAGE]: in a run of `apply` such a call on a file fails with each of the kinds in turn. It is the last
+# on its file, this line is the last of the log, and the status is 2.
+fails() {
+    local kind
+    for kind in $kinds; do
+        rm -f out
+        strace -qq -s 0 -o trace -P "$here/$2" -e "trace=$1" -e "inject=$1:error=$kind:when=$4" "$program" apply "${5-$here/image}" \
+            "$here/large.script" "$here/out" > log 2> errors < image
+        [ $? = 2 ] && [ "$(tail -n 1 log)" = "$3" ] && [ ! -s errors ] && [ "$(wc -l < trace)" = "$4" ] || return
+        [ ! -e out ] || within out patched || return
+    done
+}
+
+reads_of_the_image_fail() { fails read image "$read_failed" 3; }
+reads_of_the_standard_input_fail() { fails read image "$read_failed" 3 -; }
+reads_of_the_script_fail() { fails read large.script "$no_script" 2; }
+writes_of_out_fail() { fails write out "$write_failed" 2; }
+writes_of_the_log_fail() { fails write log '' 1; }
+syncs_of_out_fail() { fails fdatasync out "$write_failed" 1; }
+
+traced 'each kind of error of a read of the image' reads_of_the_image_fail takes_a_forbidden_read_for_the_end waits_for_a_read \
+    repeats_a_read
+traced 'each kind of error of a read of the standard input' reads_of_the_standard_input_fail takes_a_forbidden_read_for_the_end \
+    repeats_a_read
+traced 'each kind of error of a read of the script' reads_of_the_script_fail takes_a_forbidden_read_for_the_end waits_for_a_read
+traced 'each kind of error of a write to OUT' writes_of_out_fail repeats_a_write_of_out passes_over_a_full_disk
+traced 'each kind of error of a write of the log' writes_of_the_log_fail prints_again
+traced 'each kind of error of a sync' syncs_of_out_fail passes_over_a_sync_that_is_not_known repeats_a_sync syncs_nothing
+
+# two_faults FILE CALLS FAULT..: in a run of `apply`, whose log has several buffers, these faults are put into calls on OUT and
+# another file; those of OUT are in `trace`.
+two_faults() {
+    local file=$1 fault injected=()
+    for fault in "${@:2}"; do
+        injected+=(-e "inject=$fault")
+    done
+    rm -f out
+    strace -qq -y -s 0 -o calls -P "$here/$file" -P "$here/out" -e trace=read,write,fdatasync "${injected[@]}" "$program" apply \
+        "$here/image" "$here/long.script" "$here/out" > log 2> errors < /dev/null
+    status=$?
+    grep '/out>' calls > trace
+    [ $status = 2 ] && [ ! -s errors ] && within out image || return
+    [ "$(grep -c ' = -1 ' calls)" = 2 ] && [[ $(tail -n 1 trace) == *' = -1 '* ]]
+}
+
+# The image or the log fails, and then OUT: its failed call is its last.
+second_fault_in_a_write() {
+    two_faults image read:error=EIO:when=3 write:error=ENOSPC:when=2+ || return
+    [ "$(tail -n 1 log)" = "$read_failed" ] || return
+    two_faults log write:error=ENOSPC:when=1+ && [ ! -s log ]
+}
+second_fault_in_a_sync() {
+    two_faults image read:error=EIO:when=3 fdatasync:error=EIO:when=1+ || return
+    [ "$(tail -n 1 log)" = "$read_failed" ] && [ "$(stat -c %s out)" -ge $((2 * 65856 - 2352)) ] || return
+    two_faults log write:error=ENOSPC:when=1 fdatasync:error=EIO:when=1+ && [ ! -s log ]
+}
+
+# A read that gives no byte is the end of IMAGE and of SCRIPT, although the next one would give more.
+first_end_is_the_end() {
+    strace -qq -o trace -P "$here/image" -e inject=read:retval=0:when=2 "$program" list "$here/image" > log 2> errors &&
+        [ "$(tail -n 1 log)" = 'sectors 28 tail 0' ] || return
+    strace -qq -o trace -P "$here/large.script" -e inject=read:retval=0:when=1 "$program" check image "$here/large.script" > log 2> errors
+    [ $? = 2 ] && [ "$(wc -l < log)" = 1 ]
+}
+traced 'a read of no byte is the end' first_end_is_the_end reads_on_after_the_end
+
+# synced STATUS SYNCS SCRIPT FAULT..: in a run of `apply` with this status and these faults OUT is synced so often, and nothing
+# is written to it after that.
+synced() {
+    local fault injected=()
+    for fault in "${@:4}"; do
+        injected+=(-e "inject=$fault")
+    done
+    rm -f out
+    strace -qq -y -s 0 -o calls -P "$here/image" -P "$here/log" -P "$here/out" -e trace=read,write,fsync,fdatasync \
+        "${injected[@]}" "$program" apply "$here/image" "$here/$3" "$here/out" > log 2> errors < /dev/null
+    [ $? = "$1" ] && [ ! -s errors ] || return
+    grep '/out>' calls > trace
+    [ "$(grep -c 'sync(' trace)" = "$2" ] && { [ "$2" = 0 ] || [[ $(tail -n 1 trace) == fdatasync* ]]; }
+}
+
+# No contract sees a sync: to it a flush is a call of `finish`.
+syncs_of_each_status() {
+    synced 0 1 large.script && synced 1 1 refused.script || return
+    # The image fails, or the log: what was sent is synced. OUT itself fails: nothing is.
+    synced 2 1 large.script read:error=EIO:when=3 && synced 2 1 long.script write:error=ENOSPC:when=1 || return
+    synced 2 0 large.script write:error=ENOSPC:when=1
+}
+
+{ echo 'cdpatch 1'; echo 'set 1000000 0 41'; } > refused.script
+{ echo 'cdpatch 1'; yes 'rebuild 3' | head -n 9000; } > long.script
+traced 'OUT is synced once, after the last write, with each status' syncs_of_each_status syncs_nothing syncs_twice \
+    syncs_each_write syncs_before_it_writes
+traced 'a fault, and then one of a write to OUT' second_fault_in_a_write repeats_a_write_of_out drops_what_is_held
+traced 'a fault, and then one of a sync' second_fault_in_a_sync repeats_a_sync syncs_nothing
+
+# ---- the standard output, and terminals
+
+# On a terminal each line is a write, whatever the other streams are.
+terminal_gets_lines() {
+    python3 "$tests/process/terminal.py" damaged 0 first end sh -c 'exec strace -qq -s 0 -o trace -e trace=write "$0" "$@" 2> errors' \
+        "$program" audit - > log
+    [ "$(wc -l < trace)" = 3 ] && [ "$(cat end)" = 1 ]
+}
+
+# A file gets all at once, even if the other streams are terminals.
+file_gets_all_at_once() {
+    python3 "$tests/process/terminal.py" damaged 0 first end sh -c 'exec strace -qq -s 0 -o trace -e trace=write "$0" "$@" < /dev/tty > log' \
+        "$program" audit damaged > shown
+    [ "$(wc -l < trace)" = 1 ] && [ "$(wc -l < log)" = 3 ] && [ ! -s shown ]
+}
+
+# The line for want of memory, if the buffer of the standard output found none.
+want_of_memory_is_printed() {
+    REFUSE=1 REFUSED=refused LD_PRELOAD=$scratch/refuse.so "$program" list image > log 2> errors
+    [ $? = 2 ] && [ "$(cat log)" = "$no_memory" ]
+}
+
+for number in 0 1; do
+    head -c 2351 sector.$number
+    printf '\377'
+done > damaged
+if [ -n "$has_strace" ] && ! missing python3 python3 'terminals'; then
+    row 'a terminal gets each line at once' terminal_gets_lines asks_whether_standard_error_is_a_terminal \
+        asks_whether_standard_input_is_a_terminal
+    row 'a file gets all lines at once' file_gets_all_at_once asks_whether_standard_error_is_a_terminal \
+        asks_whether_standard_input_is_a_terminal
+fi
+if compiled refuse 'want of memory for the standard output'; then
+    row 'want of memory is printed' want_of_memory_is_printed is_silent_without_memory
+fi
+
+# ---- arguments
+
+# What is too much is refused, however many arguments come before it.
+arguments_are_all_read() {
+    run apply image large.script out --base 5 --carry more
+    [ "$status" = 2 ] && grep -q '^error: ' log && [ ! -s errors ] && [ ! -e out ] || return
+    run apply --carry --base 5 -- image large.script out more
+    [ "$status" = 2 ] && grep -q '^error: ' log && [ ! -s errors ] && [ ! -e out ]
+}
+
+arguments_must_be_text() {
+    run list $'\xff'
+    [ "$status" = 2 ] && echo "$no_text" | cmp -s - log
+}
+
+row 'all arguments are read' arguments_are_all_read drops_the_eighth_argument
+row 'arguments that are not text' arguments_must_be_text makes_text_of_arguments
+
+# ---- closed standard streams
+
+# with_closed STREAMS WORD..: the program with these words and these streams closed; the standard output goes to `log` if it is
+# open, and the standard input is the image.
+with_closed() {
+    local closed=$1 streams
+    shift
+    streams="$([[ $closed == *0* ]] && echo '<&-' || echo '< image')"
+    streams+=" $([[ $closed == *1* ]] && echo '>&-' || echo '> log') $([[ $closed == *2* ]] && echo '2>&-' || echo '2> errors')"
+    rm -f out log errors
+    : > log
+    eval "$before"' sh -c '"'exec \"\$0\" \"\$@\" $streams'"' "$program" "$@"' 2> /dev/null
+    status=$?
+}
+
+# What is read from a closed stream fails, and what is written to one too; no file of the user's takes its place.
+closed_streams_are_no_files() {
+    local closed before=
+    for closed in 0 1 2 01 02 12 012; do
+        with_closed $closed apply image large.script out
+        case $closed in
+            *1*) [ $status = 2 ] && cmp -s out patched || return ;;
+            *) answers apply || return ;;
+        esac
+        with_closed $closed apply - large.script out
+        case $closed in
+            *0*) [ $status = 2 ] && [ ! -s out ] || return ;;
+            *1*) [ $status = 2 ] && cmp -s out patched || return ;;
+            *) answers apply || return ;;
+        esac
+        [[ $closed == 0* && $closed != *1* ]] || continue
+        [ "$(cat log)" = "$read_failed" ] || return
+    done
+}
+
+# With no root directory for its number a closed stream is a fault, before any file is opened; if all are open, none is needed.
+closed_streams_without_a_root() {
+    local closed before='strace -qq -o trace -P / -e inject=open,openat:error=EACCES'
+    for closed in 0 1 2 01 02 12 012; do
+        for given in image -; do
+            with_closed $closed apply $given large.script out
+            [ $status = 2 ] && [ ! -e out ] || return
+            [[ $closed == *1* ]] || [ "$(cat log)" = "$no_root" ] || return
+        done
+    done
+    with_closed none apply image large.script out
+    answers apply
+}
+
+# No file of the user's gets the number of a closed stream.
+numbers_are_above_those_of_streams() {
+    local closed before='strace -qq -o trace -e trace=open,openat,execve'
+    for closed in 0 1 2 01 02 12 012; do
+        with_closed $closed apply image large.script out
+        sed '1,/^execve.*"apply"/d' trace | grep -E '^open.*"(image|large.script|out)"' > opened
+        [ "$(wc -l < opened)" = 3 ] && ! grep -q ' = [012]$' opened || return
+    done
+}
+
+row 'closed streams are no files' closed_streams_are_no_files gives_spare_files_back holds_one_spare_file
+traced 'no file gets the number of a closed stream' numbers_are_above_those_of_streams takes_standard_input_for_open \
+    takes_standard_output_for_open takes_standard_error_for_open gives_spare_files_back holds_one_spare_file
+traced 'closed streams without a root directory' closed_streams_without_a_root goes_on_without_spare_files
+
+# ---- signals
+
+# ends_by SIGNAL STATUS: the program waits for more from a pipe, and gets a signal. It ends at once, before the pipe's end; OUT is
+# kept, and has a prefix; the log, which goes to a file, is lost.
+ends_by() {
+    local run
+    rm -f out feed
+    mkfifo feed
+    env --default-signal=HUP,INT,TERM "$program" apply - large.script out > log 2> errors < feed &
+    run=$!
+    exec 6> feed
+    cat image >&6
+    for _ in {1..500}; do
+        [ "$(stat -c %s out 2> /dev/null)" = 131712 ] && break
+        sleep 0.01
+    done
+    kill "-$1" $run
+    exec 6>&-
+    wait $run
+    [ $? = "$2" ] && within out patched && [ "$(stat -c %s out)" = 131712 ] && [ ! -s log ] && [ ! -s errors ]
+}
+
+ended_by_sigterm() { ends_by TERM 143; }
+ended_by_sighup() { ends_by HUP 129; }
+ended_by_ctrl_c() { ends_by INT 130; }
+
+row 'SIGTERM ends it' ended_by_sigterm ignores_sigterm removes_out_when_stopped
+row 'SIGHUP ends it' ended_by_sighup ignores_sighup removes_out_when_stopped
+row 'Ctrl-C ends it' ended_by_ctrl_c ignores_ctrl_c removes_out_when_stopped
+
+# ---- old machines
+
+# too_old STATUS TEXT: the last run was none, and this text is on standard error.
+too_old() {
+    [ "$status" = "$1" ] && [ ! -s log ] && [ ! -e out ] && grep -qF "$2" errors
+}
+
+old_processor() {
+    LD_PRELOAD=$here/old_processor.so "$program" apply image large.script out > log 2> errors
+    status=$?
+    too_old 127 x86-64-v2
+}
+
+# The program with another name for the newest part of the C library that it asks for.
+old_c_library() {
+    sed 's/GLIBC_2\.34/GLIBC_2.94/' "$right_program" > newer
+    chmod +x newer
+    ./newer apply image large.script out > log 2> errors
+    status=$?
+    too_old 1 GLIBC_2.94
+}
+
+if compiled old_processor 'an old processor'; then
+    row 'an old processor' old_processor begins_on_any_processor
+fi
+judge 'an old C library' checked old_c_library
+
+finish

@@ -1,0 +1,329 @@
+#!/usr/bin/env bash
+# What tools/pack.py packs and what it refuses, what tools/pairs.py makes, what `make release` refuses, and the types and forms of web/
+# and of the tools: `bash tests/tools/pack.sh`. The last line is 'N passed, M failed'. TREE names a directory with other `tools` and `web`, ONLY the parts to
+# run, and CASE the only one of many alike that is wanted.
+set -u
+. "$(dirname "$0")/../lib/helpers.sh"
+python3 -B "$top/tools/header_numbers.py" # of the header, if it has changed since `make`
+tree=${TREE-$top}
+
+# wanted NAME COMMAND..: judges by this name, if it is wanted.
+wanted() { [ "${CASE-$1}" != "$1" ] || judge "$@"; }
+
+# A small `web`: a core of two modules, a command and a page, whose text has what would begin the data of a patcher.
+mkdir -p small/{core,command,page}
+printf '%s\n' '// What both doors use.' '' '/** @typedef {number} Size */' '' 'const step = 3;' '' '/**' ' * Adds.' ' * @param {number} n' ' */' \
+    'export function more(n) {' '    return n + step; // stays' '}' > small/core/count.js
+printf '%s\n' "import { more } from './count.js';" 'const [first, second] = [1, 2];' 'export class Twice {' \
+    '    of(n) {' '        return more(more(n));' '    }' '}' > small/core/twice.js
+printf '%s\n' "import { basename } from 'node:path';" "import { gunzipSync } from 'node:zlib';" "import { more } from '../core/count.js';" \
+    "import { Twice } from '../core/twice.js';" 'const step = 20;' 'export async function main(words) {' \
+    "    const module = gunzipSync(Buffer.from(JOINED.module, 'base64')).toString('hex').slice(-8);" \
+    '    console.log(new Twice().of(step), more(1), basename(JOINED.file), module, ...words);' '}' \
+    'export function start() {' '    main(process.argv.slice(2));' '}' > small/command/main.js
+printf '%s\n' "import { Twice } from '../core/twice.js';" "import { draw } from './draw.js';" 'globalThis.joined = JOINED;' \
+    'draw(new Twice().of(1));' > small/page/main.js
+printf '%s\n' 'export function draw(...values) {' "    document.title = values.join('\\n<plaintext hidden id=\"data\">\\n');" '}' \
+    > small/page/draw.js
+printf '%s\n' "import { more } from '../core/count.js';" 'self.onmessage = event => self.postMessage([more(event.data)]);' > small/page/worker.js
+printf '%s\n' '<!doctype html>' '<meta charset="utf-8">' '<title>small</title>' '<link rel="icon" href="icon.svg">' \
+    '<link rel="stylesheet" href="style.css">' '<p id="text">small</p>' '<script type="module" src="main.js"></script>' \
+    '<plaintext hidden id="data">' > small/page/page.html
+echo '<svg xmlns="http://www.w3.org/2000/svg"></svg>' > small/page/icon.svg
+echo 'p { color: black; }' > small/page/style.css
+head -c 100 "$vectors" > module
+echo 'wasm-opt 99' > module.txt
+echo 'who made what' > NOTICES
+
+# join DOOR OUT [WEB]: joins the small `web`.
+join() { python3 -B "$tree/tools/pack.py" "$1" module "$2" --web "${3-small}" > log 2> errors; }
+
+# changed FILE COMMAND..: a copy `other` of the small `web` in which a command has changed a file, which it gets on its input.
+changed() {
+    local file=$1
+    shift
+    rm -rf other
+    cp -r small other
+    "$@" < "small/$file" > "other/$file"
+}
+
+# refuses DOOR TEXT FILE COMMAND..: with a file changed so nothing is joined, and the message has this text.
+refuses() {
+    local door=$1 text=$2
+    shift 2
+    changed "$@"
+    rm -f out
+    wanted "the join refuses $1: $text" eval '! join "$door" out other && [ ! -e out ] && grep -qF -- "$text" errors'
+}
+
+# After the last line, and before the first.
+after() { cat; printf '%b\n' "$1"; }
+before() { printf '%b\n' "$1"; cat; }
+
+test_command() {
+    local end
+    missing node nodejs 'a joined command' && return
+    end=$(tail -c 4 module | od -An -tx1 | tr -d ' ')
+    judge 'a command is joined' join command cdscript
+    judge 'it runs, and has the whole module' test "$(./cdscript a 'b c')" = "26 4 cdscript $end a b c"
+    ln -sf cdscript link
+    judge 'through a link' test "$(./link)" = "26 4 cdscript $end"
+    cp cdscript cdscript.js
+    judge 'as node runs it' test "$(node cdscript.js x)" = "26 4 cdscript.js $end x"
+    judge 'who requires it gets main' test "$(node -p 'Object.keys(require("./cdscript")).join()')" = main,start
+    judge 'comments are left out' eval '! grep -qE "What both doors|typedef|Adds|stays|^// " cdscript'
+    printf "Object.defineProperty(process.versions, 'node', { value: '16.20.2' });\n" > old.js
+    node -r ./old.js cdscript > log 2> errors
+    judge 'an older node is named in one line' test "$? $(cat log errors)" = '2 cdscript needs node 18 or later, and this is 16.20.2'
+    mkdir -p none
+    ln -sf "$(command -v sh)" none/sh
+    PATH=$PWD/none ./cdscript > log 2> errors
+    judge 'and where there is none, that is' test "$? $(cat log errors)" = '2 cdscript needs node 18 or later'
+}
+
+# The only script and the only style of a page, with their hashes in its policy, and nothing else that may run.
+has_its_hashes() {
+    python3 - "$1" << 'EOF_HASHES'
+import base64, hashlib, re, sys
+page = open(sys.argv[1], encoding='utf-8').read()
+assert page.count('<script') == page.count('<style') == 1
+for name, more in ('script', " 'wasm-unsafe-eval'"), ('style', ''):
+    text, = re.findall(f'<{name}>(.*?)</{name}>', page, re.DOTALL)
+    value = base64.b64encode(hashlib.sha256(text.encode()).digest()).decode()
+    assert f"; {name}-src 'sha256-{value}'{more};" in page, name
+EOF_HASHES
+}
+
+test_page() {
+    judge 'a page is joined' join page page.html
+    judge 'its policy has the hashes of its script and its style' has_its_hashes page.html
+    judge 'spaces stay only in texts' grep -qF 'document.title=' page.html
+    judge 'it is strict' test "$(grep -c "<script>'use strict';" page.html)" = 1
+    judge 'its last line takes what comes after it as text' test "$(tail -n 1 page.html)" = '<plaintext hidden id="data">'
+    judge 'it names no other file' eval '! grep -oE "(href|src)=.{0,7}" page.html | grep -vE "=.?\"data:"'
+    changed page/draw.js cat
+    echo '{ "compilerOptions": { "alwaysStrict": true } }' > other/tsconfig.json
+    judge 'what editors are told changes no byte' eval 'join page told.html other && cmp -s page.html told.html'
+    judge 'the mark before data stands there once' test "$(grep -c '^<plaintext' page.html)" = 1
+    missing node nodejs 'what a joined page has' && return
+    judge 'it has the whole module' node "$tests/tools/packed_page.mjs" module page.html module 2> log
+    judge 'it has the notices' node "$tests/tools/packed_page.mjs" notices page.html NOTICES 2> log
+    judge "it has the program of its workers" node "$tests/tools/packed_page.mjs" worker page.html 2> log
+    judge 'it has what its own text is made of, and the names of what made it' node "$tests/tools/packed_page.mjs" own page.html 2> log
+}
+
+# The doors of this tree, packed here and now, and then in another directory at another time, by another user if we may be one.
+test_two_builds() {
+    local door other=() user='this user'
+    if [ "$(id -u)" = 0 ] && ! missing setpriv util-linux 'a build by another user'; then
+        other=(setpriv --reuid=65534 --regid=65534 --clear-groups)
+        user='another user'
+    fi
+    mkdir -p 'another place'
+    cp -r "$tree/tools" "$tree/web" module module.txt NOTICES 'another place'
+    chmod 755 . && chmod -R a+rX 'another place' && chmod 777 'another place'
+    for door in command page; do
+        python3 -B "$tree/tools/pack.py" "$door" module "this.$door"
+    done
+    sleep 1
+    for door in command page; do
+        (cd 'another place' && umask 077 &&
+            "${other[@]}" env TMPDIR=/tmp LC_ALL=C HOME=/ python3 -B tools/pack.py "$door" module "that.$door")
+        judge "$user makes the same $door in another directory" cmp "this.$door" "another place/that.$door"
+    done
+}
+
+test_refusals() {
+    local python
+    refuses command 'Could not resolve "./x.js"' command/main.js after "import { x } from './x.js';\nx();"
+    refuses command 'No matching export in "web/core/count.js" for import "less"' command/main.js \
+        after "import { less } from '../core/count.js';\nless();"
+    refuses command 'Top-level await' command/main.js after 'await main([]);'
+    refuses command '"import.meta" is not available' command/main.js after 'console.log(import.meta.url);'
+    refuses command 'has already been declared' command/main.js after 'function step() {}'
+    refuses page 'Could not resolve "node:fs"' page/draw.js before "import { readSync } from 'node:fs';"
+    refuses page 'could end it, or change on its way' page/main.js after "draw('<!--');"
+    refuses page 'could end it, or change on its way' page/main.js after 'draw(`\n<plaintext`);'
+    refuses page 'Expected ":"' page/style.css after 'p { colour red; }'
+    refuses page 'it has another end or another script' page/page.html after 'text'
+    refuses page 'it has another end or another script' page/page.html sed 's/<p id/<script>x<\/script><p id/'
+    refuses page 'stands there 0 times, and not once' page/page.html sed '/stylesheet/d'
+    refuses page 'stands there 2 times, and not once' page/page.html sed 's/^<meta.*/&&/'
+    refuses page 'bytes, more than 440000' page/style.css sh -c 'yes "p { color: black; }" | head -n 60000'
+    mv module.txt moved
+    judge 'the join refuses a module of which nothing says what made it' \
+        eval '! join page out && grep -qF "module.txt: No such file" errors'
+    mv moved module.txt
+    python=$(python3 -c 'import sys; print(sys.executable)')
+    judge 'without esbuild its package is named' eval '! PATH=/nothing "$python" -B "$tree/tools/pack.py" page module out --web small 2> errors &&
+        grep -qF "package esbuild" errors'
+}
+
+# A tree `release` whose sources are a commit, with stand-ins for rt and for what `make` leaves.
+release_tree() {
+    local name
+    mkdir -p release/library/x86-64-v3 kit/rattle stubs
+    cp -r "$top"/{Makefile,install.mk,README.md,CHANGELOG.md,crates.txt,.gitignore,docs,man,examples,include,python} release
+    cp -r "$tree"/{tools,web} release
+    while read -r name; do
+        mkdir -p "kit/rattle/$name"
+        echo 'a licence' > "kit/rattle/$name/LICENSE-MIT"
+    done < <(sed 's/#.*//; s/:/ /' release/crates.txt | tr -s ' ' '\n')
+    printf '%s\n' '#!/bin/sh' "case \$1 in version) echo \"a-kit logic \$LOGIC\" ;; doc) echo '$PWD/kit/START' ;; esac" > stubs/rt
+    printf '%s\n' '#!/bin/sh' "echo 'cdpatch $version'" > release/cdpatch
+    chmod +x stubs/rt release/cdpatch
+    ssh-keygen -q -t ed25519 -N '' -f owner && ssh-keygen -q -t ed25519 -N '' -f another || return
+    sed -i -e 's/^\(address\|toolchain\|questions\):$/& a@localhost/' -e 's/^licence:$/& none/' \
+        -e "s|^key:\$|& $(cut -d ' ' -f 1,2 owner.pub)|" release/tools/owner.txt
+    echo terms > release/LICENSE
+    mkdir release/completions
+    : | tee release/completions/{_cdpatch,cdpatch.bash,cdpatch.fish,_cdscript,cdscript.bash} > release/completions/cdscript.fish
+    : | tee release/library/{libcdpatch.a,libcdpatch.so.1,x86-64-v3/libcdpatch.so.1} > release/library/libcdpatch.a
+    printf '\0asm\1\0\0\0' > release/library/cdpatch-wasm64.wasm
+    echo 'logic=proved functions=0' > release/library/cdpatch-wasm64.txt
+    (cd release && git init -q && git add . && commit && bash tools/notices.sh library/NOTICES &&
+        bash tools/lower.sh library/cdpatch-wasm64.wasm library/cdpatch.wasm && bash tools/web.sh library .)
+}
+
+commit() { git -c user.name=a -c user.email=a@localhost commit -aqm changed; }
+release() { make --no-print-directory -s -C "$1" release distdir="$PWD/made" "${@:2}" > log 2>&1; }
+
+# unfit TEXT COMMAND..: after a command, and a commit of what it has changed, nothing is released, and one reason has this text.
+unfit() { wanted "make release refuses: $1" is_unfit "$@"; }
+is_unfit() {
+    rm -rf unfit made
+    cp -r release unfit
+    mkdir made
+    (cd unfit && "${@:2}" && { commit > /dev/null || true; })
+    ! release unfit && grep -q "^unfit to be released: .*$1" log && [ -z "$(ls made)" ]
+}
+
+# Each file that is released has a signature, which fits it, and no other file.
+signed() {
+    local file
+    release release SIGN="$PWD/owner" || return
+    echo "cdpatch $(cut -d ' ' -f 1,2 owner.pub)" > signers
+    for file in made/cdpatch-*.tar.gz made/cdpatch.html made/cdscript.js; do
+        ssh-keygen -Y verify -f signers -I cdpatch -n file -s "$file.sig" < "$file" > log || return
+        ! ssh-keygen -Y verify -f signers -I cdpatch -n file -s "$file.sig" < owner.pub > log 2>&1 || return
+    done
+}
+
+test_release() {
+    local version PATH=$PWD/stubs:$PATH
+    missing git git 'make release' && return
+    missing make make 'make release' && return
+    missing wasm-opt binaryen 'make release' && return
+    missing ssh-keygen openssh-client 'make release' && return
+    version=$(sed -n 's/^## \([0-9.]*\) .*/\1/p' "$top/CHANGELOG.md" | head -n 1)
+    LOGIC=$(grep -oE '`[0-9a-f]{16}`' "$top/README.md" | tr -d '`')
+    export LOGIC GIT_CONFIG_GLOBAL=/dev/null
+    judge 'a tree to be released is made' release_tree
+    mkdir -p made
+    wanted 'make release makes what make dist makes' eval 'release release && [ -s made/cdpatch.html ] && (cd made && sha256sum --status -c ./*.sha256)'
+    wanted 'what is not signed is said' grep -q '^Nothing was signed' log
+    wanted 'what make release signs is verified as INSTALL says' signed
+    wanted 'a release is not signed with another key than the owner has given' eval '! release release SIGN="$PWD/another" && [ ! -e made/cdpatch.html.sig ]'
+    unfit 'changes that are not committed' touch docs/NEW.md
+    unfit 'tools/owner.txt has no licence' sed -i 's/^licence:.*/licence:/' tools/owner.txt
+    unfit 'tools/owner.txt has no toolchain' sed -i 's/^toolchain:.*/toolchain:/' tools/owner.txt
+    unfit 'tools/owner.txt has no address, licence, key, toolchain, questions' sed -i 's/^\([a-z]*\):.*/\1:/' tools/owner.txt
+    unfit 'there is no LICENSE' rm LICENSE
+    unfit 'is not of version 9.9.9' sed -i '0,/^## [0-9.]* /s//## 9.9.9 /' CHANGELOG.md
+    unfit "is not of version $version with a date" sed -i '0,/^## [0-9.]* .*/s//## '"$version"' (soon)/' CHANGELOG.md
+    LOGIC=0123456789abcdef unfit 'logic is not the one that docs/TRUST.md names' true
+    unfit "verdict 'logic=proved'" sed -i s/proved/not-proved/ library/cdpatch-wasm64.txt
+    unfit 'the notices' sed -i 1d library/NOTICES
+    unfit 'cdpatch.wasm is not what' cp tools/fit.sh library/cdpatch.wasm
+    unfit 'cdscript is not what these sources make' sed -i '$s/$/ /' cdscript
+    unfit 'cdscript is not what these sources make' sed -i 's/is closed/is shut/' tools/pack.py
+    unfit 'cdpatch.html is not what these sources make' sed -i 's/<title>/<title >/' cdpatch.html
+    unfit 'cdpatch.html is not what these sources make' rm cdpatch.html
+    unfit 'other tools made it than tools/versions.txt names: esbuild' sed -i 's/wasm-opt .*/wasm-opt 117/' library/cdpatch.wasm.txt
+    printf '%s\n' '#!/bin/sh' '[ "$1" != --version ] || { echo 0.18.0; exit; }' "exec $(command -v esbuild) \"\$@\"" > stubs/esbuild
+    chmod +x stubs/esbuild
+    unfit 'other tools made it than tools/versions.txt names: esbuild' true
+    rm stubs/esbuild
+}
+
+made_pairs() { python3 -B "$tree/tools/pairs.py" | cmp - "$tree/web/core/texts/pairs.js"; }
+
+test_pairs() {
+    missing chromium chromium 'the pairs of bytes of other languages' && return
+    wanted 'the pairs of bytes of other languages are what three decoders make of them' made_pairs
+}
+
+typed_tools() { mypy --strict --cache-dir=types "$tree"/tools/{contracts,frequencies,header_numbers,options,pack,pages,pairs}.py > log || { cat log; false; }; }
+
+# lint DIRECTORY WORD..: runs eslint there. Debian's eslint finds its parts by NODE_PATH, if node is another than Debian's.
+lint() { (cd "$1" && NODE_PATH=/usr/share/nodejs eslint -f unix --rulesdir "$tree/tools/eslint" --rule 'import-cycle: error' "${@:2}"); }
+lint_tools() { lint "$tree/tools" --no-eslintrc -c "$tree/web/.eslintrc.json" --env browser,node --parser-options sourceType:module . ; }
+
+# refuses_form TEXT FILE LINE: a line more in a module of web/, and eslint says this text of it.
+refuses_form() { wanted "eslint refuses $2 with ${3%;}: $1" is_refused_form "$@"; }
+is_refused_form() {
+    rm -rf other
+    cp -r "$tree/web" other
+    printf '%s\n' "$3" >> "other/$2"
+    ! lint other "$2" > log && grep -qF "$1" log
+}
+
+# lacks_numbers WEB: whether no code there has a number of cdpatch.h that nothing else is likely to be.
+lacks_numbers() {
+    local number rule='error'
+    for number in 2352 67108864 449849 449850 999999999 2352000000; do
+        rule+=",\"Literal[value=$number]\""
+    done
+    (cd "$1" && NODE_PATH=/usr/share/nodejs eslint -f unix --no-eslintrc --parser-options=ecmaVersion:2020,sourceType:module \
+        --ignore-pattern core/module/numbers.js --rule "no-restricted-syntax: [$rule]" .)
+}
+has_number() {
+    rm -rf other
+    cp -r "$tree/web" other
+    echo 'export const LAST = 449849;' >> other/core/bytes.js
+    ! lacks_numbers other > log && grep -qF core/bytes.js log
+}
+
+test_forms() {
+    missing eslint eslint 'the forms of web/' && return
+    wanted 'the numbers of cdpatch.h stand nowhere else in web/' lacks_numbers "$tree/web"
+    wanted 'a number of cdpatch.h in the core is refused' has_number
+    wanted 'the forms of web/' lint "$tree/web" .
+    wanted "the forms of the tools' JavaScript" lint_tools
+    refuses_form './calls.js imports this module' core/module/arena.js "export { Calls } from './calls.js';"
+    refuses_form './notices.js imports this module' page/ui/dom.js "import './notices.js';"
+    refuses_form 'The core imports only of itself' core/sectors/runs.js "import '../../page/ui/dom.js';"
+    refuses_form 'The core imports only of itself' core/bytes.js "import '../page/ui/dom.js';"
+    refuses_form 'The core imports only of itself' core/bytes.js "import 'node:os';"
+    refuses_form 'The page imports only of itself and of the core' page/ui/dom.js "import '../../command/files.js';"
+    refuses_form 'The page imports only of itself and of the core' page/main.js "import '../command/files.js';"
+    refuses_form 'The page imports only of itself and of the core' page/ui/dom.js "import 'node:fs';"
+    refuses_form "What a folder gives to others stands in its index.js" page/disc/map.js "import '../ui/dom.js';"
+    refuses_form 'The state of the page is changed by its methods' page/disc/map.js "app.image = null;"
+    refuses_form 'The methods of the state tell what has changed' page/disc/map.js "app.tell('image');"
+    refuses_form 'Calls has a method for each call' page/disc/map.js "calls.exports.cdpatch_version();"
+    refuses_form '../disc/index.js imports this module' page/text/panel.js "import '../disc/index.js';"
+    refuses_form 'The command imports only of itself, of the core and of node' command/help.js "import '../page/ui/dom.js';"
+    refuses_form 'The command imports only of itself, of the core and of node' command/help.js "import 'os';"
+    for file in core/bytes.js core/sectors/runs.js page/main.js page/ui/dom.js command/help.js; do
+        refuses_form 'A dynamic import' $file "import('./x.js');"
+    done
+}
+
+test_types() {
+    missing mypy mypy 'the types of the tools' || judge 'the types of the tools' typed_tools
+    missing tsc node-typescript 'the types of web/' || judge 'the types of web/' tsc -p "$tree/web"
+}
+
+test_all() {
+    local part
+    missing python3 python3 'what tools/pack.py packs' && return
+    missing esbuild esbuild 'what tools/pack.py packs' && return
+    for part in ${ONLY-refusals command page pairs two_builds release types forms}; do
+        "test_$part"
+    done
+    [ -n "${ONLY-}" ] || refuse_wrong tools build p
+}
+
+test_all
+finish

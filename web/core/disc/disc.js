@@ -1,0 +1,211 @@
+// What was opened: one raw image, or a cue sheet and the files that it names. Its tracks, and the image and the block with which each
+// begins.
+
+import { sliceOf, wholeOf } from '../bytes.js';
+import { FAULT, Fault } from '../faults.js';
+import { SECTOR_SIZE, sectorCount } from '../sectors/sector.js';
+import { textOfFile } from '../texts/encodings.js';
+import { baseByAddresses } from './base.js';
+import { sheetOf, tracksOf } from './cue.js';
+import { natureOf } from './file_type.js';
+
+/** @typedef {import('../module/calls.js').Calls} Calls */
+/** @typedef {import('../bytes.js').Reader} Reader */
+/** @typedef {import('./cue.js').Sheet} Sheet */
+/** @typedef {import('./cue.js').Track} Track */
+/** @typedef {import('./file_type.js').FileNature} FileNature */
+/** @typedef {{ name: string, reader: Reader }} DiscFile */
+/**
+ * An image of sectors, and the block of its first one. `addressed` is that block as most addresses of some sectors give it; if it is
+ * null or below 0, `base` is what the cue sheet says, or 0. Texts are read in `order`, if it is there.
+ * @typedef {{ name: string, reader: Reader, base: number, addressed: number | null, sectors: number, tail: number,
+ *     order?: import('../iso/file_order.js').FileOrder }} DiscImage
+ */
+/**
+ * A track. Without a cue sheet there is one. `file` counts the files of the disc from 0; it is -1 if that is not open. `image` is that
+ * whole file, and `part` the track in it, from its INDEX 01 on; both are null if it is no data of 2352 bytes a sector.
+ * @typedef {{ number: number, type: string, file: number, block: number | null, sectors: number | null,
+ *     image: DiscImage | null, part: DiscImage | null }} DiscTrack
+ */
+/** @typedef {{ sheet: string | null, files: DiscFile[], tracks: DiscTrack[] }} Disc */
+
+const RAW_TYPES = ['MODE1/2352', 'MODE2/2352', 'CDI/2352'];
+
+/**
+ * Why a disc can't be opened, and what to do.
+ * @param {string} message
+ */
+export function discFault(message) {
+    return new Fault(message, FAULT.DISC);
+}
+
+/**
+ * A file of data that a cue sheet names is not there.
+ * @param {string} sheet
+ * @param {string} file
+ * @param {string[]} names all files that are not
+ */
+function missingFiles(sheet, file, names) {
+    const found = `${sheet} names ${file}.`;
+    return new Fault(`${found} Put it beside the cue sheet, or open both together.`, FAULT.MISSING_FILES, { found, names });
+}
+
+/**
+ * Opens a raw image, or a cue sheet with the files that it names. Throws a Fault, and what a reader throws.
+ * @param {Calls} calls
+ * @param {DiscFile[]} files
+ * @returns {Promise<Disc>}
+ */
+export async function openDisc(calls, files) {
+    /** @type {Map<DiscFile, FileNature>} */
+    const natures = new Map();
+    for (const file of files) natures.set(file, await natureOf(calls, file.reader));
+    const sheets = files.filter(file => natures.get(file)?.kind === 'cue');
+    if (sheets.length > 1) throw discFault(`${sheets[0].name} and ${sheets[1].name} are both cue sheets. Open one of them.`);
+    if (sheets.length === 1) return openSheet(calls, sheets[0], files.filter(file => file !== sheets[0]), natures);
+    if (files.length !== 1) throw discFault('Open one image, or a cue sheet together with the files that it names.');
+    const kind = assertSectors(files[0], natures);
+    const image = kind === 'raw' ? await imageOf(calls, files[0], 0) : null;
+    const track = { number: 1, type: '', file: 0, block: image && image.base, sectors: sectorCount(files[0].reader.size) };
+    return { sheet: null, files, tracks: [{ ...track, image, part: image }] };
+}
+
+/**
+ * What a file of sectors is, of data or of audio. Throws a Fault, DISC, if it is neither.
+ * @param {DiscFile} file
+ * @param {Map<DiscFile, FileNature>} natures
+ */
+function assertSectors(file, natures) {
+    const { kind, what, advice } = /** @type {FileNature} */ (natures.get(file));
+    if (kind !== 'raw' && kind !== 'audio') throw discFault(`${file.name} is ${what}. ${advice}`);
+    return kind;
+}
+
+/**
+ * The data track that a job means: the one of a number, or the first. An image without a cue sheet is the track of any number.
+ * @param {Disc} disc
+ * @param {number | null} [number]
+ * @returns {DiscTrack & { image: DiscImage, part: DiscImage }}
+ */
+export function dataTrack({ sheet, tracks }, number = null) {
+    const named = number === null || sheet === null ? tracks : tracks.filter(track => track.number === number);
+    if (named.length === 0) {
+        const numbers = tracks.map(it => it.number).join(', ');
+        throw discFault(`${sheet} has no track ${number}. It has ${numbers}. An image without a cue sheet is taken as that track.`);
+    }
+    const track = named.find(it => it.image !== null);
+    if (track && track.image && track.part) return { ...track, image: track.image, part: track.part };
+    const which = number === null || sheet === null ? 'The disc has no track' : `Track ${number} is no track`;
+    throw discFault(`${which} of data with 2352 bytes a sector. Choose one that is.`);
+}
+
+/**
+ * @param {Calls} calls
+ * @param {DiscFile} sheetFile
+ * @param {DiscFile[]} others
+ * @param {Map<DiscFile, FileNature>} natures
+ * @returns {Promise<Disc>}
+ */
+async function openSheet(calls, sheetFile, others, natures) {
+    const sheet = sheetOf(textOfFile(await wholeOf(sheetFile.reader)));
+    const files = sheet.files.map(({ name }) => fileNamed(name, others));
+    const known = { ...sheet, files: sheet.files.map((file, i) => ({ ...file, raw: file.raw && files[i] !== null })) };
+    const open = files.filter(file => file !== null);
+    const tracks = [];
+    for (const track of tracksOf(known, files.map(file => file ? file.reader.size : 0))) {
+        const file = files[track.file];
+        if (file === null && isData(track)) {
+            const missing = sheet.files.map(it => it.name).filter((_, i) => files[i] === null);
+            throw missingFiles(sheetFile.name, sheet.files[track.file].name, missing);
+        }
+        if (file !== null && isRaw(track)) assertOneSize(file, known, track, natures);
+        tracks.push(await trackOf(calls, track, file, open.indexOf(file)));
+    }
+    return { sheet: sheetFile.name, files: /** @type {DiscFile[]} */ (open), tracks };
+}
+
+/** @param {{ type: string }} track */
+function isData({ type }) {
+    return type !== 'AUDIO' && type !== 'CDG';
+}
+
+/** @param {{ type: string }} track */
+function isRaw({ type }) {
+    return RAW_TYPES.includes(type);
+}
+
+/**
+ * The file that a sheet names: by its last name, if need be in capitals or not.
+ * @param {string} name
+ * @param {DiscFile[]} files
+ */
+function fileNamed(name, files) {
+    const last = (/** @type {string} */ path) => path.replace(/^.*[/\\]/, '');
+    const same = (/** @type {string} */ a, /** @type {string} */ b) => a.toLowerCase() === b.toLowerCase();
+    return files.find(file => last(file.name) === last(name)) || files.find(file => same(last(file.name), last(name))) || null;
+}
+
+/**
+ * @param {Calls} calls
+ * @param {Track} track
+ * @param {DiscFile | null} file
+ * @param {number} place of the file among those that are open
+ * @returns {Promise<DiscTrack>}
+ */
+async function trackOf(calls, track, file, place) {
+    const { number, type, at, end, block, sectorSize } = track;
+    const sectors = at === null || end === null ? null : Math.floor((end - at) / sectorSize);
+    const shared = { number, type, file: place, block, sectors };
+    if (!isRaw(track) || file === null || at === null || end === null) return { ...shared, image: null, part: null };
+    const part = await imageOf(calls, { name: file.name, reader: sliceOf(file.reader, at, end) }, block);
+    const before = at / SECTOR_SIZE;
+    const image = imageAround(part, file.reader, before);
+    // Blocks are numbered from the whole image's base in both, if need be in spite of the addresses.
+    const own = { ...part, base: image.base + before };
+    return { ...shared, block: own.base, image, part: own };
+}
+
+/**
+ * The image that a part is of.
+ * @param {DiscImage} part
+ * @param {Reader} reader
+ * @param {number} before how many sectors it has before the part
+ * @returns {DiscImage}
+ */
+function imageAround({ name, base, addressed }, reader, before) {
+    const first = addressed === null ? null : addressed - before;
+    return { name, reader, base: Math.max(base - before, 0), addressed: first, ...sizesOf(reader) };
+}
+
+/**
+ * Throws a Fault, DISC, if the file of a track has other sectors too than those of 2352 bytes.
+ * @param {DiscFile} file
+ * @param {Sheet} sheet
+ * @param {Track} track
+ * @param {Map<DiscFile, FileNature>} natures
+ */
+function assertOneSize(file, sheet, track, natures) {
+    const others = sheet.points.filter(point => point.file === track.file && point.track.sectorSize !== SECTOR_SIZE);
+    if (others.length > 0) {
+        throw discFault(`Track ${others[0].track.number} in ${file.name} has sectors of ${others[0].track.sectorSize} bytes. ` +
+            'Make an image of 2352 bytes a sector of each track first.');
+    }
+    assertSectors(file, natures);
+}
+
+/** @param {Reader} reader */
+function sizesOf({ size }) {
+    return { sectors: sectorCount(size), tail: size % SECTOR_SIZE };
+}
+
+/**
+ * @param {Calls} calls
+ * @param {DiscFile} file
+ * @param {number | null} block what a cue sheet says of its first sector
+ * @returns {Promise<DiscImage>}
+ */
+async function imageOf(calls, { name, reader }, block) {
+    const base = await baseByAddresses(calls, reader);
+    const said = block !== null && calls.address(block) !== null ? block : 0;
+    return { name, reader, base: base !== null && base >= 0 ? base : said, addressed: base, ...sizesOf(reader) };
+}

@@ -1,0 +1,135 @@
+// What a file is: a raw image, or what it has to be made into first.
+
+import { readBytes, wholeOf } from '../bytes.js';
+import { SECTOR_KIND } from '../module/records.js';
+import { SECTOR_SIZE, USER_SIZE } from '../sectors/sector.js';
+import { textOfFile } from '../texts/encodings.js';
+
+/** @typedef {import('../module/calls.js').Calls} Calls */
+/** @typedef {import('../bytes.js').Reader} Reader */
+/** @typedef {'raw' | 'audio' | 'subchannels' | 'iso' | 'chd' | 'ecm' | 'archive' | 'wave' | 'cue' | 'empty' | 'unknown'} FileKind */
+/** @typedef {{ kind: FileKind, what: string, advice: string }} FileNature */
+
+const SUBCHANNEL_SIZE = 2448;
+const VOLUME_MARK = 16 * USER_SIZE + 1;
+const LARGEST_SHEET = 1 << 17;
+const SAMPLED_PAIRS = 32;
+
+/** @type {Record<FileKind, [string, string]>} what it is, and what to do with it */
+const NATURES = {
+    raw: ['a raw image, 2352 bytes a sector', ''],
+    audio: ['sectors of audio, or no image: none that was looked at has a sync field', 'Choose the data track of the disc.'],
+    subchannels: [
+        'an image of 2448 bytes a sector, with subchannels',
+        'Read the disc again without subchannels, or take the last 96 bytes off each sector.',
+    ],
+    iso: [
+        'an ISO image, 2048 bytes a sector',
+        'Make a raw image of it with cdscript raw, patch that, and make an ISO image of its user data.',
+    ],
+    chd: ['a CHD file', 'Unpack it with `chdman extractcd`, which writes a cue sheet and an image.'],
+    ecm: ['an ECM file', 'Unpack it with `unecm`, which writes the raw image.'],
+    archive: ['an archive', 'Unpack it, and choose the cue sheet or the raw image in it.'],
+    wave: ['audio in a RIFF/WAVE file', 'Choose the data track of the disc.'],
+    cue: ['a cue sheet', 'Open it with the files that it names.'],
+    empty: ['an empty file', 'Copy or download it again.'],
+    unknown: ['no image that is known here', 'Choose a raw image, 2352 bytes a sector, or its cue sheet.'],
+};
+
+/** @type {[FileKind, string][]} how files begin, a byte a character */
+const BEGINNINGS = [
+    ['chd', 'MComprHD'], ['ecm', 'ECM\0'], ['archive', 'PK\x03\x04'], ['archive', '7z\xBC\xAF\x27\x1C'], ['archive', 'Rar!'],
+    ['archive', '\x1F\x8B'],
+];
+
+/**
+ * What a file is, by its size, its first bytes and a few of its sectors.
+ * @param {Calls} calls
+ * @param {Reader} reader
+ * @returns {Promise<FileNature>}
+ */
+export async function natureOf(calls, reader) {
+    const kind = await kindOfFile(calls, reader);
+    const [what, advice] = NATURES[kind];
+    return { kind, what, advice };
+}
+
+/**
+ * @param {Calls} calls
+ * @param {Reader} reader
+ * @returns {Promise<FileKind>}
+ */
+async function kindOfFile(calls, reader) {
+    if (reader.size === 0) return 'empty';
+    const begins = await latin(reader, 0, 12);
+    const known = BEGINNINGS.find(([, beginning]) => begins.startsWith(beginning));
+    if (known) return known[0];
+    if (begins.startsWith('RIFF') && begins.endsWith('WAVE')) return 'wave';
+    if (await latin(reader, VOLUME_MARK, 5) === 'CD001') return 'iso';
+    return kindBySectors(calls, reader);
+}
+
+/**
+ * @param {Calls} calls
+ * @param {Reader} reader
+ * @returns {Promise<FileKind>}
+ */
+async function kindBySectors(calls, reader) {
+    const raw = await countSynced(calls, reader, SECTOR_SIZE);
+    const longer = await countSynced(calls, reader, SUBCHANNEL_SIZE);
+    const one = reader.size === SUBCHANNEL_SIZE; // a single sector has no neighbour
+    if (longer > raw || (one && longer > 0)) return 'subchannels';
+    if (raw > 0) return 'raw';
+    if (await isSheet(reader)) return 'cue';
+    return reader.size % SECTOR_SIZE === 0 ? 'audio' : 'unknown';
+}
+
+/**
+ * Bytes of a file, as many as it has of them, a character each.
+ * @param {Reader} reader
+ * @param {number} at
+ * @param {number} length
+ */
+async function latin(reader, at, length) {
+    const count = Math.max(Math.min(length, reader.size - at), 0);
+    return String.fromCharCode(...await readBytes(reader, at, count));
+}
+
+/**
+ * Some sectors all over a file, by groups of neighbours: their numbers from 0, and their first 2352 bytes.
+ * @param {Reader} reader
+ * @param {number} size of a sector
+ * @param {number} together how many are a group
+ * @param {number} most how many groups there are at most
+ */
+export async function* sampledSectors(reader, size, together, most) {
+    const sectors = Math.floor(reader.size / size);
+    const groups = Math.ceil(sectors / together);
+    const taken = Math.min(groups, most);
+    for (let i = 0; i < taken; i++) {
+        const first = together * Math.floor(groups * i / taken);
+        const bytes = await readBytes(reader, first * size, Math.min(together, sectors - first) * size);
+        for (let at = 0; at < bytes.length; at += size) yield { number: first + at / size, sector: bytes.subarray(at, at + SECTOR_SIZE) };
+    }
+}
+
+/**
+ * How many of some sectors begin with a sync field. Of two neighbours at most one does if sectors have another size.
+ * @param {Calls} calls
+ * @param {Reader} reader
+ * @param {number} size of a sector
+ */
+async function countSynced(calls, reader, size) {
+    let found = 0;
+    for await (const { sector } of sampledSectors(reader, size, 2, SAMPLED_PAIRS)) {
+        found += Number(calls.kind(sector) !== SECTOR_KIND.NOSYNC);
+    }
+    return found;
+}
+
+/** @param {Reader} reader */
+async function isSheet(reader) {
+    if (reader.size > LARGEST_SHEET) return false;
+    const lines = textOfFile(await wholeOf(reader)).split(/\r\n|\r|\n/).map(line => line.trim());
+    return lines.some(line => /^FILE\s/i.test(line)) && lines.some(line => /^TRACK\s+\d/i.test(line));
+}

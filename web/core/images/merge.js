@@ -1,0 +1,219 @@
+// The repair of an image by other dumps of the same disc.
+
+import { PieceCutter, joinedBytes, sameBytes } from '../bytes.js';
+import { Fault } from '../faults.js';
+import { RECORD, RECORD_SIZE, SECTOR_KIND } from '../module/records.js';
+import { addToRuns, runOf } from '../sectors/runs.js';
+import { FIELDS, SECTOR_SIZE, addressIn, differingSectors, sectorCount, sectorOf, sectorsAt } from '../sectors/sector.js';
+import { isSound } from '../sectors/survey.js';
+import { tailsDiffer } from './compare.js';
+
+/** @typedef {import('../module/calls.js').Calls} Calls */
+/** @typedef {import('../bytes.js').Piece} Piece */
+/** @typedef {import('../disc/disc.js').DiscImage} DiscImage */
+/** @typedef {import('../jobs.js').Sharer} Sharer */
+/** @typedef {import('../jobs.js').Sharing} Sharing */
+/** @typedef {import('../sectors/runs.js').Run} Run */
+/** @typedef {Run & { other: number }} RunOf blocks of another image */
+/**
+ * What is found in blocks: those whose sectors are taken, by runs that come of one other image each; of these the `doubtful` ones, whose
+ * EDC and data are others in the damaged sector; those that are repaired by no image, `elsewhere` if one has a sound sector there with
+ * the address of another block; the taken ones in which other images are sound too and differ; and of each other image
+ * those in which it is sound and differs from a sound sector, and how many these are; and the `others`, which are Mode 1 in no image.
+ * @typedef {{ taken: RunOf[], doubtful: RunOf[], damaged: (Run & { elsewhere: boolean })[], disputed: Run[], differing: Run[][],
+ *     different: number[], others: Run[] }} Found
+ */
+/** @typedef {Found & { sectors: Uint8Array, end: number }} Merged with the sectors that are taken, and the block after the range */
+/**
+ * What is found in all sectors. The repair is refused if more than a hundredth of the sectors of another image are sound and different:
+ * that is no dump of the same disc, or it is shifted. `tails` says which other images differ after the last sector.
+ * @typedef {Found & { refused: boolean, sectors: number, tails: boolean[] }} Repair
+ */
+
+/** An image is refused if more than one in this many of its sectors is sound and different. */
+const MOST_DIFFERENT = 100;
+
+/**
+ * What is taken of other images in a range of sectors. A job for a worker.
+ * @param {Calls} calls
+ * @param {Uint8Array[]} pieces the range of the image, and that of each other one
+ * @param {number} first
+ * @param {{ shift: number }} args how many blocks later those are whose addresses the sectors have
+ * @returns {Merged}
+ */
+export function mergeRange(calls, [old, ...others], first, { shift }) {
+    const records = calls.survey(old, first);
+    const otherRecords = others.map(other => differingRecords(calls, old, other));
+    const numbers = others.map((_, other) => other);
+    const found = nothingFound(others.length);
+    const [sectors, count] = [/** @type {Uint8Array[]} */ ([]), sectorCount(old.length)];
+    for (let i = 0; i < count; i++) {
+        const [block, at] = [first + i, i * RECORD_SIZE];
+        const sound = numbers.filter(other => isSound(otherRecords[other], at));
+        if (isSound(records, at)) {
+            for (const other of sound) addDifferent(found, block, other);
+            continue;
+        }
+        const home = sound.filter(other => isHome(calls, addressIn(others[other], i), block + shift));
+        if (home.length > 0) {
+            const damaged = sectorOf(old, i);
+            const candidates = home.map(other => ({ other, sector: sectorOf(others[other], i) }));
+            const fits = candidates.map(({ sector }) => fitOf(damaged, sector));
+            const best = Math.max(...fits);
+            const { other, sector } = candidates[fits.indexOf(best)];
+            sectors.push(sector);
+            addToRuns(found.taken, { ...runOf(block), other });
+            if (best === 0 && !isFilled(damaged)) addToRuns(found.doubtful, { ...runOf(block), other });
+            if (candidates.some(it => differingSectors(sector, it.sector).length > 0)) addToRuns(found.disputed, runOf(block));
+        } else if ([records, ...otherRecords].some(it => it[at + RECORD.KIND] === SECTOR_KIND.MODE1)) {
+            addToRuns(found.damaged, { ...runOf(block), elsewhere: sound.length > 0 });
+        } else {
+            addToRuns(found.others, runOf(block));
+        }
+    }
+    return { ...found, sectors: joinedBytes(sectors), end: first + count };
+}
+
+/**
+ * @param {Found} found
+ * @param {number} block
+ * @param {number} other
+ */
+function addDifferent({ differing, different }, block, other) {
+    different[other] += 1;
+    addToRuns(differing[other], runOf(block));
+}
+
+/**
+ * How well a sound sector fits a damaged one: 2 if it has the EDC that stands there, 1 if it has the data, else 0.
+ * @param {Uint8Array} damaged
+ * @param {Uint8Array} sector
+ */
+function fitOf(damaged, sector) {
+    if (hasSame(damaged, sector, FIELDS.edc, FIELDS.zeros)) return 2;
+    return Number(hasSame(damaged, sector, FIELDS.header, FIELDS.edc));
+}
+
+/**
+ * Whether a damaged sector has nothing but one byte over and over.
+ * @param {Uint8Array} damaged
+ */
+function isFilled(damaged) {
+    return damaged.subarray(FIELDS.user).every(byte => byte === damaged[FIELDS.user]);
+}
+
+/**
+ * @param {Uint8Array} a
+ * @param {Uint8Array} b
+ * @param {number} from
+ * @param {number} end
+ */
+function hasSame(a, b, from, end) {
+    return sameBytes(a.subarray(from, end), b.subarray(from, end));
+}
+
+/**
+ * Whether a block has an address. A block without address has no other one.
+ * @param {Calls} calls
+ * @param {Uint8Array} address
+ * @param {number} block
+ */
+function isHome(calls, address, block) {
+    const own = calls.address(block);
+    return own !== null && sameBytes(own, address);
+}
+
+/**
+ * @param {number} others how many other images there are
+ * @returns {Found}
+ */
+function nothingFound(others) {
+    const differing = Array.from({ length: others }, () => []);
+    return { taken: [], doubtful: [], damaged: [], disputed: [], differing, different: new Array(others).fill(0), others: [] };
+}
+
+/**
+ * The records of the sectors of another image that differ, with those of a sector without sync field for the others.
+ * @param {Calls} calls
+ * @param {Uint8Array} old
+ * @param {Uint8Array} other
+ */
+function differingRecords(calls, old, other) {
+    const records = new Uint8Array(RECORD_SIZE * sectorCount(old.length));
+    const places = differingSectors(old, other);
+    const found = calls.survey(sectorsAt(other, places), 0);
+    places.forEach((place, i) => records.set(found.subarray(RECORD_SIZE * i, RECORD_SIZE * (i + 1)), RECORD_SIZE * place));
+    return records;
+}
+
+/**
+ * Repairs an image by others: sectors that are not consistent in it and are in another one, with the block's own address there, are
+ * taken whole. The pieces of the repaired image are given to `take` as they come, before it is known whether the repair is refused. The
+ * tail stays as it is. Throws a Fault.
+ * @param {Sharer} crew
+ * @param {DiscImage} old
+ * @param {DiscImage[]} others
+ * @param {Sharing} how
+ * @param {(piece: Piece) => void | Promise<void>} take
+ * @returns {Promise<Repair>}
+ */
+export async function mergeImages(crew, old, others, how, take) {
+    for (const other of others) assertSamePart(old, other);
+    const found = nothingFound(others.length);
+    const sectors = sectorCount(old.reader.size);
+    const pieces = new PieceCutter(take);
+    // Blocks of an image that begins before block 0 count from 0 all the same.
+    const shift = old.addressed !== null && old.addressed < 0 ? old.addressed - old.base : 0;
+    await crew.share('merge', [old, ...others].map(({ reader }) => reader), { shift }, { ...how, base: old.base }, async answer => {
+        addAnswer(found, answer);
+        await cutAnswer(pieces, answer, old.base);
+    });
+    await pieces.keep(old.reader.size);
+    const refused = found.different.some(count => count * MOST_DIFFERENT > sectors);
+    const tails = [];
+    for (const other of others) tails.push(await tailsDiffer(old.reader, other.reader));
+    return { ...found, refused, sectors, tails };
+}
+
+/**
+ * @param {DiscImage} old
+ * @param {DiscImage} other
+ */
+function assertSamePart(old, other) {
+    const [size, another] = [old.reader.size, other.reader.size];
+    if (size !== another) {
+        throw new Fault(`${old.name} has ${size} bytes and ${other.name} ${another}: they are not dumps of one disc`);
+    }
+    if (other.base === old.base) return;
+    const bases = `${old.name} begins with block ${old.base}, ${other.name} with block ${other.base}`;
+    throw new Fault(`${bases}: they are not the same part of a disc`);
+}
+
+/**
+ * @param {Found} found
+ * @param {Merged} answer
+ */
+function addAnswer(found, { taken, doubtful, damaged, disputed, differing, different, others }) {
+    for (const run of taken) addToRuns(found.taken, run);
+    for (const run of doubtful) addToRuns(found.doubtful, run);
+    for (const run of damaged) addToRuns(found.damaged, run);
+    for (const run of disputed) addToRuns(found.disputed, run);
+    for (const run of others) addToRuns(found.others, run);
+    differing.forEach((runs, other) => runs.forEach(run => addToRuns(found.differing[other], run)));
+    different.forEach((count, other) => { found.different[other] += count; });
+}
+
+/**
+ * @param {PieceCutter} pieces
+ * @param {Merged} answer
+ * @param {number} base
+ */
+async function cutAnswer(pieces, { taken, sectors, end }, base) {
+    let done = 0;
+    for (const { first, last } of taken) {
+        const size = (last - first + 1) * SECTOR_SIZE;
+        await pieces.put((first - base) * SECTOR_SIZE, sectors.subarray(done, done + size));
+        done += size;
+    }
+    await pieces.keep((end - base) * SECTOR_SIZE);
+}

@@ -1,0 +1,105 @@
+// The order in which the files of a track have its sectors: the extents of a file may lie apart.
+
+import { SECTOR_SIZE, USER_SIZE } from '../sectors/sector.js';
+
+/** @typedef {import('../bytes.js').Reader} Reader */
+/** @typedef {import('./files.js').FileEntry} FileEntry */
+/** @typedef {{ reader: Reader, base: number, sectors: number }} Track */
+/** @typedef {{ from: number, count: number }} Sectors some of a track, by their places in it */
+
+/**
+ * The last of several that has at most a value.
+ * @template T
+ * @param {T[]} list in the order of values, of which the first is at most that one
+ * @param {(it: T) => number} valueOf
+ * @param {number} value
+ */
+function lastUpTo(list, valueOf, value) {
+    let [low, high] = [0, list.length];
+    while (high - low > 1) {
+        const middle = (low + high) >> 1;
+        if (valueOf(list[middle]) <= value) low = middle;
+        else high = middle;
+    }
+    return list[low];
+}
+
+/** The sectors of a track, those of each file one after the other, and all others as they lie. */
+export class FileOrder {
+    /**
+     * @param {Track} track
+     * @param {Sectors[]} runs all of it, in this order
+     */
+    constructor({ reader, base, sectors }, runs) {
+        let next = 0;
+        const placed = runs.map(({ from, count }) => ({ from, count, at: (next += count) - count }));
+        this.base = base;
+        this.runs = placed;
+        this.byPlace = [...placed].sort((a, b) => a.from - b.from);
+        /** @type {Reader} in this order */
+        this.reader = {
+            size: sectors * SECTOR_SIZE,
+            read: (place, length, room) => {
+                const { from, at, count } = lastUpTo(placed, it => it.at * SECTOR_SIZE, place);
+                return reader.read(place + (from - at) * SECTOR_SIZE, Math.min(length, (at + count) * SECTOR_SIZE - place), room);
+            },
+        };
+    }
+
+    /** @param {number} index in this order */
+    blockOf(index) {
+        const { from, at } = lastUpTo(this.runs, it => it.at, index);
+        return this.base + from + index - at;
+    }
+
+    /** @param {number} block */
+    indexOf(block) {
+        const { from, at } = lastUpTo(this.byPlace, it => it.from, block - this.base);
+        return block - this.base + at - from;
+    }
+}
+
+/**
+ * The extents that go on with a file elsewhere than after the one before them, by the place at which that ends.
+ * @param {Track} track
+ * @param {FileEntry[]} files
+ */
+function laterExtents({ base }, files) {
+    const [ends, later] = [new Map(), new Map()];
+    const key = (/** @type {string} */ path, /** @type {number} */ before) => `${before} ${path}`;
+    for (const { path, block, size, before } of files) {
+        if (size > 0 && size % USER_SIZE === 0) ends.set(key(path, before + size), block - base + size / USER_SIZE);
+    }
+    for (const { path, block, size, before } of files) {
+        const end = before > 0 && ends.get(key(path, before));
+        if (end && end !== block - base) later.set(end, { from: block - base, count: Math.ceil(size / USER_SIZE) });
+    }
+    return later;
+}
+
+/**
+ * The order of a track's files, undefined if it is that of the sectors, or if extents have sectors of others.
+ * @param {Track} track
+ * @param {FileEntry[]} files
+ */
+export function fileOrder(track, files) {
+    const later = laterExtents(track, files);
+    const moved = new Map([...later.values()].map(it => [it.from, it.from + it.count]));
+    const cuts = [...new Set([0, track.sectors, ...later.keys(), ...moved.keys(), ...moved.values()])].sort((a, b) => a - b);
+    /** @type {Sectors[]} */
+    const runs = [];
+    let taken = 0;
+    for (const [i, from] of cuts.entries()) {
+        taken = Math.max(taken, moved.get(from) || 0);
+        if (from < taken || i + 1 === cuts.length) continue;
+        runs.push({ from, count: cuts[i + 1] - from });
+        for (let end = cuts[i + 1]; later.has(end);) {
+            const next = later.get(end);
+            later.delete(end);
+            runs.push(next);
+            end = next.from + next.count;
+        }
+    }
+    const isWhole = runs.reduce((sum, { count }) => sum + count, 0) === track.sectors;
+    return moved.size > 0 && isWhole ? new FileOrder(track, runs) : undefined;
+}

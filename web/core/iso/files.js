@@ -1,0 +1,229 @@
+// The files of an ISO 9660 volume in a track of raw sectors, with Rock Ridge's or Joliet's names if it has them.
+
+import { readBytes } from '../bytes.js';
+import { FAULT, Fault } from '../faults.js';
+import { SECTOR_SIZE, USER_SIZE, joinedUser, sectorCount } from '../sectors/sector.js';
+import { SEVERAL_EXTENTS, isSelf, recordAt, sharingSkip } from './records.js';
+import { walked } from './walk.js';
+
+/** @typedef {import('../bytes.js').Reader} Reader */
+/** @typedef {import('../script/replace_bytes.js').Place} Place */
+/**
+ * A file, or one extent of a file that has several, and how many bytes it has before that. `fault` says why its bytes are not just those
+ * from its block on, '' if they are; `record` is where its directory names it.
+ * @typedef {{ path: string, block: number, size: number, fault: string, before: number, record: Place }} FileEntry
+ */
+/**
+ * The files by their blocks, with the best names that there are; what could not be read, in lines for a person; all that the trees of
+ * names have, some of it several times; and whether UDF names the files too.
+ * @typedef {{ files: FileEntry[], faults: string[], entries: FileEntry[], udf: boolean }} VolumeFiles
+ */
+/** @typedef {{ path: string, size: number, extents: FileEntry[] }} WholeFile a file, with its extents in the order of its bytes */
+
+const FIRST_DESCRIPTOR = 16;
+const MOST_DESCRIPTORS = 64;
+const PRIMARY = 1;
+const SUPPLEMENTARY = 2;
+const LAST_DESCRIPTOR = 255;
+const ROOT_RECORD = 156;
+const ESCAPES = 88;
+const NUMBER_IN_SET = 124;
+
+/** What descriptors name in a row: ISO 9660, and UDF with its beginning and end. */
+const STANDARDS = ['CD001', 'BEA01', 'NSR02', 'NSR03', 'TEA01'];
+/** Most sectors that are kept: many records may be continued in the same ones, and a browser takes long for each reading. */
+const MOST_KEPT = 4096;
+
+/**
+ * Why a track has no volume whose files can be listed.
+ * @param {string} message
+ */
+function volumeFault(message) {
+    return new Fault(message, FAULT.VOLUME);
+}
+
+/** The user data of a track, by the block numbers of its volume. */
+export class VolumeReader {
+    /**
+     * @param {Reader} reader
+     * @param {number} base
+     */
+    constructor(reader, base) {
+        this.reader = reader;
+        this.base = base;
+        this.sectors = sectorCount(reader.size);
+        /** The number that the volume gives the first sector. */
+        this.first = 0;
+        /** How many places were read in which records are continued. */
+        this.areas = 0;
+        /** @type {Map<number, Uint8Array>} the user data of sectors that were read one by one */
+        this.kept = new Map();
+    }
+
+    /** @param {number} extent */
+    blockOf(extent) {
+        return extent - this.first + this.base;
+    }
+
+    /**
+     * How many sectors of an extent the image has.
+     * @param {number} extent
+     * @param {number} count
+     */
+    available(extent, count) {
+        const index = extent - this.first;
+        return index < 0 ? 0 : Math.max(Math.min(count, this.sectors - index), 0);
+    }
+
+    /**
+     * The user data of sectors in one piece.
+     * @param {number} extent
+     * @param {number} count
+     */
+    async user(extent, count) {
+        const index = extent - this.first;
+        const known = this.kept.get(index);
+        if (count === 1 && known) return known;
+        const user = joinedUser(await readBytes(this.reader, index * SECTOR_SIZE, count * SECTOR_SIZE));
+        if (this.kept.size === MOST_KEPT) this.kept.clear();
+        if (count === 1) this.kept.set(index, user);
+        return user;
+    }
+
+    /**
+     * The record of a directory on itself, if one stands first in a sector.
+     * @param {number} extent
+     */
+    async ownRecord(extent) {
+        if (this.available(extent, 1) === 0) return null;
+        const record = recordAt(await this.user(extent, 1), 0);
+        return record && isSelf(record) ? record : null;
+    }
+}
+
+/**
+ * The files of a track's volume. Throws a Fault, VOLUME, if there is none, and what the reader throws.
+ * @param {Reader} reader of the track
+ * @param {number} base the block of its first sector
+ * @returns {Promise<VolumeFiles>}
+ */
+export async function filesOf(reader, base) {
+    const volume = new VolumeReader(reader, base);
+    const { primary, joliet, udf } = await descriptorsOf(volume);
+    const { first, own } = await foundRoot(volume, rootOf(primary).extent);
+    volume.first = first;
+    const skip = await sharingSkip(volume, own);
+    const number = numberIn(primary);
+    const trees = [{ root: rootOf(primary), tree: { joliet: false, skip, number } }];
+    const other = joliet && recordAt(joliet, ROOT_RECORD);
+    if (other) trees.push({ root: other, tree: { joliet: true, skip: null, number } });
+    if (skip === null) trees.reverse();
+    const found = [];
+    for (const { root, tree } of trees) found.push(await walked(volume, root, tree));
+    const files = joinedFiles(found.map(it => it.files));
+    files.sort((a, b) => a.block - b.block || Number(a.path > b.path) - Number(a.path < b.path));
+    const faults = new Set(found.flatMap(it => it.faults));
+    if (joliet && !other) faults.add("Joliet's volume descriptor has no root directory");
+    return { files, faults: [...faults], entries: found.flatMap(it => it.files), udf };
+}
+
+/**
+ * The file that the entries of a path are. Throws a Fault if they are not just its bytes.
+ * @param {FileEntry[]} entries
+ * @returns {WholeFile}
+ */
+export function wholeFile(entries) {
+    const extents = [...entries].sort((a, b) => a.before - b.before);
+    const [{ path }] = extents;
+    let size = 0;
+    for (const { fault, before, size: own } of extents) {
+        if (fault !== '' && fault !== SEVERAL_EXTENTS) throw new Fault(`${path}: ${fault}`);
+        if (before !== size) throw new Fault(`${path} has ${extents.length} parts, which are no file`);
+        size += own;
+    }
+    return { path, size, extents };
+}
+
+/** @param {Uint8Array} descriptor */
+function numberIn(descriptor) {
+    return descriptor[NUMBER_IN_SET] + 256 * descriptor[NUMBER_IN_SET + 1];
+}
+
+/**
+ * The files of the first tree, and those of another one whose bytes it does not name.
+ * @param {FileEntry[][]} trees
+ */
+function joinedFiles([files, others = []]) {
+    const known = new Set(files.map(({ block }) => block));
+    return files.concat(others.filter(({ block, size }) => size > 0 && !known.has(block)));
+}
+
+/**
+ * The files that a user byte of a block lies in: several if they share it.
+ * @param {FileEntry[]} files
+ * @param {number} block
+ * @param {number} offset
+ */
+export function filesAt(files, block, offset) {
+    return files.filter(file => {
+        const at = (block - file.block) * USER_SIZE + offset;
+        return at >= 0 && at < file.size;
+    });
+}
+
+/**
+ * The descriptors of a volume: the primary one, and Joliet's, if there is one.
+ * @param {VolumeReader} volume
+ */
+async function descriptorsOf(volume) {
+    let [primary, joliet] = [new Uint8Array(0), /** @type {Uint8Array | null} */ (null)];
+    let [ended, udf] = [false, false];
+    const count = volume.available(FIRST_DESCRIPTOR, MOST_DESCRIPTORS);
+    for (let i = 0; i < count; i++) {
+        const user = await volume.user(FIRST_DESCRIPTOR + i, 1);
+        const standard = String.fromCharCode(...user.subarray(1, 6));
+        if (!STANDARDS.includes(standard)) break;
+        udf = udf || standard.startsWith('NSR');
+        ended = ended || standard !== 'CD001' || user[0] === LAST_DESCRIPTOR;
+        if (ended) continue;
+        if (user[0] === PRIMARY && primary.length === 0) primary = user;
+        if (user[0] === SUPPLEMENTARY && isJoliet(user)) joliet = user;
+    }
+    if (primary.length === 0) {
+        throw volumeFault(`no ISO 9660 volume: block ${volume.blockOf(FIRST_DESCRIPTOR)} has no volume descriptor`);
+    }
+    const size = primary[128] + 256 * primary[129];
+    if (size !== USER_SIZE) throw volumeFault(`the volume has logical blocks of ${size} bytes, not of ${USER_SIZE}`);
+    return { primary, joliet, udf };
+}
+
+/** @param {Uint8Array} descriptor */
+function isJoliet(descriptor) {
+    return ['%/@', '%/C', '%/E'].includes(String.fromCharCode(...descriptor.subarray(ESCAPES, ESCAPES + 3)));
+}
+
+/** @param {Uint8Array} descriptor */
+function rootOf(descriptor) {
+    const root = recordAt(descriptor, ROOT_RECORD);
+    if (root === null) throw volumeFault('the volume descriptor has no root directory');
+    return root;
+}
+
+/**
+ * The root directory's record on itself, and the number that a volume gives the first sector of its track: 0, or the track's block if it
+ * counts from the disc's start. That record has its own extent, which decides.
+ * @param {VolumeReader} volume
+ * @param {number} root its extent
+ */
+async function foundRoot(volume, root) {
+    const fitting = [];
+    for (const first of new Set([0, volume.base])) {
+        volume.first = first;
+        const own = await volume.ownRecord(root);
+        if (own !== null && own.extent === root) fitting.push({ first, own });
+    }
+    const blocks = [...new Set([volume.base + root, root])].join(' or ');
+    if (fitting.length === 0) throw volumeFault(`the root directory is not in block ${blocks}`);
+    if (fitting.length > 1) throw volumeFault(`blocks ${blocks} could both be the root directory`);
+    return fitting[0];
+}

@@ -1,0 +1,258 @@
+// The records of a directory of ISO 9660, and what Rock Ridge adds to them.
+
+import { joinedBytes } from '../bytes.js';
+import { USER_SIZE } from '../sectors/sector.js';
+import { textOfFile } from '../texts/encodings.js';
+
+/**
+ * A directory record: its place in the bytes, where its extent begins, its bytes, whether both are the same with the most significant byte
+ * first, the volume of the set that it lies on, its flags, its name as it stands there, and its System Use field.
+ * @typedef {{ at: number, extent: number, size: number, agrees: boolean, volume: number, flags: number, interleaved: boolean,
+ *     name: Uint8Array, system: Uint8Array, length: number }} DirectoryRecord
+ */
+/** @typedef {{ kind: 'file' | 'directory', path: string, extent: number, size: number, fault: string }} Entry */
+/** @typedef {{ entry: Entry, at: number, before: number }} Part the place of a record, and how much of its file others have before it */
+/**
+ * The sectors of a volume, and how many of those were read in which records are continued.
+ * @typedef {{ user(extent: number, count: number): Promise<Uint8Array>, available(extent: number, count: number): number, areas: number }}
+ *     Blocks
+ */
+/** @typedef {{ ownRecord(extent: number): Promise<DirectoryRecord | null> } & Blocks} Selves */
+/** @typedef {{ path: string, joliet: boolean, skip: number | null, number: number, fault: (text: string) => void }} Reading */
+
+const SMALLEST_RECORD = 34;
+const NAME = 33;
+const DIRECTORY = 2;
+const ASSOCIATED = 4;
+const MORE_EXTENTS = 128;
+const MOST_CONTINUATIONS = 64;
+
+/** The fault of each part of a file that has several. */
+export const SEVERAL_EXTENTS = 'it has several extents';
+
+/** Where a record has the size of its extent, and how many bytes that is: once in each byte order. */
+export const SIZE_FIELD = Object.freeze({ offset: 10, length: 8 });
+
+/**
+ * @param {Uint8Array} bytes
+ * @param {number} at
+ */
+function numberAt(bytes, at) {
+    return new DataView(bytes.buffer, bytes.byteOffset, bytes.length).getUint32(at, true);
+}
+
+/**
+ * Whether a number that stands there twice is the same with the most significant byte first. Some writers leave that 0.
+ * @param {Uint8Array} bytes
+ * @param {number} at
+ */
+function agreesAt(bytes, at) {
+    const other = new DataView(bytes.buffer, bytes.byteOffset, bytes.length).getUint32(at + 4, false);
+    return other === 0 || other === numberAt(bytes, at);
+}
+
+/**
+ * The record at a place, or null if none can stand there.
+ * @param {Uint8Array} bytes
+ * @param {number} at
+ * @returns {DirectoryRecord | null}
+ */
+export function recordAt(bytes, at) {
+    const length = bytes[at];
+    const left = Math.min(bytes.length - at, USER_SIZE - at % USER_SIZE);
+    if (length < SMALLEST_RECORD || length > left || NAME + bytes[at + 32] > length) return null;
+    const record = bytes.subarray(at, at + length);
+    const end = NAME + record[32];
+    return {
+        at,
+        extent: numberAt(record, 2) + record[1],
+        size: numberAt(record, SIZE_FIELD.offset),
+        agrees: agreesAt(record, 2) && agreesAt(record, SIZE_FIELD.offset),
+        volume: record[28] + 256 * record[29],
+        flags: record[25],
+        interleaved: record[26] > 0 || record[27] > 0,
+        name: record.subarray(NAME, end),
+        system: record.subarray(end + (1 - record[32] % 2)),
+        length,
+    };
+}
+
+/**
+ * Whether a record is a directory's on itself.
+ * @param {DirectoryRecord} record
+ */
+export function isSelf({ name }) {
+    return name.length === 1 && name[0] === 0;
+}
+
+/** @param {DirectoryRecord} record */
+function isParent({ name }) {
+    return name.length === 1 && name[0] === 1;
+}
+
+/**
+ * How many bytes of each System Use field come before Rock Ridge's entries, or null if the volume has none.
+ * @param {Blocks} blocks
+ * @param {DirectoryRecord} own the root's
+ */
+export async function sharingSkip(blocks, { system }) {
+    // CD-ROM XA has 14 bytes of its own there.
+    for (const skip of [0, 14]) {
+        const entry = system.subarray(skip);
+        if (!(entry.length >= 7 && signatureAt(entry, 0) === 'SP' && entry[4] === 0xBE && entry[5] === 0xEF)) continue;
+        const entries = await systemEntries(blocks, system.subarray(skip));
+        return entries.some(({ signature }) => signature === 'PX' || signature === 'RR') ? entry[6] : null;
+    }
+    return null;
+}
+
+/**
+ * @param {Uint8Array} bytes
+ * @param {number} at
+ */
+function signatureAt(bytes, at) {
+    return String.fromCharCode(bytes[at], bytes[at + 1]);
+}
+
+/**
+ * The entries of a System Use field, and of the areas in which it is continued.
+ * @param {Blocks} blocks
+ * @param {Uint8Array} area
+ */
+async function systemEntries(blocks, area) {
+    const entries = [];
+    /** @type {Uint8Array | null} */
+    let rest = area;
+    for (let i = 0; rest !== null && i < MOST_CONTINUATIONS; i++) {
+        /** @type {Uint8Array | null} */
+        let next = null;
+        for (let at = 0; at + 4 <= rest.length;) {
+            const length = rest[at + 2];
+            const signature = signatureAt(rest, at);
+            /** @type {Uint8Array} */
+            const data = rest.subarray(at + 4, at + length);
+            if (length < 4 || at + length > rest.length || signature === 'ST') break;
+            if (signature === 'CE' && data.length >= 24) next = await continuation(blocks, data);
+            entries.push({ signature, data });
+            at += length;
+        }
+        rest = next;
+    }
+    return entries;
+}
+
+/**
+ * @param {Blocks} blocks
+ * @param {Uint8Array} data of an entry CE
+ */
+async function continuation(blocks, data) {
+    const [extent, offset, length] = [numberAt(data, 0), numberAt(data, 8), numberAt(data, 16)];
+    if (blocks.available(extent, 1) === 0) return null;
+    blocks.areas += 1;
+    return (await blocks.user(extent, 1)).subarray(offset, offset + length);
+}
+
+/**
+ * What Rock Ridge says of a record: its name, '' if it has none, whether it is a link or a directory that belongs to another place,
+ * and the extent of a directory whose place is here.
+ * @param {Blocks} blocks
+ * @param {Uint8Array} area
+ */
+async function rockRidge(blocks, area) {
+    const entries = await systemEntries(blocks, area);
+    const parts = entries.filter(it => it.signature === 'NM').map(it => it.data.subarray(1));
+    const child = entries.find(it => it.signature === 'CL' && it.data.length >= 4);
+    return {
+        name: textOfFile(joinedBytes(parts)),
+        link: entries.some(it => it.signature === 'SL'),
+        moved: entries.some(it => it.signature === 'RE'),
+        child: child ? numberAt(child.data, 0) : null,
+    };
+}
+
+/**
+ * The files and directories that the records of a directory name, in their order.
+ * @param {Selves} blocks
+ * @param {Uint8Array} user of the whole directory
+ * @param {Reading} reading
+ * @returns {AsyncGenerator<Part>}
+ */
+export async function* entriesOfDirectory(blocks, user, reading) {
+    let [more, before] = [false, 0];
+    for (const record of recordsOf(user, reading.fault)) {
+        if (isSelf(record) || isParent(record)) continue;
+        const entry = await entryOf(blocks, record, reading);
+        if (entry && more && entry.fault === '') entry.fault = SEVERAL_EXTENTS;
+        if (entry) yield { entry, at: record.at, before };
+        more = (record.flags & MORE_EXTENTS) !== 0;
+        before = more ? before + record.size : 0;
+    }
+}
+
+/**
+ * @param {Uint8Array} user
+ * @param {(text: string) => void} fault
+ */
+function* recordsOf(user, fault) {
+    for (let at = 0; at < user.length;) {
+        const record = recordAt(user, at);
+        if (record === null && user[at] !== 0) fault(`byte ${at} of the directory has no record of a file`);
+        if (record !== null) yield record;
+        // A record lies in one sector. After the last one there come zeros.
+        at = record === null ? (Math.floor(at / USER_SIZE) + 1) * USER_SIZE : at + record.length;
+    }
+}
+
+/**
+ * @param {Selves} blocks
+ * @param {DirectoryRecord} record
+ * @param {Reading} reading
+ * @returns {Promise<Entry | null>} null for a link, and for a directory that is listed in another place
+ */
+async function entryOf(blocks, record, reading) {
+    const more = reading.skip === null ? null : await rockRidge(blocks, record.system.subarray(reading.skip));
+    if (more && (more.link || more.moved)) return null;
+    const path = `${reading.path}/${more && more.name || plainName(record.name, reading.joliet)}`;
+    if (more && more.child !== null) return childOf(blocks, more.child, path, reading.fault);
+    const fault = faultOf(record, reading.number);
+    const { extent, size, flags } = record;
+    if ((flags & DIRECTORY) === 0) return { kind: 'file', path, extent, size, fault };
+    if (fault) reading.fault(`the directory ${path} is not read: ${fault}`);
+    return fault ? null : { kind: 'directory', path, extent, size, fault };
+}
+
+/**
+ * A directory that Rock Ridge has moved: its record has no size.
+ * @param {Selves} blocks
+ * @param {number} extent
+ * @param {string} path
+ * @param {(text: string) => void} fault
+ * @returns {Promise<Entry | null>}
+ */
+async function childOf(blocks, extent, path, fault) {
+    const own = await blocks.ownRecord(extent);
+    if (own === null) fault(`the directory ${path} is not in the image`);
+    return own && { kind: 'directory', path, extent, size: own.size, fault: '' };
+}
+
+/**
+ * @param {DirectoryRecord} record
+ * @param {number} number of the volume in its set
+ */
+function faultOf({ flags, interleaved, agrees, volume }, number) {
+    if (!agrees) return 'its numbers in the two byte orders differ';
+    if (volume !== number) return `it lies on volume ${volume} of the set, and this is volume ${number}`;
+    if (interleaved) return 'it is interleaved';
+    if (flags & ASSOCIATED) return 'it belongs to another file of this name';
+    return flags & MORE_EXTENTS ? SEVERAL_EXTENTS : '';
+}
+
+/**
+ * A name without its version, if that is 1.
+ * @param {Uint8Array} name
+ * @param {boolean} joliet
+ */
+function plainName(name, joliet) {
+    const text = joliet ? new TextDecoder('utf-16be').decode(name) : textOfFile(name);
+    return text.replace(/\.?;1$/, '');
+}

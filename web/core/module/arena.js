@@ -1,0 +1,120 @@
+// The memory of a module of libcdpatch: a few rooms of its own, what is lent, and after that an arena, which grows and is used again.
+
+import { inMemory } from '../faults.js';
+import { PATCH_SIZE, PATCH_STRUCT, STEP_STRUCT } from './numbers.js';
+
+// No call but a step of a run answers more bytes.
+const ANSWER_SIZE = STEP_STRUCT.BYTES;
+const PAGE_SIZE = 65536;
+
+/** Bytes that are held stay until others are put. So nothing may be awaited while they are used. */
+export class Arena {
+    /** @param {WebAssembly.Module} module of libcdpatch, with 32-bit addresses of memory */
+    constructor(module) {
+        this.exports = /** @type {Record<string, any>} */ (inMemory(() => new WebAssembly.Instance(module)).exports);
+        this.answer = Math.ceil(Number(this.exports.__heap_base.value) / 16) * 16;
+        this.patch = this.answer + ANSWER_SIZE;
+        this.fresh = this.patch + PATCH_STRUCT.BYTES;
+        this.old = this.fresh + PATCH_SIZE;
+        this.arena = this.old + PATCH_SIZE;
+        /** @type {{ at: number, back: boolean }[]} what was lent, and whether it was given back */
+        this.lent = [];
+        this.places = { answer: BigInt(this.answer), patch: BigInt(this.patch), fresh: BigInt(this.fresh), old: BigInt(this.old) };
+        this.memory = new Uint8Array(0);
+        this.view = new DataView(this.memory.buffer);
+        this.heldSize = 0;
+        this.reserve(0);
+    }
+
+    /** @param {number} size how many bytes the arena has to have */
+    reserve(size) {
+        const missing = this.arena + size - this.exports.memory.buffer.byteLength;
+        if (missing > 0) inMemory(() => this.exports.memory.grow(Math.ceil(missing / PAGE_SIZE)));
+        if (this.memory.buffer === this.exports.memory.buffer) return;
+        this.memory = new Uint8Array(this.exports.memory.buffer);
+        this.view = new DataView(this.exports.memory.buffer);
+    }
+
+    /**
+     * Memory that stays as it is, whatever is put or held meanwhile, until it is given back. Returns where it begins.
+     * @param {number} size
+     */
+    lend(size) {
+        const at = this.arena;
+        this.lent.push({ at, back: false });
+        this.moveArena(at + Math.ceil(size / 16) * 16);
+        return at;
+    }
+
+    /** @param {number} at where what was lent begins */
+    giveBack(at) {
+        for (const it of this.lent) it.back = it.back || it.at === at;
+        let end = this.arena;
+        while (this.lent.length > 0 && this.lent[this.lent.length - 1].back) end = this.lent.pop()?.at ?? end;
+        this.moveArena(end);
+    }
+
+    /** @param {number} at where it begins from now on. Nothing is held in it any more. */
+    moveArena(at) {
+        this.arena = at;
+        this.heldSize = 0;
+        this.reserve(0);
+    }
+
+    /**
+     * Copies bytes to the arena, one piece after the other, and returns where each stands. A number is room for as many bytes, whatever
+     * they are. The first piece stands as a record of the module has to.
+     * @param {...(Uint8Array | number)} pieces
+     */
+    put(...pieces) {
+        const sizes = pieces.map(piece => typeof piece === 'number' ? piece : piece.length);
+        this.heldSize = 0;
+        this.reserve(sizes.reduce((sum, size) => sum + size, 0));
+        let end = this.arena;
+        return pieces.map((piece, i) => {
+            const at = end;
+            if (typeof piece !== 'number') this.memory.set(piece, at);
+            end += sizes[i];
+            return BigInt(at);
+        });
+    }
+
+    /**
+     * A copy of bytes of the memory.
+     * @param {number | bigint} at
+     * @param {number | bigint} size
+     */
+    copied(at, size) {
+        return this.memory.slice(Number(at), Number(at) + Number(size));
+    }
+
+    /** @param {...Uint8Array} pieces texts, or sectors, for the calls that take a place in what is held */
+    hold(...pieces) {
+        this.put(...pieces);
+        this.heldSize = pieces.reduce((sum, piece) => sum + piece.length, 0);
+    }
+
+    /**
+     * What is held, not copied.
+     * @param {number} from
+     * @param {number} to
+     */
+    held(from, to) {
+        return this.memory.subarray(this.arena + this.within(from), this.arena + this.within(to));
+    }
+
+    /** @param {number} place in what is held */
+    within(place) {
+        if (place > this.heldSize) throw new RangeError(`place ${place} of ${this.heldSize} bytes`);
+        return place;
+    }
+
+    /**
+     * The text that a call writes.
+     * @param {string} name
+     * @param {...(number | bigint)} given
+     */
+    line(name, ...given) {
+        return this.copied(this.answer, this.exports[name](...given, this.places.answer));
+    }
+}

@@ -1,0 +1,152 @@
+// The calls of the module of libcdpatch: here those on scripts, over bytes and numbers of JavaScript. cdpatch.h says what each does.
+
+import { SECTOR_SIZE } from '../sectors/sector.js';
+import { ADDRESS_SIZE, ENTRY_STRUCT, LINE_STRUCT, PATCH_STRUCT, ROOMS_STRUCT, RUN_STRUCT, STEP_STRUCT } from './numbers.js';
+import { MOST_PATCHES, SECTORS_IN_HAND, STEP, VERB } from './records.js';
+import { SectorCalls } from './sector_calls.js';
+
+/**
+ * A run, and the memory that is lent to it: where that begins, where its hand and its step do, and what the two calls are given.
+ * @typedef {{ at: number, hand: number, step: number, script: bigint[], entries: bigint[], rooms: bigint[] }} Run
+ */
+/**
+ * Where a patch writes: its VERB; the block and the user byte at which it begins; how many user bytes it writes, 0 if none; and how many
+ * old bytes it names, null if none.
+ * @typedef {{ verb: number, block: number, offset: number, size: number, old: number | null }} PatchRange
+ */
+/**
+ * A step of a run: a STEP, and the status of END; the line of a patch, its RESULT, and the block and the user byte there that refuse it;
+ * where in the image the bytes stand, where in the hand, and how many they are.
+ * @typedef {{ kind: number, status: number, number: number, result: number, block: number, offset: number, at: number, place: number,
+ *     size: number }} Step
+ */
+
+/** A method for each call that the core makes. What it is given is copied to the arena, or held there; its answers are copies. */
+export class Calls extends SectorCalls {
+    /**
+     * The bytes of the first line of the held text from a place on, without its end and with it; null if there is none.
+     * @param {number} from
+     */
+    firstLine(from) {
+        const size = BigInt(this.heldSize - this.within(from));
+        if (!this.exports.cdpatch_first_line(BigInt(this.arena + from), size, this.places.answer)) return null;
+        const number = (/** @type {number} */ place) => this.view.getUint32(this.answer + place, true);
+        return { size: number(LINE_STRUCT.SIZE), taken: number(LINE_STRUCT.TAKEN) };
+    }
+
+    /**
+     * Reads a line of the held text, and returns its CONTENT. `patchRead` has the patch of a line that has one.
+     * @param {number} version
+     * @param {number} number
+     * @param {number} earlier
+     * @param {number} from
+     * @param {number} size
+     * @returns {number}
+     */
+    readLine(version, number, earlier, from, size) {
+        const { patch, fresh, old } = this.places;
+        const at = BigInt(this.arena + this.within(from + size) - size);
+        return this.exports.cdpatch_read_line(version, number, BigInt(earlier), at, BigInt(size), patch, fresh, old);
+    }
+
+    /**
+     * Where the patch of the line that was read writes.
+     * @returns {PatchRange}
+     */
+    patchRange() {
+        const { view, memory, patch } = this;
+        const { BLOCK, OFFSET, COUNT, VERB: VERB_AT, HAS_OLD } = PATCH_STRUCT;
+        const size = view.getUint16(patch + COUNT, true);
+        return { verb: memory[patch + VERB_AT], block: view.getUint32(patch + BLOCK, true), offset: view.getUint16(patch + OFFSET, true),
+            size, old: memory[patch + HAS_OLD] ? size : null };
+    }
+
+    /** What that patch says. It has new bytes if it sets some; `old` is null if it names no old ones. */
+    patchRead() {
+        const { memory, patch } = this;
+        const range = this.patchRange();
+        const count = range.verb === VERB.SET ? range.size : 0;
+        return { ...range, value: memory[patch + PATCH_STRUCT.VALUE], address: this.copied(patch + PATCH_STRUCT.ADDRESS, ADDRESS_SIZE),
+            fresh: this.copied(this.fresh, count), old: range.old === null ? null : this.copied(this.old, count) };
+    }
+
+    /**
+     * @param {number} number
+     * @param {number} result
+     * @param {number} block
+     * @param {number} offset
+     */
+    outcomeLine(number, result, block, offset) {
+        return this.line('cdpatch_outcome_line', number, result, block, offset);
+    }
+
+    /**
+     * @param {number} applied
+     * @param {number} refused
+     */
+    lastLine(applied, refused) {
+        return this.line('cdpatch_last_line', applied, refused);
+    }
+
+    /**
+     * @param {number} number
+     * @param {number} fault
+     */
+    faultLine(number, fault) {
+        return this.line('cdpatch_fault_line', number, fault);
+    }
+
+    /**
+     * Begins a run of a script, to which memory is lent until `runEnd`.
+     * @param {Uint8Array} script
+     * @param {number} base
+     * @param {number | null} imageSize null if it is not known
+     * @param {number} flags
+     * @returns {Run}
+     */
+    runBegin(script, base, imageSize, flags) {
+        const room = Math.min(script.length, MOST_PATCHES);
+        const [RUN, STEP_SIZE, ROOMS, ENTRY] = [RUN_STRUCT, STEP_STRUCT, ROOMS_STRUCT, ENTRY_STRUCT].map(struct => struct.BYTES);
+        const sizes = [RUN, STEP_SIZE, ROOMS, SECTORS_IN_HAND * SECTOR_SIZE, room * ENTRY, script.length];
+        const at = this.lend(sizes.reduce((sum, size) => sum + size, 0));
+        let end = at;
+        const [run, step, rooms, hand, entries, text] = sizes.map(size => (end += size) - size);
+        this.memory.set(script, text);
+        const made = { at, hand, step, script: [text, script.length].map(BigInt), entries: [entries, room].map(BigInt),
+            rooms: [hand, SECTORS_IN_HAND, rooms, step].map(BigInt) };
+        const given = [base, BigInt(imageSize === null ? -1 : imageSize), flags];
+        const begun = base === base >>> 0 && this.exports.cdpatch_run_begin(BigInt(run), ...made.script, ...given, ...made.entries) >= 0;
+        if (begun) return made;
+        this.runEnd(made);
+        throw new RangeError(`no run from block ${base} on`);
+    }
+
+    /**
+     * The next step of a run.
+     * @param {Run} run
+     * @param {number} done how many bytes of the last step were moved, at first 0
+     * @returns {Step}
+     */
+    runNext({ at, step, script, entries, rooms }, done) {
+        this.exports.cdpatch_run_next(BigInt(at), BigInt(done), ...script, ...entries, ...rooms);
+        const number = (/** @type {number} */ place) => this.view.getUint32(step + place, true);
+        const { KIND, STATUS, NUMBER, RESULT, BLOCK, OFFSET, AT, PLACE, SIZE } = STEP_STRUCT;
+        return { kind: number(KIND), status: number(STATUS), number: number(NUMBER), result: number(RESULT), block: number(BLOCK),
+            offset: number(OFFSET), at: number(AT), place: number(PLACE), size: number(SIZE) };
+    }
+
+    /**
+     * The bytes of a step in the hand of its run, or the line that it logs; not copied.
+     * @param {Run} run
+     * @param {Step} step
+     */
+    runBytes({ hand, step }, { kind, place, size }) {
+        const at = kind === STEP.LOG ? step + STEP_STRUCT.TEXT : hand + place;
+        return this.memory.subarray(at, at + size);
+    }
+
+    /** @param {Run} run */
+    runEnd({ at }) {
+        this.giveBack(at);
+    }
+}

@@ -1,0 +1,29 @@
+// The numbers and records of cdpatch.h by the names that the core has for them. `make` makes numbers.js of the header.
+
+import { CONTENT, RECORD_STRUCT, SECTOR_KIND, STEP_KIND } from './numbers.js';
+
+export { CONTENT, RESULT, RUN_FLAG, SECTOR_KIND, STATUS, VERB } from './numbers.js';
+export { MOST_PATCHES, MOST_SCRIPT_BYTES, PATCH_SIZE, SECTORS_IN_HAND } from './numbers.js';
+
+/** What a step of a run is. */
+export const STEP = STEP_KIND;
+
+/** Where the members of a sector's record stand, and how many bytes it has. */
+export const RECORD = RECORD_STRUCT;
+export const RECORD_SIZE = RECORD_STRUCT.BYTES;
+
+/**
+ * Whether what a line of a script has is an error.
+ * @param {number} content
+ */
+export function isFault(content) {
+    return content >= CONTENT.NO_HEAD && content <= CONTENT.NO_VERSION;
+}
+
+/**
+ * The name of a kind of sectors.
+ * @param {number} kind
+ */
+export function kindName(kind) {
+    return Object.keys(SECTOR_KIND)[kind].toLowerCase();
+}

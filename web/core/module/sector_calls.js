@@ -1,0 +1,195 @@
+// The calls of the module of libcdpatch on sectors and images, over bytes and numbers of JavaScript. cdpatch.h says what each does.
+
+import { newBytes } from '../faults.js';
+import { SECTOR_SIZE, USER_SIZE, sectorCount } from '../sectors/sector.js';
+import { Arena } from './arena.js';
+import { ADDRESS_SIZE, COLUMNS, DIAGONALS, DIGEST_SIZE, SHA1_STRUCT } from './numbers.js';
+import { RECORD, RECORD_SIZE } from './records.js';
+
+/**
+ * The bytes, if they have the size that a call takes for granted.
+ * @param {Uint8Array} bytes
+ * @param {number} size
+ */
+export function sized(bytes, size) {
+    if (bytes.length !== size) throw new RangeError(`${bytes.length} bytes instead of ${size}`);
+    return bytes;
+}
+
+/** A method for each of these calls. What it is given is copied to the arena, or held there; its answers are copies. */
+export class SectorCalls extends Arena {
+    version() {
+        return this.exports.cdpatch_version() >>> 0;
+    }
+
+    /** @param {Uint8Array} sector */
+    kind(sector) {
+        return Number(this.exports.cdpatch_kind(this.put(sized(sector, SECTOR_SIZE))[0]));
+    }
+
+    /**
+     * The address of a block, or null if it has none.
+     * @param {number} block
+     */
+    address(block) {
+        const made = block === block >>> 0 && this.exports.cdpatch_address(block, this.places.answer);
+        return made ? this.copied(this.answer, ADDRESS_SIZE) : null;
+    }
+
+    /**
+     * @param {Uint8Array} address
+     * @param {Uint8Array} user
+     */
+    encode(address, user) {
+        const [sector, data, from] = this.put(SECTOR_SIZE, sized(user, USER_SIZE), sized(address, ADDRESS_SIZE));
+        this.exports.cdpatch_encode(from, data, sector);
+        return this.copied(sector, SECTOR_SIZE);
+    }
+
+    /**
+     * The consistent sectors of neighbouring blocks.
+     * @param {number} block the first one
+     * @param {Uint8Array} user 2048 bytes for each
+     */
+    encodeBlocks(block, user) {
+        const count = Math.floor(user.length / USER_SIZE);
+        const [from, sectors] = this.put(sized(user, count * USER_SIZE), count * SECTOR_SIZE);
+        for (let i = 0; i < count; i++) {
+            if (!this.exports.cdpatch_address(block + i, this.places.answer)) throw new RangeError(`block ${block + i} has no address`);
+            this.exports.cdpatch_encode(this.places.answer, from + BigInt(i * USER_SIZE), sectors + BigInt(i * SECTOR_SIZE));
+        }
+        return this.copied(sectors, count * SECTOR_SIZE);
+    }
+
+    /**
+     * The records of whole sectors, RECORD_SIZE bytes each.
+     * @param {Uint8Array} sectors
+     * @param {number} block that of the first
+     */
+    survey(sectors, block) {
+        const count = sectorCount(sectors.length);
+        const [from, records] = this.put(sized(sectors, count * SECTOR_SIZE), RECORD_SIZE * count);
+        const known = block === block >>> 0 && this.exports.cdpatch_survey(from, BigInt(count), block, records, BigInt(count));
+        if (!known) throw new RangeError(`${count} sectors from block ${block} on`);
+        return this.copied(records, RECORD_SIZE * count);
+    }
+
+    /**
+     * Records of whole sectors with nothing but their kinds.
+     * @param {Uint8Array} sectors
+     */
+    kinds(sectors) {
+        const records = newBytes(RECORD_SIZE * sectorCount(sectors.length));
+        const [from] = this.put(sectors);
+        for (let i = 0; i < records.length / RECORD_SIZE; i++) {
+            records[RECORD_SIZE * i + RECORD.KIND] = Number(this.exports.cdpatch_kind(from + BigInt(SECTOR_SIZE * i)));
+        }
+        return records;
+    }
+
+    /**
+     * What a command prints of an image, and its status.
+     * @param {'cdpatch_list' | 'cdpatch_audit'} name
+     * @param {Uint8Array} image
+     * @param {number} base
+     */
+    report(name, image, base) {
+        const room = 100 + 40 * sectorCount(image.length);
+        const [at, text] = this.put(image, room);
+        const status = Number(this.exports[name](at, BigInt(image.length), base, text, BigInt(room), this.places.answer));
+        return { status, text: this.copied(text, this.view.getUint32(this.answer, true)) };
+    }
+
+    /**
+     * @param {Uint8Array} image
+     * @param {number} base
+     */
+    list(image, base) {
+        return this.report('cdpatch_list', image, base);
+    }
+
+    /**
+     * @param {Uint8Array} image
+     * @param {number} base
+     */
+    audit(image, base) {
+        return this.report('cdpatch_audit', image, base);
+    }
+
+    /**
+     * The line of `list` for the blocks of a run of one kind; empty if the run has no block, or there is no such kind.
+     * @param {number} first
+     * @param {number} last
+     * @param {number} kind
+     */
+    listLine(first, last, kind) {
+        return this.line('cdpatch_list_line', first, last, kind);
+    }
+
+    /**
+     * The last line of `list`.
+     * @param {number} sectors
+     * @param {number} tail how many bytes follow them
+     */
+    listEnd(sectors, tail) {
+        return this.line('cdpatch_list_end', sectors, tail);
+    }
+
+    /**
+     * The line of `audit` for a block, by its record; empty if it has none.
+     * @param {number} block
+     * @param {Uint8Array} record RECORD_SIZE bytes
+     */
+    auditLine(block, record) {
+        return this.line('cdpatch_audit_line', block, this.put(sized(record, RECORD_SIZE))[0]);
+    }
+
+    /**
+     * The last line of `audit`.
+     * @param {number} sectors
+     * @param {number} mode1
+     * @param {number} damaged
+     * @param {number} tail how many bytes follow them
+     */
+    auditEnd(sectors, mode1, damaged, tail) {
+        return this.line('cdpatch_audit_end', sectors, mode1, damaged, tail);
+    }
+
+    /**
+     * Which P columns and Q diagonals of a Mode 1 sector are broken, a byte each.
+     * @param {Uint8Array} sector
+     */
+    findBroken(sector) {
+        const [at, columns, diagonals] = this.put(sized(sector, SECTOR_SIZE), COLUMNS, DIAGONALS);
+        this.exports.cdpatch_find_broken(at, columns, diagonals);
+        return { columns: this.copied(columns, COLUMNS), diagonals: this.copied(diagonals, DIAGONALS) };
+    }
+
+    /** The state of a SHA-1 of no bytes. */
+    sha1Begin() {
+        const [state] = this.put(SHA1_STRUCT.BYTES);
+        this.exports.cdpatch_sha1_begin(state);
+        return this.copied(state, SHA1_STRUCT.BYTES);
+    }
+
+    /**
+     * The state of a SHA-1 after more bytes.
+     * @param {Uint8Array} state
+     * @param {Uint8Array} bytes
+     */
+    sha1Add(state, bytes) {
+        const [at, from] = this.put(sized(state, SHA1_STRUCT.BYTES), bytes);
+        this.exports.cdpatch_sha1_add(at, from, BigInt(bytes.length));
+        return this.copied(at, SHA1_STRUCT.BYTES);
+    }
+
+    /**
+     * The digest of a SHA-1.
+     * @param {Uint8Array} state
+     */
+    sha1End(state) {
+        const [at, digest] = this.put(sized(state, SHA1_STRUCT.BYTES), DIGEST_SIZE);
+        this.exports.cdpatch_sha1_end(at, digest);
+        return this.copied(digest, DIGEST_SIZE);
+    }
+}

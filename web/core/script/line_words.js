@@ -1,0 +1,88 @@
+// The lines of a script, the words of a line, and by the calls which of these is wrong.
+
+import { CONTENT } from '../module/records.js';
+
+/** @typedef {import('../module/calls.js').Calls} Calls */
+
+/** What ends a line, and what separates words. */
+const ENDS = /\r?\n/;
+const GAPS = /([ \t]+)/;
+
+/** A line of each verb that has no fault. @type {Record<string, string[]>} */
+const SOUND = Object.fromEntries(['set 0 0 00 was 00', 'fill 0 0 1 00', 'rebuild 0', 'address 0 00:02:00'].map(line => line.split(' '))
+    .map(words => [words[0], words]));
+
+/** The faults of one word, which is as wrong in any other line of its verb. */
+const FAULTS_OF_A_WORD = [CONTENT.BAD_NUMBER, CONTENT.BAD_HEX, CONTENT.BAD_OFFSET, CONTENT.BAD_ADDRESS];
+
+/** @param {string} text */
+export function linesOfText(text) {
+    return text.split(ENDS);
+}
+
+/**
+ * A line in parts: at even places its words, of which the first and the last may be empty, and between them what separates these.
+ * @param {string} line
+ */
+export function lineParts(line) {
+    return line.split(GAPS);
+}
+
+/** @param {string} line */
+export function wordsOf(line) {
+    return lineParts(line).filter((part, i) => i % 2 === 0 && part !== '');
+}
+
+/**
+ * Which part of a line a word is.
+ * @param {string[]} parts
+ * @param {number} word its place among the words
+ */
+export function partOfWord(parts, word) {
+    return 2 * word + (parts[0] === '' ? 2 : 0);
+}
+
+/**
+ * What a line has if no patch is before it, a CONTENT.
+ * @param {Calls} calls
+ * @param {number} version
+ * @param {string} line
+ */
+export function contentOf(calls, version, line) {
+    const bytes = new TextEncoder().encode(line);
+    calls.hold(bytes);
+    return calls.readLine(version, 1, 0, 0, bytes.length);
+}
+
+/**
+ * The place of the word that makes a line faulty, -1 if that is no single one.
+ * @param {Calls} calls
+ * @param {string} line
+ * @param {number} fault a CONTENT
+ */
+export function faultyWord(calls, line, fault) {
+    const words = wordsOf(line);
+    if (fault === CONTENT.UNKNOWN_VERB) return 0;
+    if (!FAULTS_OF_A_WORD.includes(fault)) return -1;
+    const sound = SOUND[words[0]].slice(0, words.length);
+    return words.findIndex((word, k) => contentOf(calls, CONTENT.VERSION_2, sound.map((it, i) => i === k ? word : it).join(' ')) === fault);
+}
+
+/**
+ * The program's words on a line of a script, without what names that line.
+ * @param {Uint8Array} text the line that it prints
+ * @param {number} number
+ */
+export function wordsOn(text, number) {
+    const [said, named] = [new TextDecoder().decode(text).trimEnd(), `line ${number}: `];
+    return said.slice(said.indexOf(named) + named.length);
+}
+
+/**
+ * Whether a word that is no bytes would be some with one digit more.
+ * @param {Calls} calls
+ * @param {string} word
+ */
+export function lacksDigit(calls, word) {
+    return contentOf(calls, CONTENT.VERSION_1, `set 0 0 ${word}0`) === CONTENT.PATCH;
+}

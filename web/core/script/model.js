@@ -1,0 +1,247 @@
+// A script by its lines: what each of them has, as the calls read it, kept up as lines come and go; and where they write.
+
+import { CONTENT, PATCH_SIZE, VERB, isFault } from '../module/records.js';
+import { USER_SIZE } from '../sectors/sector.js';
+import { hexText } from '../texts/hex.js';
+import { contentOf, linesOfText, partOfWord, lineParts } from './line_words.js';
+
+/** @typedef {import('../module/calls.js').Calls} Calls */
+/** @typedef {import('../module/calls.js').PatchRange} PatchRange */
+/** A line: its number, from 1, its text, what it has, a CONTENT, and its patch, null if it has none. */
+/** @typedef {{ number: number, text: string, content: number, patch: PatchRange | null }} ScriptLine */
+/** @typedef {{ block: number, offset: number, size: number }} UserRange user bytes, from one of a block on */
+/** @typedef {{ number: number, block: number, offset: number }} Asked a line that asks for a user byte */
+
+/** If more lines go, all that stay are read: each that goes may be looked for among all of its block. */
+const MANY = 256;
+
+/**
+ * The last block that a patch meets.
+ * @param {UserRange} patch
+ */
+export function lastBlockOf({ block, offset, size }) {
+    return block + Math.floor(Math.max(offset + size - 1, 0) / USER_SIZE);
+}
+
+/** A patch meets no block further from its first one: the longest, from the last byte of that on. */
+const BLOCKS_AFTER = lastBlockOf({ block: 0, offset: USER_SIZE - 1, size: PATCH_SIZE });
+
+/** @param {{ block: number, offset: number }} place */
+function userPlace({ block, offset }) {
+    return block * USER_SIZE + offset;
+}
+
+/**
+ * @param {ScriptLine} a
+ * @param {ScriptLine} b
+ */
+function byNumber(a, b) {
+    return a.number - b.number;
+}
+
+/**
+ * For each of several lines, in their order, that ask for a byte of one block: the last line before it that writes the byte, or 0.
+ * @param {number} block
+ * @param {ScriptLine[]} lines that write in it, in their order
+ * @param {Asked[]} asked
+ */
+export function writersIn(block, lines, asked) {
+    const [writers, start] = [new Uint32Array(USER_SIZE), block * USER_SIZE];
+    let next = 0;
+    return asked.map(({ number, offset }) => {
+        for (; next < lines.length && lines[next].number < number; next++) {
+            const patch = /** @type {PatchRange} */ (lines[next].patch);
+            const from = userPlace(patch) - start;
+            writers.fill(lines[next].number, Math.max(from, 0), Math.max(from + patch.size, 0));
+        }
+        return writers[offset];
+    });
+}
+
+/** The lines of a script. There is always one. */
+export class ScriptModel {
+    /**
+     * @param {Calls} calls
+     * @param {string} text
+     */
+    constructor(calls, text) {
+        this.calls = calls;
+        /** The whole text, null if it is to be made again. */
+        this.joined = /** @type {string | null} */ (null);
+        /** @type {ScriptLine[]} */
+        this.lines = [];
+        /** The place of the head line, or of the line that stands where it should; -1 if no line says anything. */
+        this.head = -1;
+        this.version = 0;
+        this.patches = 0;
+        this.faults = 0;
+        /** How many characters the text has, or one more. */
+        this.size = 0;
+        /** @type {Map<number, ScriptLine[]>} the lines with a patch, by its first block, in any order */
+        this.blocks = new Map();
+        /** Whether there are too many patches: then what a line has depends on those before it. */
+        this.tooMany = false;
+        this.readText(text);
+    }
+
+    /** The whole text. It is made again only after a change. */
+    text() {
+        if (this.joined === null) this.joined = this.lines.map(({ text }) => text).join('\n');
+        return this.joined;
+    }
+
+    /**
+     * Reads a whole text. If no head line is first, the lines after that are read as those of version 1.
+     * @param {string} text
+     */
+    readText(text) {
+        Object.assign(this, { joined: text, head: -1, version: 0, patches: 0, faults: 0, size: 0, blocks: new Map(), tooMany: false });
+        this.lines = this.entered(text, linesOfText(text), 1);
+    }
+
+    /**
+     * Reads lines, which are counted from now on.
+     * @param {string} text
+     * @param {string[]} texts its lines
+     * @param {number} first the number of the first one
+     */
+    entered(text, texts, first) {
+        const { calls } = this;
+        let at = 0;
+        calls.hold(new TextEncoder().encode(text));
+        return texts.map((own, i) => {
+            const { size, taken } = calls.firstLine(at) || { size: 0, taken: 0 };
+            const content = calls.readLine(this.version, first + i, this.patches, at, size);
+            at += taken;
+            if (this.head < 0 && content !== CONTENT.NOTHING) {
+                this.head = first + i - 1;
+                this.version = content === CONTENT.NO_HEAD ? CONTENT.VERSION_1 : content;
+            }
+            const patch = content === CONTENT.PATCH ? calls.patchRange() : null;
+            const line = { number: first + i, text: own, content, patch };
+            this.count(line, 1);
+            this.tooMany = this.tooMany || content === CONTENT.TOO_MANY;
+            return line;
+        });
+    }
+
+    /**
+     * @param {ScriptLine} line that comes or goes
+     * @param {1 | -1} step
+     */
+    count(line, step) {
+        this.size += step * (line.text.length + 1);
+        this.faults += step * Number(isFault(line.content));
+        if (line.patch === null) return;
+        this.patches += step;
+        const there = this.blocks.get(line.patch.block) || [];
+        if (step < 0) there.splice(there.indexOf(line), 1);
+        else if (there.push(line) === 1) this.blocks.set(line.patch.block, there);
+    }
+
+    /**
+     * Puts lines in place of others. Only these are read, but if the version becomes another, or if there are too many patches.
+     * @param {number} at
+     * @param {number} count
+     * @param {string[]} texts
+     */
+    put(at, count, texts) {
+        const { head, version } = this;
+        const isMany = count > MANY;
+        if (!isMany) for (const line of this.lines.slice(at, at + count)) this.count(line, -1);
+        if (at <= head) Object.assign(this, { head: -1, version: 0 });
+        const come = this.entered(texts.join('\n'), texts, at + 1);
+        this.lines = this.lines.slice(0, at).concat(come, this.lines.slice(at + count));
+        this.joined = null;
+        const [stays, found] = [at + count <= head, this.head >= 0];
+        if (stays && !found) Object.assign(this, { head: head + come.length - count, version });
+        const isOther = at <= head && (stays === found || this.version !== version);
+        if (isOther || this.tooMany || isMany || this.lines.length === 0) this.readText(this.text());
+        else if (come.length !== count) this.lines.forEach((line, i) => { line.number = i + 1; });
+    }
+
+    /**
+     * What the patch of a line says, with its bytes, or null.
+     * @param {number} i
+     */
+    patchAt(i) {
+        const { patch, text } = this.lines[i];
+        if (patch === null) return null;
+        contentOf(this.calls, this.version, text);
+        return this.calls.patchRead();
+    }
+
+    /**
+     * The lines whose patch may meet one of some blocks.
+     * @param {number} first
+     * @param {number} last
+     */
+    linesNear(first, last) {
+        /** @type {ScriptLine[]} */
+        let lines = [];
+        for (let block = first - BLOCKS_AFTER; block <= last; block++) lines = lines.concat(this.blocks.get(block) || []);
+        return lines;
+    }
+
+    /**
+     * The number of the last line that writes a byte of a range, or 0.
+     * @param {UserRange} range
+     */
+    lineAt(range) {
+        const [from, to] = [userPlace(range), userPlace(range) + range.size];
+        let last = 0;
+        for (const { number, patch } of this.linesNear(range.block, lastBlockOf(range))) {
+            if (patch === null || patch.size === 0) continue;
+            const start = userPlace(patch);
+            if (start < to && start + patch.size > from) last = Math.max(last, number);
+        }
+        return last;
+    }
+
+    /**
+     * The last lines before others that have written the bytes which these ask for, or 0, by the numbers of the lines that ask.
+     * @param {Asked[]} asking
+     * @param {(number: number) => boolean} isApplied
+     */
+    writersBefore(asking, isApplied) {
+        /** @type {Map<number, Asked[]>} */
+        const blocks = new Map();
+        for (const it of asking) {
+            const asked = blocks.get(it.block) || [];
+            if (asked.push(it) === 1) blocks.set(it.block, asked);
+        }
+        /** @type {Map<number, number>} */
+        const writers = new Map();
+        for (const [block, asked] of blocks) {
+            const lines = this.linesNear(block, block).filter(({ number, patch }) => patch && patch.size > 0 && isApplied(number));
+            asked.sort((a, b) => a.number - b.number);
+            writersIn(block, lines.sort(byNumber), asked).forEach((writer, i) => writers.set(asked[i].number, writer));
+        }
+        return writers;
+    }
+
+    /**
+     * The script that has only the patches which may change a block; '' if there are none. Lines with a fault are left out.
+     * @param {number} block
+     */
+    scriptNear(block) {
+        const lines = this.linesNear(block, block).sort(byNumber);
+        if (lines.length === 0 || isFault(this.lines[this.head].content)) return '';
+        return [this.lines[this.head], ...lines].map(({ text }) => `${text}\n`).join('');
+    }
+
+    /**
+     * A line that writes just a range, with other new bytes; '' if it writes something else.
+     * @param {number} number of the line, or 0
+     * @param {UserRange} range
+     * @param {Uint8Array} fresh
+     */
+    rewritten(number, { block, offset, size }, fresh) {
+        const { text, patch } = this.lines[number - 1] || { text: '', patch: null };
+        if (patch === null || patch.verb !== VERB.SET || patch.size !== size) return '';
+        if (patch.block !== block || patch.offset !== offset) return '';
+        const parts = lineParts(text);
+        parts[partOfWord(parts, 3)] = hexText(fresh);
+        return parts.join('');
+    }
+}

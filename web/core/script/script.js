@@ -1,0 +1,54 @@
+// A script, whose bytes come in pieces.
+
+import { joinedBytes } from '../bytes.js';
+import { MOST_SCRIPT_BYTES } from '../module/records.js';
+import { basesSaid } from './base_said.js';
+import { scriptParts, readLines } from './long_script.js';
+import { scriptFault } from './patch_run.js';
+
+/** @typedef {import('../module/calls.js').Calls} Calls */
+/** @typedef {import('./base_said.js').BaseSaid} BaseSaid */
+/** @typedef {import('./long_script.js').Part} Part */
+/** @typedef {Iterable<Uint8Array> | AsyncIterable<Uint8Array>} Pieces */
+/** @typedef {{ bases: BaseSaid[] } & ({ text: Uint8Array } | { parts: Part[] })} ReadScript a script without faults; a long one in parts */
+
+/** Why a script is not read: the program's line for it. */
+export class Refusal {
+    /**
+     * @param {Uint8Array} text
+     * @param {boolean} tooLong
+     */
+    constructor(text, tooLong) {
+        this.text = text;
+        this.tooLong = tooLong;
+    }
+}
+
+/**
+ * The bytes of a script; of one that has more than `most`, no more than show it.
+ * @param {Pieces} pieces
+ * @param {number} most
+ */
+async function wholeText(pieces, most) {
+    const parts = [];
+    let size = 0;
+    for await (const piece of pieces) {
+        parts.push(piece);
+        size += piece.length;
+        if (size > most) break;
+    }
+    return joinedBytes(parts);
+}
+
+/**
+ * @param {Calls} calls
+ * @param {Pieces} pieces
+ * @param {boolean} long whether the script may have more bytes and patches than the program takes
+ * @returns {Promise<ReadScript | Refusal>}
+ */
+export async function readScript(calls, pieces, long = false) {
+    const text = await wholeText(pieces, long ? Infinity : MOST_SCRIPT_BYTES);
+    const lines = long ? readLines(calls, text) : scriptFault(calls, text);
+    if (lines instanceof Uint8Array) return new Refusal(lines, !long && text.length > MOST_SCRIPT_BYTES);
+    return { bases: basesSaid(text), ...lines ? { parts: scriptParts(lines) } : { text } };
+}

@@ -1,0 +1,45 @@
+// Whether a text is a script, or meant as one, by the first of its lines that says something.
+
+import { CONTENT } from '../module/records.js';
+import { wordsOf } from './line_words.js';
+
+/** @typedef {import('../module/calls.js').Calls} Calls */
+
+/**
+ * The first line of a text that is neither blank nor a comment, and what it has for a script of a version; null if there is none.
+ * @param {Calls} calls
+ * @param {Uint8Array} text
+ * @param {number} version
+ */
+function firstLineSaying(calls, text, version) {
+    calls.hold(text);
+    for (let from = 0; ;) {
+        const line = calls.firstLine(from);
+        if (line === null) return null;
+        const content = calls.readLine(version, 1, 0, from, line.size);
+        if (content !== CONTENT.NOTHING) return { content, line: text.subarray(from, from + line.size) };
+        from += line.taken;
+    }
+}
+
+/**
+ * Whether a text is a script: that line is a head line.
+ * @param {Calls} calls
+ * @param {Uint8Array} text
+ */
+export function isScript(calls, text) {
+    const first = firstLineSaying(calls, text, 0);
+    return first !== null && (first.content === CONTENT.VERSION_1 || first.content === CONTENT.VERSION_2);
+}
+
+/**
+ * Whether a text is meant as a script: that line has a word of scripts and another one.
+ * @param {Calls} calls
+ * @param {Uint8Array} text
+ */
+export function isMeantAsScript(calls, text) {
+    const first = firstLineSaying(calls, text, CONTENT.VERSION_2);
+    if (first === null) return false;
+    const words = wordsOf(new TextDecoder().decode(first.line));
+    return words.length > 1 && (words[0] === 'cdpatch' || first.content !== CONTENT.UNKNOWN_VERB);
+}

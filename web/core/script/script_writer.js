@@ -1,0 +1,78 @@
+// A script that this core has written, in pieces, and what it asks of who reads it.
+
+import { Fault } from '../faults.js';
+import { CONTENT, MOST_SCRIPT_BYTES } from '../module/records.js';
+import { addToRuns } from '../sectors/runs.js';
+
+/** @typedef {import('../module/calls.js').Calls} Calls */
+/** @typedef {import('./sector_lines.js').Left} Left */
+/** @typedef {import('./sector_lines.js').Lines} Lines */
+/**
+ * A script: its bytes in pieces, how many they are, how many patches it has, whether it has more of either than cdpatch takes, and
+ * whether it needs `--carry`.
+ * @typedef {{ pieces: Uint8Array[], size: number, patches: number, long: boolean, carry: boolean }} Script
+ */
+
+/** Largest script that is held in memory, in bytes. */
+const MOST_WRITTEN = 1 << 30;
+
+/**
+ * Whether a script may have a number of patches, by the module.
+ * @param {Calls} calls
+ * @param {number} patches
+ */
+function tooManyPatches(calls, patches) {
+    if (patches === 0) return false;
+    const line = new TextEncoder().encode('rebuild 0');
+    calls.hold(line);
+    return calls.readLine(1, 2, patches - 1, 0, line.length) !== CONTENT.PATCH;
+}
+
+/** The parts of a script, in order, and what they leave. */
+export class ScriptParts {
+    constructor() {
+        /** @type {Uint8Array[]} */
+        this.pieces = [];
+        this.size = 0;
+        /** How many of these bytes are held. */
+        this.held = 0;
+        this.patches = 0;
+        this.version = 1;
+        this.carry = false;
+        /** @type {Left[]} */
+        this.left = [];
+    }
+
+    /** @param {Lines} lines */
+    push({ text, patches, version, carry, left }) {
+        if (text.length > 0) this.pieces.push(text);
+        this.size += text.length;
+        this.held += text.length;
+        this.patches += patches;
+        this.version = Math.max(this.version, version);
+        this.carry = this.carry || carry;
+        for (const run of left) addToRuns(this.left, run);
+        if (this.held > MOST_WRITTEN) throw new Fault(`the script would have more than ${MOST_WRITTEN} bytes: too much differs`);
+    }
+
+    /**
+     * Lines whose text goes elsewhere at once, and is not held.
+     * @param {Lines} lines
+     */
+    count(lines) {
+        this.push({ ...lines, text: new Uint8Array(0) });
+        this.size += lines.text.length;
+    }
+
+    /**
+     * The whole script, with its head line.
+     * @param {Calls} calls
+     * @returns {Script}
+     */
+    script(calls) {
+        const head = new TextEncoder().encode(`cdpatch ${this.version}\n`);
+        const size = head.length + this.size;
+        const long = size > MOST_SCRIPT_BYTES || tooManyPatches(calls, this.patches);
+        return { pieces: [head, ...this.pieces], size, patches: this.patches, long, carry: this.carry };
+    }
+}

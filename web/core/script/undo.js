@@ -1,0 +1,134 @@
+// Builds the script that reverts another one.
+
+import { Fault } from '../faults.js';
+import { Crew, localHand } from '../jobs.js';
+import { STATUS } from '../module/records.js';
+import { ReadAhead } from '../read_ahead.js';
+import { SECTOR_SIZE, differingSectors, sectorOf } from '../sectors/sector.js';
+import { baseFault } from './base_said.js';
+import { passPatched } from './patches.js';
+import { Refusal, readScript } from './script.js';
+import { ScriptParts } from './script_writer.js';
+
+/** @typedef {import('../module/calls.js').Calls} Calls */
+/** @typedef {import('../bytes.js').Piece} Piece */
+/** @typedef {import('../bytes.js').Reader} Reader */
+/** @typedef {(job: string, pieces: Uint8Array[], blocks: number[]) => Promise<import('./sector_lines.js').Lines>} Given */
+/** @typedef {import('./sector_lines.js').Left} Left */
+/** @typedef {import('./script_writer.js').Script} Script */
+/** @typedef {import('./patches.js').Patched} Patched */
+/** @typedef {import('./script.js').Pieces} Pieces */
+/**
+ * The script that takes another one back, what becomes of that one's patches, and the blocks whose damage can't come back: they get
+ * their address and user data again.
+ * @typedef {{ script: Script, patched: Patched, left: Left[] }} Undo
+ */
+
+const NOTHING_TO_TAKE_BACK = 'the image already has what the script writes, so nothing can be taken back: ' +
+    'it must be the image before the script';
+
+/** Sectors that are compared at a time, and how many times at once. */
+const COMPARE_SIZE = 256;
+const AT_ONCE = 16;
+
+/** Sectors that are compared together: their blocks, and what they are patched and before. */
+class Together {
+    constructor() {
+        /** @type {number[]} */
+        this.blocks = [];
+        this.patched = new Uint8Array(COMPARE_SIZE * SECTOR_SIZE);
+        this.before = new Uint8Array(COMPARE_SIZE * SECTOR_SIZE);
+    }
+
+    isFull() {
+        return this.blocks.length === COMPARE_SIZE;
+    }
+
+    /**
+     * @param {number} block
+     * @param {Uint8Array} patched
+     * @param {Uint8Array} before
+     */
+    add(block, patched, before) {
+        const at = this.blocks.push(block) * SECTOR_SIZE - SECTOR_SIZE;
+        this.patched.set(patched, at);
+        this.before.set(before, at);
+    }
+
+    /** The sectors, patched and before. */
+    pieces() {
+        const size = this.blocks.length * SECTOR_SIZE;
+        return [this.patched.subarray(0, size), this.before.subarray(0, size)];
+    }
+}
+
+/** The lines that take patched sectors back, of which many are compared at a time. */
+class TakenBack {
+    /**
+     * @param {Reader} reader of the image before
+     * @param {number} base
+     * @param {Given} given who compares
+     */
+    constructor(reader, base, given) {
+        this.ahead = new ReadAhead(reader);
+        this.base = base;
+        this.given = given;
+        this.parts = new ScriptParts();
+        this.next = new Together();
+        /** @type {Promise<import('./sector_lines.js').Lines>[]} */
+        this.coming = [];
+    }
+
+    /** @param {Piece} piece of the patched image */
+    async take(piece) {
+        if (!('bytes' in piece)) return;
+        const before = await this.ahead.bytesAt(piece.at, piece.bytes.length);
+        for (const i of differingSectors(piece.bytes, before)) {
+            this.next.add(this.base + piece.at / SECTOR_SIZE + i, sectorOf(piece.bytes, i), sectorOf(before, i));
+            if (this.next.isFull()) await this.compare();
+        }
+    }
+
+    async compare() {
+        const lines = this.given('lines', this.next.pieces(), this.next.blocks);
+        this.next = new Together();
+        lines.catch(() => {}); // it is thrown when its turn comes
+        this.coming.push(lines);
+        if (this.coming.length >= AT_ONCE) this.parts.push(await /** @type {typeof lines} */ (this.coming.shift()));
+    }
+
+    /** All of them. */
+    async end() {
+        await this.compare();
+        for (const lines of this.coming) this.parts.push(await lines);
+        return this.parts;
+    }
+}
+
+/**
+ * The script that takes back what a script does to an image. Throws a Fault if all patches of the script are accepted and none changes
+ * anything: then the image has what the script writes already, as a patched one does.
+ * @param {Calls} calls
+ * @param {Reader} reader of the image before it
+ * @param {Pieces} script
+ * @param {{ base: number, carry?: boolean, long?: boolean, crew?: Pick<Crew, 'given'> }} how
+ * @returns {Promise<Undo | Refusal>}
+ */
+export async function undoScript(calls, reader, script, { base, carry = false, long = false, ...how }) {
+    const { crew = new Crew([localHand(calls)]) } = how;
+    const read = await readScript(calls, script, long);
+    if (read instanceof Refusal) return read;
+    const fault = baseFault(read.bases, base);
+    if (fault !== '') throw new Fault(fault);
+    const back = new TakenBack(reader, base, (job, pieces, blocks) => crew.given(job, pieces, { blocks, how: { carry, heal: true } }));
+    const patched = await passPatched(calls, reader, read, { base, carry }, piece => back.take(piece));
+    const parts = await back.end();
+    const undo = { script: parts.script(calls), patched, left: parts.left };
+    if (changesNothing(undo)) throw new Fault(NOTHING_TO_TAKE_BACK);
+    return undo;
+}
+
+/** @param {Undo} undo */
+function changesNothing({ script, patched: { status, outcomes }, left }) {
+    return outcomes.length > 0 && status === STATUS.DONE && script.patches === 0 && left.length === 0;
+}

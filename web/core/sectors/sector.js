@@ -1,0 +1,145 @@
+// The layout of a sector and of an image (ECMA-130), and addresses by the calls.
+
+import { joinedBytes, sameBytes } from '../bytes.js';
+import { newBytes } from '../faults.js';
+import { MOST_SECTORS, SECTOR_SIZE, USER_SIZE } from '../module/numbers.js';
+
+/** @typedef {import('../module/calls.js').Calls} Calls */
+
+// No call asks for the most sectors of an image: who opens one does.
+export { LAST_BASE, MOST_SECTORS, SECTOR_SIZE, USER_SIZE } from '../module/numbers.js';
+
+/** Where the fields of a sector begin, in their order. */
+export const FIELDS = Object.freeze({ sync: 0, header: 12, user: 16, edc: 2064, zeros: 2068, parity: 2076 });
+export const HEADER_OFFSET = FIELDS.header;
+export const USER_OFFSET = FIELDS.user;
+const WORDS = SECTOR_SIZE / 4;
+
+/**
+ * The number of whole sectors of an image. The bytes after them are its tail.
+ * @param {number} size of the image in bytes
+ */
+export function sectorCount(size) {
+    return Math.floor(size / SECTOR_SIZE);
+}
+
+/**
+ * Whether an image has more bytes than cdpatch takes.
+ * @param {number} size of the image in bytes
+ */
+export function imageTooLong(size) {
+    return size > MOST_SECTORS * SECTOR_SIZE;
+}
+
+/**
+ * The i-th sector of some bytes, not copied.
+ * @param {Uint8Array} bytes
+ * @param {number} i
+ */
+export function sectorOf(bytes, i) {
+    return bytes.subarray(i * SECTOR_SIZE, (i + 1) * SECTOR_SIZE);
+}
+
+/**
+ * Some sectors of a range, one after the other.
+ * @param {Uint8Array} bytes
+ * @param {number[]} places
+ */
+export function sectorsAt(bytes, places) {
+    return joinedBytes(places.map(place => sectorOf(bytes, place)));
+}
+
+/**
+ * The 2048 bytes of user data of the i-th sector, not copied.
+ * @param {Uint8Array} bytes
+ * @param {number} i
+ */
+export function userOf(bytes, i) {
+    const at = i * SECTOR_SIZE + USER_OFFSET;
+    return bytes.subarray(at, at + USER_SIZE);
+}
+
+/**
+ * Bytes as numbers of 32 bits, which compare four times as fast.
+ * @param {Uint8Array} bytes
+ */
+export function asWords(bytes) {
+    const { buffer, byteOffset } = bytes.byteOffset % 4 === 0 ? bytes : bytes.slice();
+    return new Int32Array(buffer, byteOffset, bytes.length >> 2);
+}
+
+/**
+ * Whether one of the four bytes of a word is 0.
+ * @param {number} word
+ */
+export function hasZeroByte(word) {
+    return ((word - 0x01010101) & ~word & 0x80808080) !== 0;
+}
+
+/**
+ * Whether a sector's words are the same in two images, by four at a time.
+ * @param {Int32Array} a
+ * @param {Int32Array} b
+ * @param {number} from
+ */
+function sameWords(a, b, from) {
+    for (let at = from; at < from + WORDS; at += 4) {
+        const differing = (a[at] ^ b[at]) | (a[at + 1] ^ b[at + 1]) | (a[at + 2] ^ b[at + 2]) | (a[at + 3] ^ b[at + 3]);
+        if (differing !== 0) return false;
+    }
+    return true;
+}
+
+/**
+ * Which sectors of some bytes are others in other bytes of the same length.
+ * @param {Uint8Array} old
+ * @param {Uint8Array} fresh
+ */
+export function differingSectors(old, fresh) {
+    const [before, after] = [asWords(old), asWords(fresh)];
+    const found = [];
+    for (let i = 0; i < sectorCount(old.length); i++) {
+        if (!sameWords(before, after, i * WORDS)) found.push(i);
+    }
+    return found;
+}
+
+/**
+ * The user data of whole sectors in one piece.
+ * @param {Uint8Array} bytes
+ * @param {Uint8Array} [user] where they go, of just as many bytes
+ */
+export function joinedUser(bytes, user = newBytes(sectorCount(bytes.length) * USER_SIZE)) {
+    for (let i = 0; i < sectorCount(bytes.length); i++) user.set(userOf(bytes, i), i * USER_SIZE);
+    return user;
+}
+
+/**
+ * The three bytes of the address in the header of the i-th sector, not copied.
+ * @param {Uint8Array} bytes
+ * @param {number} i
+ */
+export function addressIn(bytes, i) {
+    const at = i * SECTOR_SIZE + HEADER_OFFSET;
+    return bytes.subarray(at, at + 3);
+}
+
+/**
+ * An address as a script writes it, as 00:02:00.
+ * @param {Uint8Array} address three bytes in BCD
+ */
+export function addressText(address) {
+    return Array.from(address, byte => byte.toString(16).padStart(2, '0')).join(':');
+}
+
+/**
+ * The block that has an address, or null if none has.
+ * @param {Calls} calls
+ * @param {Uint8Array} address three bytes in BCD
+ */
+export function blockAt(calls, address) {
+    const [minute, second, frame] = Array.from(address, byte => 10 * (byte >> 4) + (byte & 15));
+    const block = (minute * 60 + second) * 75 + frame - 150;
+    const made = block < 0 ? null : calls.address(block);
+    return made !== null && sameBytes(made, address) ? block : null;
+}

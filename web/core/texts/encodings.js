@@ -1,0 +1,71 @@
+// The encodings by their names, and the texts of files.
+
+import { BIG5 } from './big5.js';
+import { textFault } from './characters.js';
+import { CP932 } from './cp932.js';
+import { EUC_JP } from './euc_jp.js';
+import { EUC_KR } from './euc_kr.js';
+import { GBK } from './gbk.js';
+import { HEX } from './hex.js';
+import { tableEncoding } from './table.js';
+import { UTF16BE, UTF16LE } from './utf16.js';
+import { UTF8 } from './utf8.js';
+
+/** @typedef {import('./encoding.js').Encoding} Encoding */
+
+/** @type {Encoding[]} all, in the order in which they are listed and those are searched that are */
+export const ENCODINGS = [HEX, CP932, EUC_JP, UTF8, UTF16LE, UTF16BE, BIG5, GBK, EUC_KR];
+
+/** Those that are searched if none is named: what Japanese discs have. */
+export const SEARCHED = ENCODINGS.filter(({ searched }) => searched);
+
+/** What is taken if none is named. */
+export const USUAL_ENCODING = CP932;
+
+/** A table has no more bytes: some 65536 lines of two bytes and a character take a tenth. */
+const LARGEST_TABLE = 1 << 23;
+
+const strictUtf8 = new TextDecoder('utf-8', { fatal: true });
+
+/** UTF-16, which has a mark at its beginning, as some editors and spreadsheets save texts. */
+const MARKED = [UTF16LE, UTF16BE];
+
+/**
+ * The encoding of a name, in capitals or not, or null.
+ * @param {string} name
+ */
+export function encodingOf(name) {
+    const plain = (/** @type {string} */ text) => text.toUpperCase().replace(/[^A-Z0-9]/g, '');
+    return ENCODINGS.find(it => [it.name, ...it.aliases].map(plain).includes(plain(name))) || null;
+}
+
+/**
+ * The text of a small file that somebody wrote, as a cue sheet or a table: UTF-16 if it has its mark, UTF-8 if it is that, else CP932.
+ * @param {Uint8Array} bytes
+ */
+export function textOfFile(bytes) {
+    const marked = MARKED.find(encoding => encoding.text(bytes.subarray(0, 2)) === '\uFEFF');
+    if (marked) return marked.text(bytes.subarray(2));
+    try {
+        return strictUtf8.decode(bytes);
+    } catch {
+        return CP932.text(bytes);
+    }
+}
+
+/**
+ * The text of a `.tbl` file. Throws a Fault, TEXT, if it is too long.
+ * @param {Uint8Array} bytes
+ */
+export function tableTextOf(bytes) {
+    if (bytes.length > LARGEST_TABLE) throw textFault(`the table has ${bytes.length} bytes, and one has at most ${LARGEST_TABLE}`);
+    return textOfFile(bytes);
+}
+
+/**
+ * The encoding of a `.tbl` file. Throws a Fault, TEXT, that names the line.
+ * @param {Uint8Array} bytes
+ */
+export function tableOf(bytes) {
+    return tableEncoding(tableTextOf(bytes));
+}

@@ -1,0 +1,174 @@
+// What the map shows of each sector: its kind, or what was found in it.
+
+import { RECORD, RECORD_SIZE, SECTOR_KIND } from '../../core/module/records.js';
+import { SHORTEST_TRACK } from '../../core/sectors/holes.js';
+
+/** What a sector can be on the map. Of the sectors that share a pixel the one with the greatest number is shown. */
+export const MARK = Object.freeze({
+    UNREAD: 0, MODE1: 1, NOSYNC: 2, MODE2: 3, MODE0: 4, OTHER: 5, ADDRESS: 6, PARITY: 7, LOST: 8, EDC: 9,
+});
+
+/**
+ * How a mark is shown: `colour` is a property of the style, `letter` stands in the loupe, and a loud mark is a finding, which is at
+ * least two pixels wide and high.
+ * @typedef {{ mark: number, name: string, colour: string, letter: string, loud: boolean }} Look
+ */
+
+/**
+ * What a map is drawn from: a mark for each sector from `base` on, of which `known` are read, how each is shown, and how many there are.
+ * @typedef {{ base: number, marks: Uint8Array, known: number, looks: Look[], counts: Uint32Array }} MapModel
+ */
+
+/** @type {Look[]} */
+export const SURVEY_LOOKS = [
+    { mark: MARK.MODE1, name: 'Mode 1', colour: '--k-mode1', letter: '', loud: false },
+    { mark: MARK.NOSYNC, name: 'audio, no sync', colour: '--k-nosync', letter: '', loud: false },
+    { mark: MARK.MODE2, name: 'Mode 2', colour: '--k-mode2', letter: '', loud: false },
+    { mark: MARK.MODE0, name: 'Mode 0', colour: '--k-mode0', letter: '', loud: false },
+    { mark: MARK.OTHER, name: 'other mode', colour: '--k-other', letter: '', loud: false },
+    { mark: MARK.EDC, name: 'data damaged', colour: '--f-edc', letter: 'E', loud: true },
+    { mark: MARK.PARITY, name: 'parity only', colour: '--f-parity', letter: 'P', loud: true },
+    { mark: MARK.ADDRESS, name: 'other address', colour: '--f-address', letter: 'A', loud: true },
+    { mark: MARK.LOST, name: 'sync or mode lost', colour: '--f-lost', letter: 'S', loud: true },
+];
+
+/** @type {Record<number, number>} */
+const MARK_OF_KIND = {
+    [SECTOR_KIND.NOSYNC]: MARK.NOSYNC, [SECTOR_KIND.MODE0]: MARK.MODE0, [SECTOR_KIND.MODE1]: MARK.MODE1,
+    [SECTOR_KIND.MODE2]: MARK.MODE2, [SECTOR_KIND.OTHER]: MARK.OTHER,
+};
+
+/**
+ * The mark of a record.
+ * @param {Uint8Array} records
+ * @param {number} at
+ */
+function markOf(records, at) {
+    if (records[at + RECORD.EDC] !== 0) return MARK.EDC;
+    if ((records[at + RECORD.ZEROS] | records[at + RECORD.P] | records[at + RECORD.Q]) !== 0) return MARK.PARITY;
+    if (records[at + RECORD.ADDRESS] !== 0) return MARK.ADDRESS;
+    return MARK_OF_KIND[records[at + RECORD.KIND]];
+}
+
+/** The marks of a survey, as it grows. */
+export class SurveyMarks {
+    /**
+     * @param {number} base
+     * @param {number} count how many sectors the image has
+     */
+    constructor(base, count) {
+        this.base = base;
+        this.marks = new Uint8Array(count);
+        this.counts = new Uint32Array(SURVEY_LOOKS.length + 1);
+        this.known = 0;
+        /** How many sectors of Mode 1 have another address than their block's, whatever else was found in them. */
+        this.elsewhere = 0;
+        this.looks = SURVEY_LOOKS;
+        /** Where the last sectors that are not of Mode 1 begin, if Mode 1 comes before them; else -1. */
+        this.gap = -1;
+    }
+
+    /**
+     * Takes the records of sectors up to the known ones.
+     * @param {Uint8Array} records of the whole image
+     * @param {number} known
+     */
+    add(records, known) {
+        for (let i = this.known; i < known; i++) {
+            const mark = markOf(records, i * RECORD_SIZE);
+            this.marks[i] = mark;
+            this.counts[mark] += 1;
+            this.elsewhere += records[i * RECORD_SIZE + RECORD.ADDRESS];
+            this.noteGap(i, records[i * RECORD_SIZE + RECORD.KIND] === SECTOR_KIND.MODE1);
+        }
+        this.known = known;
+    }
+
+    /**
+     * @param {number} i
+     * @param {boolean} mode1 whether the sector is of Mode 1
+     */
+    noteGap(i, mode1) {
+        if (!mode1) {
+            if (this.gap < 0 && i > 0 && this.isMode1(i - 1)) this.gap = i;
+            return;
+        }
+        // Fewer sectors of another kind inside Mode 1 are no track: they have lost their sync or mode.
+        if (this.gap >= 0 && i - this.gap < SHORTEST_TRACK) this.loseFrom(this.gap, i);
+        this.gap = -1;
+    }
+
+    /**
+     * @param {number} from
+     * @param {number} to
+     */
+    loseFrom(from, to) {
+        for (let i = from; i < to; i++) {
+            this.counts[this.marks[i]] -= 1;
+            this.counts[MARK.LOST] += 1;
+            this.marks[i] = MARK.LOST;
+        }
+    }
+
+    /** @param {number} i */
+    isMode1(i) {
+        return this.marks[i] === MARK.MODE1 || (this.marks[i] >= MARK.ADDRESS && this.marks[i] !== MARK.LOST);
+    }
+
+    /** How many sectors of Mode 1 there are so far, whatever was found in them. */
+    mode1() {
+        const { counts } = this;
+        return counts[MARK.MODE1] + counts[MARK.ADDRESS] + counts[MARK.PARITY] + counts[MARK.EDC];
+    }
+
+    /** Whether no sector of Mode 1 has the address of its block. */
+    isElsewhere() {
+        return this.mode1() > 0 && this.elsewhere === this.mode1();
+    }
+
+    damaged() {
+        return this.counts[MARK.PARITY] + this.counts[MARK.EDC];
+    }
+
+    /** How many sectors something was found in. */
+    findings() {
+        return this.damaged() + this.counts[MARK.ADDRESS] + this.counts[MARK.LOST];
+    }
+}
+
+/**
+ * The next sector with a loud mark from a place on, or the one before it; -1 if there is none.
+ * @param {MapModel} model
+ * @param {number} from
+ * @param {number} step 1 or -1
+ */
+export function nextFinding({ marks, looks }, from, step) {
+    const loud = loudMarks(looks);
+    for (let i = from + step; i >= 0 && i < marks.length; i += step) {
+        if (loud[marks[i]]) return i;
+    }
+    return -1;
+}
+
+/**
+ * The place where another run of one kind begins: after a sector, or up to the one before it. -1 if there is none. A finding does not
+ * end a run.
+ * @param {MapModel} model
+ * @param {number} from
+ * @param {number} step 1 or -1
+ */
+export function nextRun({ marks, looks }, from, step) {
+    const loud = loudMarks(looks);
+    const begins = (/** @type {number} */ i) => !loud[marks[i]] && !loud[marks[i - 1]] && marks[i] !== marks[i - 1];
+    for (let i = from + step; i > 0 && i < marks.length; i += step) {
+        if (begins(i)) return i;
+    }
+    return step < 0 && from > 0 ? 0 : -1;
+}
+
+/** @param {Look[]} looks */
+export function loudMarks(looks) {
+    const loud = new Uint8Array(16);
+    for (const look of looks) loud[look.mark] = Number(look.loud);
+    return loud;
+}

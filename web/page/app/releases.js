@@ -1,0 +1,25 @@
+// Which release a page is, by its SHA-256: a patcher that was made with an earlier one is known by its program.
+
+import { hexOf } from '../ui/index.js';
+
+/** @type {Map<string, string>} the versions of the releases before this one, by the SHA-256 of their pages */
+export const RELEASES = new Map([
+    ['6c5603e75746b25dadbf16f82d9bf4906f7eab61faa8ab702e77117f1818b872', '1.2.0'],
+]);
+
+/**
+ * The SHA-256 of bytes in small digits; '' if the browser has none, as for a page that came over plain http.
+ * @param {Uint8Array} bytes
+ */
+export async function sha256Of(bytes) {
+    const { subtle } = globalThis.crypto || {};
+    return subtle ? hexOf(new Uint8Array(await subtle.digest('SHA-256', bytes))).toLowerCase() : '';
+}
+
+/**
+ * The version of the earlier release whose page these bytes are, or ''.
+ * @param {Uint8Array} program
+ */
+export async function releaseOf(program) {
+    return RELEASES.get(await sha256Of(program)) || '';
+}

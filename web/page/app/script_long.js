@@ -1,0 +1,19 @@
+// Scripts that are too long for their lines to be shown: a browser would stand still.
+
+export const MOST_SHOWN = 4000000;
+export const MOST_LINES = 150000;
+
+/** What works with such a script, and what does not. */
+export const LONG = 'It has more than 4 MB, or more than 150,000 lines. Check, Apply, Publish and Save work with all of it. The other ' +
+    'panels do not mark what it changes.';
+
+/**
+ * Whether a script is one.
+ * @param {string} text
+ */
+export function isLong(text) {
+    if (text.length > MOST_SHOWN) return true;
+    let lines = 1;
+    for (let at = text.indexOf('\n'); at >= 0 && lines <= MOST_LINES; at = text.indexOf('\n', at + 1)) lines += 1;
+    return lines > MOST_LINES;
+}

@@ -1,0 +1,116 @@
+// What the page knows and the jobs that it runs, for all panels.
+
+import { Store } from './store.js';
+
+/** @typedef {import('../../core/disc/disc.js').Disc} Disc */
+/** @typedef {import('../../core/disc/disc.js').DiscImage} DiscImage */
+/** @typedef {import('./marks.js').SurveyMarks} SurveyMarks */
+
+/** What the page is made of, which the joined page and a served one get in different ways. */
+/** @typedef {{ module: WebAssembly.Module, newWorker: () => Worker, made: string[] }} Parts */
+
+/**
+ * An image that was opened. `from` is the name of the cue sheet and `sheet` its text, or both are ''; `number` is that of the track
+ * which is meant, and `part` only that track; `sha1` is '' until it is known, and `crc32` too. `renamed` has the files of the disc that
+ * were saved patched, with their new names.
+ * @typedef {DiscImage & { part: DiscImage, from: string, sheet: string, disc: Disc, number: number, sha1: string, crc32: string,
+ *     renamed: Map<string, string> }} Image
+ */
+
+/**
+ * The records of an image's sectors, RECORD_SIZE bytes each, of which the first `known` were read so far; what the map shows of them;
+ * and when reading began and ended, 0 if it did not come to its end. `over` says that it goes on no more.
+ * @typedef {{ block: number, records: Uint8Array, known: number, marks: SurveyMarks, began: number, ended: number,
+ *     over: boolean }} Surveyed
+ */
+
+/**
+ * What happens: an image was opened or closed (`image`); more of it was surveyed (`survey`), or all (`surveyed`); more of it was hashed
+ * (`hash`, with how many bytes, or -1 if nobody goes on with it); its files are known (`files`); there is a second image, or none any more
+ * (`second`); a place was chosen (`place`); the script has changed (`script`, with what brings the last one back if that is in no file,
+ * or null if it was typed in the panel Script); one of its lines was chosen (`line`, from 0); the encoding was chosen, or a table is new
+ * (`encoding`); another panel is shown (`panel`); the data of a patcher are to be worked on (`patcher`).
+ * @typedef {'image' | 'survey' | 'surveyed' | 'hash' | 'files' | 'second' | 'place' | 'script' | 'line' | 'encoding' | 'panel' |
+ *     'patcher'} Happening
+ */
+
+/**
+ * What parts of the page do for all: `open` opens files, as if they were dropped; `takeBackBytes` takes back the bytes that were typed last
+ * in a sector, if it can.
+ * @typedef {{ open: (files: File[]) => Promise<void>, takeBackBytes: () => boolean }} Services
+ */
+
+/** @typedef {'disc' | 'text' | 'script' | 'publish'} PanelName */
+
+export const PANELS = Object.freeze(/** @type {PanelName[]} */ (['disc', 'text', 'script', 'publish']));
+
+/** The state of the page, and the jobs that end with what they work on. */
+export class App extends Store {
+    /**
+     * Runs a job that its Cancel button can end. The job looks at the signal.
+     * @template Result
+     * @param {(signal: AbortSignal, cancel: () => void) => Promise<Result>} job
+     */
+    async run(job) {
+        const controller = new AbortController();
+        return job(controller.signal, () => controller.abort());
+    }
+
+    /**
+     * Runs a job that saves an image: nothing but its Cancel button ends it.
+     * @template Result
+     * @param {(signal: AbortSignal, cancel: () => void) => Promise<Result>} job
+     */
+    async runSave(job) {
+        this.saves += 1;
+        try {
+            return await this.run(job);
+        } finally {
+            this.saves -= 1;
+        }
+    }
+
+    /**
+     * Runs a job that another signal ends too.
+     * @template Result
+     * @param {AbortSignal} end
+     * @param {(signal: AbortSignal, cancel: () => void) => Promise<Result>} job
+     */
+    runUntil(end, job) {
+        return this.run((own, cancel) => {
+            end.addEventListener('abort', cancel);
+            return job(own, cancel);
+        });
+    }
+
+    /**
+     * Runs a job with the open image, which also ends when that is closed.
+     * @template Result
+     * @param {(signal: AbortSignal, cancel: () => void) => Promise<Result>} job
+     */
+    runOnImage(job) {
+        return this.runUntil(this.closing.signal, job);
+    }
+
+    /**
+     * Runs a job with both images, which also ends when the second one is closed or another one.
+     * @template Result
+     * @param {(signal: AbortSignal, cancel: () => void) => Promise<Result>} job
+     */
+    runPair(job) {
+        return this.runUntil(this.pairing.signal, job);
+    }
+
+    /** The files that are open: those of the disc with its cue sheet, and the second image. */
+    openFiles() {
+        const images = [this.image, this.second].flatMap(image => image || []);
+        return images.flatMap(({ disc, from, sheet }) => [...disc.files.map(({ name, reader }) => ({ name, size: reader.size })),
+            ...from === '' ? [] : [{ name: from, size: sheet.length }]]);
+    }
+
+    /** Ends the jobs with the second image. */
+    endPairing() {
+        this.pairing.abort();
+        this.pairing = new AbortController();
+    }
+}

@@ -1,0 +1,276 @@
+// What the page knows: the disc, what was found in it, the script, the second image, and who wants to hear of changes.
+
+import { newBytes } from '../../core/faults.js';
+import { RECORD_SIZE } from '../../core/module/records.js';
+import { USUAL_ENCODING } from '../../core/texts/encodings.js';
+import { SurveyMarks } from './marks.js';
+import { ScriptLines } from './script_lines.js';
+
+/** @typedef {import('../../core/jobs.js').Crew} Crew */
+/** @typedef {import('../../core/iso/files.js').VolumeFiles} VolumeFiles */
+/** @typedef {import('../../core/module/calls.js').Calls} Calls */
+/** @typedef {import('../../core/texts/encoding.js').Encoding} Encoding */
+/** @typedef {import('./state.js').Happening} Happening */
+/** @typedef {import('./state.js').Image} Image */
+/** @typedef {import('./state.js').PanelName} PanelName */
+/** @typedef {import('./state.js').Parts} Parts */
+/** @typedef {import('./state.js').Services} Services */
+/** @typedef {import('./state.js').Surveyed} Surveyed */
+
+/** While an image is read, its survey is told of again after this many milliseconds. */
+const TOLD_EVERY = 150;
+
+/** The state of the page. It is changed only by its methods, which tell who listens. */
+export class Store {
+    /**
+     * @param {Calls} calls of a module for what the page does itself, which is short
+     * @param {Crew} crew of workers, for what takes longer
+     * @param {Parts} parts for a worker of another kind
+     */
+    constructor(calls, crew, parts) {
+        this.calls = calls;
+        this.crew = crew;
+        this.parts = parts;
+        this.image = /** @type {Image | null} */ (null);
+        this.second = /** @type {Image | null} */ (null);
+        this.survey = /** @type {Surveyed | null} */ (null);
+        this.files = /** @type {VolumeFiles | null} */ (null);
+        /** The block and the user byte, or -1, that the sector view shows. */
+        this.place = { block: -1, offset: -1 };
+        this.script = new ScriptLines(calls);
+        this.encoding = USUAL_ENCODING.name;
+        /** @type {Map<string, Encoding>} the tables that were loaded, by their files' names */
+        this.tables = new Map();
+        this.panel = /** @type {PanelName} */ ('disc');
+        /** @type {Map<string, ((detail: any) => void)[]>} */
+        this.listeners = new Map();
+        /** How many images are being saved. Until that has ended no image is opened or closed. */
+        this.saves = 0;
+        /** Ends the reading of the open image. */
+        this.reading = new AbortController();
+        /** Ends what is done with the open image, but for its reading. */
+        this.closing = new AbortController();
+        /** Ends what is done with the second image. */
+        this.pairing = new AbortController();
+        /** @type {Services} */
+        this.services = { open: async () => {}, takeBackBytes: () => false };
+        /** @type {((file: File) => Promise<boolean>)[]} */
+        this.takers = [];
+        /** When the survey was last told of. */
+        this.told = 0;
+    }
+
+    /**
+     * @param {Happening} name
+     * @param {(detail: any) => void} listener
+     */
+    on(name, listener) {
+        this.listeners.set(name, [...this.listeners.get(name) || [], listener]);
+    }
+
+    /**
+     * @param {Happening} name
+     * @param {unknown} [detail]
+     */
+    tell(name, detail) {
+        for (const listener of this.listeners.get(name) || []) listener(detail);
+    }
+
+    /**
+     * Takes over services. Returns what gives them back.
+     * @param {Partial<Services>} services
+     */
+    serve(services) {
+        const before = this.services;
+        this.services = { ...before, ...services };
+        return () => { this.services = before; };
+    }
+
+    /** @param {File[]} files to be opened, as if they were dropped */
+    open(files) {
+        return this.services.open(files);
+    }
+
+    /** Takes back the bytes that were typed last in a sector, if it can. */
+    takeBackBytes() {
+        return this.services.takeBackBytes();
+    }
+
+    /** @param {(file: File) => Promise<boolean>} taker is asked of each file that is opened, and returns whether it has taken it */
+    addTaker(taker) {
+        this.takers.push(taker);
+    }
+
+    /**
+     * Makes an image the open one, or closes it. Returns the signal that ends reading it.
+     * @param {Image | null} image
+     */
+    setImage(image) {
+        this.reading.abort();
+        this.closing.abort();
+        [this.reading, this.closing] = [new AbortController(), new AbortController()];
+        [this.image, this.second, this.survey, this.files] = [image, null, null, null];
+        this.place = { block: -1, offset: -1 };
+        this.tell('image');
+        this.tell('second');
+        return this.reading.signal;
+    }
+
+    /** @param {Image | null} second */
+    setSecond(second) {
+        this.second = second;
+        this.tell('second');
+    }
+
+    /**
+     * Begins the survey of an image, which is added to as it is read.
+     * @param {number} base
+     * @param {number} sectors
+     */
+    beginSurvey(base, sectors) {
+        const [records, marks, began] = [newBytes(sectors * RECORD_SIZE), new SurveyMarks(base, sectors), performance.now()];
+        const survey = { block: base, records, known: 0, marks, began, ended: 0, over: false };
+        [this.survey, this.told] = [survey, began];
+        this.tell('survey');
+        return survey;
+    }
+
+    /**
+     * @param {Surveyed} survey
+     * @param {{ block: number, records: Uint8Array }} more those of the sectors that come next
+     */
+    addToSurvey(survey, { block, records }) {
+        survey.records.set(records, (block - survey.block) * RECORD_SIZE);
+        survey.known += records.length / RECORD_SIZE;
+        survey.marks.add(survey.records, survey.known);
+        const now = performance.now();
+        if (now - this.told < TOLD_EVERY) return;
+        this.told = now;
+        this.tell('survey');
+    }
+
+    /**
+     * @param {Surveyed} survey
+     * @param {boolean} isWhole
+     */
+    endSurvey(survey, isWhole) {
+        if (isWhole) survey.ended = performance.now();
+        survey.over = true;
+        this.tell('survey');
+        if (isWhole) this.tell('surveyed');
+    }
+
+    /** @param {VolumeFiles | null} files */
+    setFiles(files) {
+        this.files = files;
+        this.tell('files');
+    }
+
+    /** @param {number} done how many bytes of the image were hashed, or -1 if nobody goes on with it */
+    noteHashed(done) {
+        this.tell('hash', done);
+    }
+
+    /**
+     * @param {Image} image
+     * @param {{ sha1: string, crc32: string }} sums
+     */
+    setSums(image, { sha1, crc32 }) {
+        [image.sha1, image.crc32] = [sha1, crc32];
+        this.noteHashed(image.reader.size);
+    }
+
+    /**
+     * Notes under which name the patched image was saved.
+     * @param {Image} image
+     * @param {string} name
+     */
+    noteSaved(image, name) {
+        image.renamed.set(image.name, name);
+    }
+
+    /** @param {string} name of an encoding or of a table */
+    chooseEncoding(name) {
+        this.encoding = name;
+        this.tell('encoding');
+    }
+
+    /**
+     * Takes a table in, which is the encoding from now on.
+     * @param {string} name of its file
+     * @param {Encoding} table
+     */
+    addTable(name, table) {
+        this.tables.set(name, table);
+        this.chooseEncoding(name);
+    }
+
+    /** @param {unknown} data of a patcher, which are to be worked on */
+    workOn(data) {
+        this.tell('patcher', data);
+    }
+
+    /** Notes that a line was typed in the panel Script. */
+    noteTyped() {
+        this.tell('script', null);
+    }
+
+    /**
+     * Puts another text in place of the script.
+     * @param {string} text
+     * @param {string} name of its file
+     * @param {boolean} saved whether it is in that file
+     */
+    setScript(text, name, saved) {
+        const back = this.script.take(text, name);
+        if (saved) this.script.noteSaved();
+        this.tell('script', { back });
+    }
+
+    /**
+     * Adds lines at the end of the script. Returns the number of the last of them, 0 if it is not shown.
+     * @param {string[]} lines
+     * @param {'' | 'bytes'} [typed] bytes of a sector if they are
+     */
+    addLines(lines, typed = '') {
+        const number = this.script.add(lines, typed);
+        this.tell('script', { back: null });
+        return number;
+    }
+
+    /**
+     * Puts a line in place of another one.
+     * @param {number} number
+     * @param {string} line
+     * @param {'' | 'bytes'} [typed] as of addLines
+     */
+    replaceLine(number, line, typed = '') {
+        this.script.edit(number - 1, 1, [line], typed);
+        this.tell('script', { back: null });
+    }
+
+    /**
+     * Chooses a place of the image, and shows the Disc panel if it is asked to.
+     * @param {number} block
+     * @param {number} [offset] of a user byte
+     * @param {boolean} [show]
+     */
+    goTo(block, offset = -1, show = false) {
+        const comes = show && this.panel !== 'disc';
+        this.place = { block, offset };
+        if (show) this.showPanel('disc');
+        this.tell('place', { show, comes });
+    }
+
+    /** @param {number} line of the script, from 0, to which its panel goes */
+    goToLine(line) {
+        this.showPanel('script');
+        this.tell('line', line);
+    }
+
+    /** @param {PanelName} name */
+    showPanel(name) {
+        this.panel = name;
+        this.tell('panel');
+    }
+}

@@ -1,0 +1,231 @@
+// The card under the map: findings in places, runs of one kind, and the text that the program prints.
+
+import { SECTOR_KIND } from '../../core/module/records.js';
+import { auditText, kindRuns, listText, surveyCounts } from '../../core/sectors/survey.js';
+import { MARK, SURVEY_LOOKS } from '../app/index.js';
+import { downloadText } from '../save/index.js';
+import { button, copyText, countOf, counted, element, fill, keyed, oneStop, term } from '../ui/index.js';
+import { placeGuess, placeWords, placesOf } from './places.js';
+import { addressOf, findingAt, modeOneSectors } from './sector_text.js';
+
+/** @typedef {import('../app/state.js').App} App */
+/** @typedef {import('../app/state.js').Surveyed} Surveyed */
+/** @typedef {import('./places.js').Place} Place */
+/** @typedef {'findings' | 'runs' | 'text'} FindingsTab */
+
+const MOST_ROWS = 400;
+const MOST_TEXT_LINES = 3000;
+
+/** @type {Record<number, [string, string]>} the name of a kind, and its colour */
+const KINDS = {
+    [SECTOR_KIND.NOSYNC]: ['audio, no sync', '--k-nosync'], [SECTOR_KIND.MODE0]: ['Mode 0', '--k-mode0'],
+    [SECTOR_KIND.MODE1]: ['Mode 1', '--k-mode1'], [SECTOR_KIND.MODE2]: ['Mode 2', '--k-mode2'],
+    [SECTOR_KIND.OTHER]: ['other mode', '--k-other'],
+};
+
+/** @param {string} colour a property of the style */
+function dotOf(colour) {
+    const dot = element('span', { class: 'dot' });
+    dot.style.background = `var(${colour})`;
+    return dot;
+}
+
+export class Findings {
+    /** @param {App} app */
+    constructor(app) {
+        this.app = app;
+        this.tab = /** @type {FindingsTab} */ ('findings');
+        this.text = /** @type {'audit' | 'list'} */ ('audit');
+        this.hidden = false;
+        /** @type {Set<number>} the first sectors of the places that are open */
+        this.opened = new Set();
+        this.tabs = element('div', { class: 'seg', role: 'tablist', 'aria-label': 'Findings, runs, text' });
+        this.body = element('div', { class: 'scroll fit', id: 'findings-body', role: 'tabpanel' });
+        this.foot = element('p', { class: 'foot' });
+        const tools = element('span', { class: 'row to-end' }, button('slim bare', () => copyText(this.report()), 'Copy'),
+            button('slim bare', () => downloadText(this.report(), `${this.reportName()}.txt`), 'Save…'));
+        this.part = element('section', { class: 'card', id: 'findings', 'aria-label': 'Findings and runs' },
+            element('header', {}, this.tabs, tools), this.body, this.foot);
+        oneStop(this.tabs, '[role=tab]', tab => this.choose(/** @type {FindingsTab} */ (tab.dataset.tab)));
+        oneStop(this.body, 'tbody button');
+        this.body.addEventListener('click', event => this.clicked(/** @type {HTMLElement} */ (event.target)));
+    }
+
+    /** @param {FindingsTab} tab */
+    choose(tab) {
+        this.tab = tab;
+        this.draw();
+    }
+
+    reportName() {
+        return this.tab === 'runs' || (this.tab === 'text' && this.text === 'list') ? 'list' : 'audit';
+    }
+
+    /** The program's text: what `cdpatch audit` or `cdpatch list` prints. */
+    report() {
+        const { survey, image, calls } = this.app;
+        if (survey === null || image === null) return '';
+        const report = this.reportName() === 'list' ? listText : auditText;
+        return new TextDecoder().decode(report(calls, survey, image.tail).text);
+    }
+
+    /** @param {boolean} hidden whether something else takes its place */
+    hide(hidden) {
+        if (this.hidden === hidden) return;
+        this.hidden = hidden;
+        this.draw();
+    }
+
+    draw() {
+        const { survey } = this.app;
+        this.part.hidden = this.hidden || survey === null || survey.ended === 0 || survey.known === 0;
+        if (survey === null || this.part.hidden) return;
+        const runs = [...kindRuns(survey)];
+        this.drawTabs(counted(survey.marks.findings()), counted(runs.length));
+        const drawn = { findings: () => this.drawFindings(survey), runs: () => this.drawRuns(runs), text: () => this.drawText() };
+        drawn[this.tab]();
+    }
+
+    /**
+     * @param {string} findings
+     * @param {string} runs
+     */
+    drawTabs(findings, runs) {
+        /** @type {[FindingsTab, string, string][]} */
+        const all = [['findings', 'Findings', findings], ['runs', 'Runs', runs], ['text', 'As text', '']];
+        fill(this.tabs, ...all.map(([name, label, count]) => keyed(name, element('button', {
+            type: 'button', role: 'tab', 'data-tab': name, 'aria-selected': String(name === this.tab), 'aria-controls': 'findings-body',
+            click: () => this.choose(name),
+        }, label, count !== '' && element('span', { class: 'num' }, ` ${count}`)))));
+    }
+
+    /** @param {Surveyed} survey */
+    drawFindings(survey) {
+        const places = placesOf(survey.marks);
+        if (places.length === 0) {
+            const mode1 = survey.marks.mode1();
+            const words = mode1 === 0 ? 'No findings: there is no Mode 1 sector.'
+                : `No findings: EDC and parity of ${modeOneSectors(mode1)} fit.`;
+            fill(this.body, element('p', { class: 'pad' }, words));
+        } else {
+            const head = element('tr', {}, element('th', {}, 'Place (', term('block', 'blocks'), ')'),
+                element('th', { class: 'n' }, 'Sectors'), element('th', {}, 'What'), element('th', {}, 'Looks like'));
+            const rows = places.flatMap(place => this.placeRows(survey, place));
+            fill(this.body, element('table', {}, element('thead', {}, head), element('tbody', {}, ...rows)));
+        }
+        const { sectors, mode1, damaged } = surveyCounts(survey);
+        const last = new TextDecoder().decode(this.app.calls.auditEnd(sectors, mode1, damaged, this.app.image ? this.app.image.tail : 0));
+        const counts = last.trimEnd().split(/(?<=\d) /).flatMap(it => [element('span', { class: 'nowrap' }, it), ' ']);
+        fill(this.foot, element('span', { class: 'mono' }, ...counts), places.length > 0 && element('span', {},
+            '“Looks like” is a guess from the distances. The other columns are what cdpatch found.'));
+    }
+
+    /**
+     * @param {Surveyed} survey
+     * @param {Place} place
+     */
+    placeRows(survey, place) {
+        const open = this.opened.has(place.first);
+        const [first, last] = [survey.block + place.first, survey.block + place.last];
+        const { mark, words } = placeWords(place);
+        const look = SURVEY_LOOKS.find(it => it.mark === mark);
+        const range = first === last ? String(first) : `${first}–${last}`;
+        const fold = element('button', { type: 'button', class: 'fold', 'aria-expanded': String(open), 'data-place': place.first },
+            open ? '▾ ' : '▸ ', range);
+        const row = element('tr', {}, element('td', { class: 'num nowrap' }, fold),
+            element('td', { class: 'n', 'data-l': 'sectors' }, counted(place.sectors.length)),
+            element('td', {}, dotOf(look ? look.colour : '--f-edc'), words),
+            element('td', { class: 'wide' }, placeGuess(place, survey.marks.isElsewhere())));
+        return open ? [row, ...this.sectorRows(survey, place)] : [row];
+    }
+
+    /**
+     * A row for each finding of a place. Neighbours without a sync field or mode share one.
+     * @param {Surveyed} survey
+     * @param {Place} place
+     */
+    sectorRows(survey, { sectors }) {
+        const rows = [];
+        for (let i = 0; i < sectors.length && rows.length < MOST_ROWS; i++) {
+            const from = sectors[i];
+            const lost = survey.marks.marks[from] === MARK.LOST;
+            while (lost && sectors[i + 1] === sectors[i] + 1 && survey.marks.marks[sectors[i + 1]] === MARK.LOST) i += 1;
+            const block = survey.block + from;
+            const range = from === sectors[i] ? String(block) : `${block}–${survey.block + sectors[i]}`;
+            const here = this.app.place.block >= block && this.app.place.block <= survey.block + sectors[i];
+            const open = element('button', { type: 'button', class: 'fold', 'data-block': block }, range);
+            const words = lost ? 'inside Mode 1: sync field or mode lost' : findingAt(this.app.calls, survey, from);
+            rows.push(element('tr', { class: 'sub', 'aria-selected': here ? 'true' : null }, element('td', { class: 'nowrap' }, open),
+                element('td'), element('td', { colspan: 2 }, words)));
+        }
+        const left = sectors.length - rows.length;
+        if (rows.length === MOST_ROWS && left > 0) {
+            rows.push(element('tr', { class: 'sub' }, element('td', { colspan: 4 }, `and ${counted(left)} more: “As text” has all`)));
+        }
+        return rows;
+    }
+
+    /** @param {{ first: number, last: number, kind: number }[]} runs */
+    drawRuns(runs) {
+        const head = element('tr', {}, element('th', {}, term('block', 'Blocks')), element('th', { class: 'n' }, 'Sectors'),
+            element('th', {}, 'Kind'), element('th', {}, 'Begins at'));
+        const rows = runs.slice(0, MOST_ROWS).map(({ first, last, kind }) => element('tr', {},
+            element('td', { class: 'num nowrap' }, element('button', { type: 'button', class: 'fold', 'data-block': first },
+                first === last ? String(first) : `${first}–${last}`)),
+            element('td', { class: 'n', 'data-l': 'sectors' }, counted(last - first + 1)),
+            element('td', {}, ...this.kindWords(first, kind)),
+            element('td', { class: 'num', 'data-l': 'begins at' }, addressOf(this.app, first))));
+        fill(this.body, element('table', {}, element('thead', {}, head), element('tbody', {}, ...rows)));
+        const left = runs.length - rows.length;
+        fill(this.foot, element('span', {}, left > 0 ? `and ${counted(left)} more: “As text” has all. ` : '',
+            'A run is a row of neighbours of one kind. Begins at: minutes, seconds, frames of 1/75 second.'));
+    }
+
+    /**
+     * The kind of a run, as the map has it: a few sectors of another kind inside Mode 1 have lost their sync or mode.
+     * @param {number} first block of the run
+     * @param {number} kind
+     */
+    kindWords(first, kind) {
+        const { survey } = this.app;
+        const lost = survey !== null && survey.marks.marks[first - survey.block] === MARK.LOST;
+        const look = lost ? SURVEY_LOOKS.find(it => it.mark === MARK.LOST) : undefined;
+        const [name, colour] = look ? [look.name, look.colour] : KINDS[kind];
+        return [dotOf(colour), name];
+    }
+
+    drawText() {
+        const choice = element('select', { class: 'slim', 'aria-label': 'Which text' },
+            ...['audit', 'list'].map(name => element('option', { value: name, selected: name === this.text }, `cdpatch ${name}`)));
+        choice.addEventListener('change', () => {
+            this.text = choice.value === 'list' ? 'list' : 'audit';
+            this.draw();
+        });
+        const lines = this.report().split('\n');
+        const shown = lines.slice(0, MOST_TEXT_LINES).join('\n');
+        const more = lines.length - 1 - MOST_TEXT_LINES;
+        fill(this.body, element('pre', { class: 'report', tabindex: 0, 'aria-label': `What cdpatch ${this.text} prints` }, shown,
+            more > 0 && `\n… ${countOf(more, 'more line')}: Copy and Save have all`));
+        fill(this.foot, choice, element('span', {}, 'The text that the program prints, to the byte.'));
+    }
+
+    /** @param {HTMLElement} target */
+    clicked(target) {
+        const { block, place } = target.dataset;
+        if (block !== undefined) this.app.goTo(Number(block));
+        if (place === undefined) return;
+        const first = Number(place);
+        if (!this.opened.delete(first)) this.opened.add(first);
+        this.draw();
+        const fold = /** @type {HTMLElement | null} */ (this.body.querySelector(`[data-place="${first}"]`));
+        if (fold) fold.focus();
+    }
+
+    /** Marks the row of the chosen sector. */
+    drawPlace() {
+        for (const open of /** @type {NodeListOf<HTMLElement>} */ (this.body.querySelectorAll('tr.sub [data-block]'))) {
+            const row = /** @type {Element} */ (open.closest('tr'));
+            row.setAttribute('aria-selected', String(Number(open.dataset.block) === this.app.place.block));
+        }
+    }
+}

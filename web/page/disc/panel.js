@@ -1,0 +1,151 @@
+// The panel Disc: the map and what was found on the left, a sector on the right.
+
+import { filesAt } from '../../core/iso/files.js';
+import { SecondCard } from '../second/index.js';
+import { button, element, fill, shownName } from '../ui/index.js';
+import { Findings } from './findings.js';
+import { Legend } from './legend.js';
+import { DiscMap } from './map.js';
+import { SectorCard } from './sector_card.js';
+import { addressOf, sectorWords } from './sector_text.js';
+
+/** @typedef {import('../app/state.js').App} App */
+
+/**
+ * @param {App} app
+ * @param {HTMLElement} panel
+ */
+export function mountDisc(app, panel) {
+    const disc = new DiscPanel(app);
+    panel.append(element('h1', { class: 'hide' }, 'Disc'), disc.part);
+    for (const name of /** @type {const} */ (['survey', 'panel', 'files'])) app.on(name, () => disc.drawMap());
+    app.on('surveyed', () => disc.findings.draw());
+    app.on('image', () => disc.begin());
+    app.on('place', ({ show, comes }) => disc.drawPlace(show, comes));
+    app.on('second', () => disc.second.begin());
+}
+
+class DiscPanel {
+    /** @param {App} app */
+    constructor(app) {
+        this.app = app;
+        this.map = new DiscMap({
+            spoken: sector => spokenOf(app, sector),
+            tip: sector => tipOf(app, sector),
+            choose: (sector, how) => this.choose(sector, how.focus),
+            goTo: () => this.sector.ask(),
+        });
+        this.legend = new Legend(alone => {
+            this.map.alone = alone;
+            this.drawMap();
+        });
+        this.findings = new Findings(app);
+        this.sector = new SectorCard(app);
+        this.words = element('span', { class: 'row' });
+        this.steps = element('span', { class: 'row' }, button('slim', () => this.map.chooseFinding(-1), '◂ Previous finding'),
+            button('slim', () => this.map.chooseFinding(1), 'Next finding ▸'));
+        const header = element('header', {}, element('h2', { id: 'map-title' }, 'Map of the disc'), this.map.per);
+        this.card = element('section', { class: 'card', 'aria-labelledby': 'map-title' }, header, this.legend.part, this.map.part,
+            element('div', { class: 'readout' }, this.words, this.steps));
+        this.left = element('div', { class: 'side' }, this.card, this.findings.part);
+        this.second = new SecondCard(app, () => this.drawMap());
+        this.right = element('div', { class: 'side' }, this.second.part, this.sector.part);
+        this.part = element('div', { class: 'disc-grid' }, this.left, this.right);
+    }
+
+    /** Another image is open, or none. */
+    begin() {
+        this.map.show(null);
+        this.sector.close();
+        this.findings.opened.clear();
+        this.findings.draw();
+    }
+
+    drawMap() {
+        const { survey } = this.app;
+        if (survey === null) return;
+        const pair = this.second.model();
+        const model = pair || survey.marks;
+        this.findings.hide(pair !== null);
+        this.map.show(model);
+        this.legend.show(model);
+        this.sector.part.hidden = this.app.second !== null && this.app.place.block < 0;
+        this.drawReadout();
+    }
+
+    /**
+     * @param {boolean} wanted whether the place is scrolled to
+     * @param {boolean} comes whether the panel was not shown before, so that the focus was elsewhere
+     */
+    drawPlace(wanted, comes) {
+        const { survey, place } = this.app;
+        if (survey === null || place.block < 0) return;
+        this.map.moveTo(place.block - survey.block);
+        this.sector.part.hidden = false;
+        this.findings.drawPlace();
+        this.sector.draw(true, wanted);
+        if (comes) this.sector.focus();
+        this.drawReadout();
+    }
+
+    /** What is known of the chosen sector. */
+    drawReadout() {
+        const { app } = this;
+        const { survey, place } = app;
+        this.steps.hidden = survey === null || survey.marks.findings() === 0;
+        this.words.hidden = survey === null || place.block < 0;
+        if (survey === null || place.block < 0) return fill(this.words);
+        const { kind, finding, bad } = sectorWords(app, survey, place.block - survey.block);
+        const file = fileWords(app, place.block);
+        return fill(this.words, element('b', {}, `Block ${place.block}`), element('span', {}, addressOf(app, place.block)),
+            element('span', {}, kind), finding !== '' && element('span', { class: bad ? 'bad-ink' : null }, finding),
+            file !== '' && element('span', { class: 'small' }, file));
+    }
+
+    /**
+     * A sector was chosen on the map. It is shown at once; the focus stays on the map unless it is asked for.
+     * @param {number} sector
+     * @param {boolean} focus
+     */
+    choose(sector, focus) {
+        const { survey } = this.app;
+        if (survey === null) return;
+        this.app.goTo(survey.block + sector);
+        if (focus) this.sector.focus();
+    }
+}
+
+/**
+ * What a screen reader says of a sector.
+ * @param {App} app
+ * @param {number} sector
+ */
+function spokenOf(app, sector) {
+    if (app.survey === null) return '';
+    const { kind, finding } = sectorWords(app, app.survey, sector);
+    return `Block ${app.survey.block + sector}, ${kind}${finding === '' ? '' : `, ${finding}`}`;
+}
+
+/**
+ * The file that a sector begins in, in words, or ''.
+ * @param {App} app
+ * @param {number} block
+ */
+function fileWords({ files }, block) {
+    const [file] = files === null ? [] : filesAt(files.files, block, 0);
+    return file ? `file ${shownName(file.path)}` : '';
+}
+
+/**
+ * @param {App} app
+ * @param {number} sector
+ */
+function tipOf(app, sector) {
+    const { survey } = app;
+    if (survey === null) return [''];
+    const block = survey.block + sector;
+    const { kind, finding, codes, damaged } = sectorWords(app, survey, sector);
+    const file = fileWords(app, block);
+    return [`Block ${block} · ${finding === '' ? kind : damaged ? 'damaged' : finding}`,
+        [...damaged ? [codes] : [], `address ${addressOf(app, block)}`].join(' · '), ...file === '' ? [] : [file]];
+}

@@ -1,0 +1,102 @@
+// Findings grouped into places, and a guess what each looks like.
+
+import { MARK } from '../app/index.js';
+
+/** @typedef {import('../app/marks.js').SurveyMarks} SurveyMarks */
+/** @typedef {{ first: number, last: number, sectors: number[], counts: Uint32Array }} Place sectors by their number in the image */
+
+/** How many sectors in a row without a finding end a place. */
+const PLACE_GAP = 700;
+
+/** The spiral of a disc in millimetres: its first radius, its pitch, and the length of a sector at 1.3 m/s. */
+const FIRST_RADIUS = 25;
+const PITCH = 0.0016;
+const SECTOR_LENGTH = 1300 / 75;
+
+/**
+ * The places of all findings.
+ * @param {SurveyMarks} model
+ * @returns {Place[]}
+ */
+export function placesOf({ marks, known }) {
+    /** @type {Place[]} */
+    const places = [];
+    for (let i = 0; i < known; i++) {
+        if (marks[i] < MARK.ADDRESS) continue;
+        const before = places[places.length - 1];
+        const joined = before && i - before.last < PLACE_GAP;
+        const place = joined ? before : { first: i, last: i, sectors: [], counts: new Uint32Array(MARK.EDC + 1) };
+        if (!joined) places.push(place);
+        place.last = i;
+        place.sectors.push(i);
+        place.counts[marks[i]] += 1;
+    }
+    return places;
+}
+
+/**
+ * What was found at a place, in a few words, with the mark that stands for it.
+ * @param {Place} place
+ */
+export function placeWords({ counts }) {
+    const damage = counts[MARK.EDC] + counts[MARK.PARITY];
+    const words = [];
+    if (counts[MARK.EDC] > 0) words.push(counts[MARK.PARITY] > 0 ? 'data and parity' : 'data');
+    else if (counts[MARK.PARITY] > 0) words.push('only parity');
+    if (counts[MARK.LOST] > 0) words.push(`${counts[MARK.LOST]} × sync or mode lost`);
+    if (counts[MARK.ADDRESS] > 0) words.push(damage + counts[MARK.LOST] > 0 ? `${counts[MARK.ADDRESS]} × address` : 'address');
+    const mark = [MARK.EDC, MARK.PARITY, MARK.LOST, MARK.ADDRESS].find(it => counts[it] > 0) || MARK.ADDRESS;
+    return { mark, words: words.join(', ') };
+}
+
+/**
+ * The base that the addresses say, if by the present one no sector of Mode 1 has the address of its block; else null.
+ * @param {{ base: number, addressed: number | null }} image
+ * @param {SurveyMarks} marks
+ */
+export function otherBase({ base, addressed }, marks) {
+    return marks.isElsewhere() && addressed !== null && addressed >= 0 && addressed !== base ? addressed : null;
+}
+
+/**
+ * A guess from the distances, for people.
+ * @param {Place} place
+ * @param {boolean} isElsewhere whether no sector has the address of its block
+ */
+export function placeGuess(place, isElsewhere) {
+    const { counts, sectors, first, last } = place;
+    const count = sectors.length;
+    const inRow = count === last - first + 1;
+    if (isElsewhere) return 'another base?';
+    if (counts[MARK.ADDRESS] === count) return inRow && count > 1 ? `${count} in a row: spliced by hand? not damage` : 'not damage';
+    if (count === 1) return counts[MARK.PARITY] === 1 ? 'a single sector; its user data fit' : 'a single sector';
+    if (inRow && count >= 8) return `${count} in a row: perhaps on purpose (copy protection)`;
+    return scratchGuess(place) || (counts[MARK.PARITY] === count ? 'single sectors; the user data fit' : 'single sectors');
+}
+
+/**
+ * A scratch crosses each turn of the spiral once, so that its distances are alike, or a turn long.
+ * @param {Place} place
+ */
+function scratchGuess({ sectors, first }) {
+    if (sectors.length < 8) return '';
+    const distances = sectors.slice(1).map((sector, i) => sector - sectors[i]).sort((a, b) => a - b);
+    const median = distances[distances.length >> 1];
+    const alike = distances.filter(it => Math.abs(it - median) <= 1).length;
+    if (median > 3 && 2 * alike > distances.length) return `a scratch: every ${ordinal(median)} sector`;
+    const turns = (sectors[sectors.length - 1] - first) / sectorsATurn(sectors[sectors.length >> 1]);
+    const perTurn = sectors.length / turns;
+    return perTurn > 0.2 && perTurn < 1.5 && turns > 8 ? 'a scratch: about one sector in each turn of the disc' : '';
+}
+
+/** @param {number} sector */
+function sectorsATurn(sector) {
+    const radius = Math.sqrt(FIRST_RADIUS ** 2 + PITCH * SECTOR_LENGTH * sector / Math.PI);
+    return 2 * Math.PI * radius / SECTOR_LENGTH;
+}
+
+/** @param {number} number */
+function ordinal(number) {
+    const ends = number % 100 > 10 && number % 100 < 14 ? '' : ['', 'st', 'nd', 'rd'][number % 10];
+    return `${number}${ends || 'th'}`;
+}

@@ -1,0 +1,38 @@
+// The bytes of one sector: those of the file, and those that it has after the script.
+
+import { readBytes } from '../../core/bytes.js';
+import { applyPatches } from '../../core/script/patches.js';
+import { SECTOR_SIZE } from '../../core/sectors/sector.js';
+
+/** @typedef {import('../app/state.js').App} App */
+/** @typedef {import('../app/state.js').Image} Image */
+
+/**
+ * A sector of the open image, before the script and after it. Damage is carried, so that each patch shows.
+ * @param {App} app
+ * @param {Image} image
+ * @param {number} block
+ */
+export async function sectorBytes(app, { reader, base }, block) {
+    const at = (block - base) * SECTOR_SIZE;
+    const old = await readBytes(reader, at, SECTOR_SIZE);
+    const script = app.script.scriptNear(block);
+    if (script === '') return { old, fresh: old };
+    const { pieces } = await applyPatches(app.calls, reader, { text: new TextEncoder().encode(script), bases: [] }, { base, carry: true });
+    for (const piece of pieces) {
+        if (!('bytes' in piece) || at < piece.at || at >= piece.at + piece.bytes.length) continue;
+        return { old, fresh: piece.bytes.subarray(at - piece.at, at - piece.at + SECTOR_SIZE) };
+    }
+    return { old, fresh: old };
+}
+
+/**
+ * A sector of the second image, null if there is none of the same length.
+ * @param {App} app
+ * @param {Image} image
+ * @param {number} block
+ */
+export async function secondBytes({ second }, { reader, base }, block) {
+    if (second === null || second.reader.size !== reader.size) return null;
+    return readBytes(second.reader, (block - base) * SECTOR_SIZE, SECTOR_SIZE);
+}

@@ -1,0 +1,280 @@
+// The card of one sector: what is wrong with it in words, its fields, its bytes, and the byte that is chosen.
+
+import { filesAt } from '../../core/iso/files.js';
+import { SECTOR_KIND } from '../../core/module/records.js';
+import { SECTOR_SIZE, USER_OFFSET, USER_SIZE } from '../../core/sectors/sector.js';
+import { isSound } from '../../core/sectors/survey.js';
+import { bindEncodings, chosenEncoding, encodingLabel } from '../text/index.js';
+import { announce, byId, counted, element, fill, nameOf, oneStop, showFailure, term } from '../ui/index.js';
+import { crossingsOf } from './crossings.js';
+import { HexView, USER_END, digitsOf, placeName } from './hex_view.js';
+import { secondBytes, sectorBytes } from './sector_bytes.js';
+import { sectorFault } from './sector_fault.js';
+import { fieldsOf } from './sector_fields.js';
+import { Typing } from './typing.js';
+
+/** @typedef {import('../app/state.js').App} App */
+/** @typedef {import('./hex_view.js').Field} Field */
+/** @typedef {import('./hex_view.js').Shown} Shown */
+
+export class SectorCard {
+    /** @param {App} app */
+    constructor(app) {
+        this.app = app;
+        this.typing = new Typing(app);
+        this.digit = '';
+        this.number = 0;
+        this.drawn = 0;
+        this.wantsFocus = false;
+        this.isOld = false;
+        this.view = new HexView((at, event) => this.pressed(at, event));
+        this.title = element('h2', { id: 'sector-title' });
+        this.said = element('div');
+        this.fields = element('div', { class: 'fields', role: 'group', 'aria-label': 'Fields: press one to go there' });
+        this.foot = element('p', { class: 'foot', 'aria-live': 'polite' });
+        this.goTo = element('input', { type: 'text', id: 'go-to', class: 'num slim', inputmode: 'numeric', autocomplete: 'off' });
+        const form = element('form', { submit: (/** @type {Event} */ event) => this.goToBlock(event) },
+            element('label', { class: 'row small' }, 'Go to block', this.goTo));
+        this.noBlock = element('div');
+        this.choice = element('select', { class: 'slim' });
+        bindEncodings(app, this.choice, ({ hasCharacters }) => hasCharacters);
+        this.body = element('div', {}, this.said, this.fields, this.view.part, this.foot);
+        this.empty = element('p', { class: 'pad quiet' }, 'Click the map, or a block in the findings. With the keyboard: ',
+            element('kbd', {}, 'Tab'), ' to the map, then the arrows and ', element('kbd', {}, 'Enter'), '.');
+        this.part = element('section', { class: 'card', 'aria-labelledby': 'sector-title' }, element('header', {}, this.title, form,
+            element('label', { class: 'row small' }, 'Text', this.choice)), this.noBlock, this.empty, this.body);
+        oneStop(this.fields, 'button');
+        this.view.hex.addEventListener('moved', () => {
+            this.digit = '';
+            this.drawFoot();
+        });
+        for (const name of /** @type {const} */ (['encoding', 'script', 'second', 'panel'])) {
+            app.on(name, () => this.redraw(name !== 'panel'));
+        }
+        app.on('files', () => this.drawFoot());
+        this.close();
+    }
+
+    /** Takes the focus to the bytes, now or as soon as they are there. */
+    focus() {
+        this.wantsFocus = true;
+        if (!this.body.hidden && this.number === this.drawn) this.takeFocus();
+    }
+
+    /** Takes the focus to the field for a block. */
+    ask() {
+        this.part.hidden = false;
+        this.goTo.focus();
+    }
+
+    takeFocus() {
+        this.wantsFocus = false;
+        this.view.hex.focus();
+        this.part.scrollIntoView({ block: 'nearest' });
+    }
+
+    close() {
+        this.sayBlock('');
+        fill(this.title, 'No sector is open');
+        this.empty.hidden = false;
+        this.body.hidden = true;
+    }
+
+    /** @param {boolean} changed whether it may look another way. It is read again only when it is seen. */
+    redraw(changed) {
+        this.isOld = this.isOld || changed;
+        if (this.isOld && this.app.panel === 'disc') this.draw(false);
+    }
+
+    /**
+     * Shows the chosen place.
+     * @param {boolean} moved whether it is another one than before
+     * @param {boolean} [wanted] whether it is scrolled to
+     */
+    async draw(moved, wanted = false) {
+        const { app } = this;
+        const { image, place } = app;
+        if (image === null || place.block < 0) return this.close();
+        const number = ++this.number;
+        this.isOld = false;
+        try {
+            const { old, fresh } = await sectorBytes(app, image, place.block);
+            const other = await secondBytes(app, image, place.block);
+            if (number !== this.number || image !== app.image) return undefined;
+            this.show(old, fresh, other, moved);
+            if (wanted) this.part.scrollIntoView({ block: 'nearest' });
+            this.drawn = number;
+            if (this.wantsFocus) this.takeFocus();
+        } catch (error) {
+            showFailure(error);
+        }
+        return undefined;
+    }
+
+    /**
+     * @param {Uint8Array} old
+     * @param {Uint8Array} fresh
+     * @param {Uint8Array | null} other
+     * @param {boolean} moved
+     */
+    show(old, fresh, other, moved) {
+        const { app } = this;
+        const { block, offset } = app.place;
+        const kind = app.calls.kind(old);
+        const mode1 = kind === SECTOR_KIND.MODE1;
+        const found = mode1 ? crossingsOf(app.calls, old) : null;
+        this.empty.hidden = true;
+        this.body.hidden = false;
+        fill(this.title, 'Sector of ', term('block', 'block'), ` ${block}`);
+        this.goTo.value = String(block);
+        this.sayBlock('');
+        fill(this.said, sectorFault(app, block, old, found));
+        const fields = fieldsOf(kind);
+        if (moved) this.drawFields(fields);
+        this.view.show({ block, old, bytes: fresh, other, mode1, fields, crossings: new Set(found ? found.crossings : []),
+            encoding: chosenEncoding(app), label: encodingLabel(app.encoding) });
+        if (moved) {
+            const differs = other ? old.findIndex((byte, i) => byte !== other[i]) : -1;
+            const first = differs >= 0 ? differs : found && found.crossings[0] || (mode1 ? USER_OFFSET : 0);
+            this.view.moveTo(offset >= 0 ? USER_OFFSET + offset : first);
+            this.view.reveal(this.view.at, true);
+        }
+        this.drawFoot();
+    }
+
+    /** @param {Field[]} fields */
+    drawFields(fields) {
+        fill(this.fields, ...fields.map(({ name, label, from, to }) => element('button', {
+            type: 'button', class: `x-${name}`, click: () => {
+                this.view.moveTo(from);
+                this.view.reveal(from, true);
+            },
+        }, label, element('small', {}, `${from}–${to - 1}`))));
+    }
+
+    drawFoot() {
+        const { app, view } = this;
+        const { shown, at } = view;
+        if (shown === null || app.image === null) return;
+        const byte = shown.bytes[at];
+        const isUser = shown.mode1 && at >= USER_OFFSET && at < USER_END;
+        const typed = this.digit === '' ? `${digitsOf(byte)} = ${byte}` : `${this.digit}_`;
+        const parts = [element('b', {}, placeName(shown, at)), isUser && element('span', {}, `byte ${at} of the sector`),
+            element('span', { class: 'mono' }, typed), isUser && this.fileAt(at - USER_OFFSET)];
+        if (shown.bytes[at] !== shown.old[at]) {
+            parts.push(element('span', { class: 'good-ink' }, `changed by the script, ${digitsOf(shown.old[at])} in the file`));
+        }
+        if (shown.other !== null && shown.other[at] !== shown.old[at]) {
+            parts.push(element('b', {}, `${digitsOf(shown.other[at])} in the second image`));
+        }
+        const hint = isUser ? `Type to change bytes: each change becomes a line of the script, the file stays as it is.${this.damageHint()}`
+            : shown.mode1 ? 'Only user data can be typed over. EDC and parity follow from them.' : 'Only Mode 1 sectors can be changed.';
+        fill(this.foot, ...parts, element('span', {}, hint));
+    }
+
+    /** What becomes of bytes that are typed in a damaged sector. */
+    damageHint() {
+        const { shown } = this.view;
+        if (shown === null || isSound(this.app.calls.survey(shown.old, 0), 0)) return '';
+        return ' This sector is damaged: Check refuses the change, unless damaged sectors are patched too (carry), or a rebuild in ' +
+            'the script comes before it.';
+    }
+
+    /** @param {number} offset */
+    fileAt(offset) {
+        const { files, place } = this.app;
+        if (files === null) return false;
+        const [file] = filesAt(files.files, place.block, offset);
+        if (file === undefined) return element('span', {}, 'in no file');
+        const position = (place.block - file.block) * USER_SIZE + offset;
+        return element('span', {}, 'file ', element('span', { class: 'mono' }, nameOf(file.path)), ` at ${counted(position)}`);
+    }
+
+    /** @param {Event} event */
+    goToBlock(event) {
+        event.preventDefault();
+        const { image } = this.app;
+        const block = Number(this.goTo.value.trim().replace(/,/g, ''));
+        const isIn = image !== null && Number.isInteger(block) && block >= image.base && block < image.base + image.sectors;
+        this.sayBlock(isIn || image === null ? '' : `The blocks of this image are ${image.base} to ${image.base + image.sectors - 1}.`);
+        if (isIn) this.app.goTo(block);
+    }
+
+    /** @param {string} fault of the block that was typed, or '' */
+    sayBlock(fault) {
+        this.goTo.setAttribute('aria-invalid', String(fault !== ''));
+        fill(this.noBlock, fault !== '' && element('p', { class: 'say bad thin', role: 'alert' }, fault));
+    }
+
+    /**
+     * What keys do that do not move within the sector.
+     * @param {number} at
+     * @param {KeyboardEvent} event
+     */
+    pressed(at, event) {
+        if (event.ctrlKey || event.metaKey) {
+            if (event.key.toLowerCase() !== 'z' || event.shiftKey) return;
+            this.takeBack();
+        } else if (event.key === 'Escape') {
+            if (this.digit === '') byId('map').focus();
+            this.digit = '';
+            this.drawFoot();
+        } else if (event.key === 'PageDown' || event.key === 'PageUp') {
+            this.page(at, event.key === 'PageDown' ? 1 : -1);
+        } else if (/^[0-9a-fA-F]$/.test(event.key)) {
+            this.type(at, event.key.toUpperCase());
+        } else {
+            return;
+        }
+        event.preventDefault();
+    }
+
+    /**
+     * A screen on or back; past the end, the next sector.
+     * @param {number} at
+     * @param {number} step
+     */
+    page(at, step) {
+        const { app, view } = this;
+        const to = at + step * view.screen();
+        const ends = step > 0 ? at >= SECTOR_SIZE - view.columns : at < view.columns;
+        if (!ends) return view.moveTo(to);
+        const block = app.place.block + step;
+        if (app.image === null || block < app.image.base || block >= app.image.base + app.image.sectors) return undefined;
+        return app.goTo(block);
+    }
+
+    /** Takes back the digit or the bytes that were typed last. */
+    takeBack() {
+        const { app, digit, typing } = this;
+        this.digit = '';
+        if (digit !== '') return this.drawFoot();
+        const done = app.takeBackBytes();
+        if (done && typing.block === app.place.block) this.view.moveTo(USER_OFFSET + typing.offset);
+        return announce(done ? 'The bytes that were typed last are taken back.' : 'The last change of the script was not typed here.');
+    }
+
+    /**
+     * Types one digit of a byte.
+     * @param {number} at
+     * @param {string} digit
+     */
+    type(at, digit) {
+        const { shown } = this.view;
+        if (shown === null || !shown.mode1 || at < USER_OFFSET || at >= USER_END) {
+            announce('Only the user data of Mode 1 sectors can be typed over.');
+            return;
+        }
+        if (this.digit === '') {
+            this.digit = digit;
+            return void this.drawFoot();
+        }
+        const byte = parseInt(this.digit + digit, 16);
+        this.digit = '';
+        const line = this.typing.type(shown.block, at - USER_OFFSET, byte, shown.bytes[at]);
+        announce(`In the script: ${line}`);
+        shown.bytes = shown.bytes.slice();
+        shown.bytes[at] = byte;
+        this.view.moveTo(Math.min(at + 1, USER_END - 1));
+    }
+}

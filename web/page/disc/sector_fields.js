@@ -1,0 +1,33 @@
+// The fields of a sector, as the sector view shows them.
+
+import { DIAGONALS } from '../../core/module/numbers.js';
+import { SECTOR_KIND } from '../../core/module/records.js';
+import { FIELDS as AT, SECTOR_SIZE } from '../../core/sectors/sector.js';
+
+/** @typedef {import('./hex_view.js').Field} Field */
+
+// Two bytes for each diagonal.
+const Q_PARITY = SECTOR_SIZE - 2 * DIAGONALS;
+
+/** @type {Field[]} */
+const MODE1_FIELDS = [
+    { name: 'sync', label: 'sync', from: AT.sync, to: AT.header }, { name: 'header', label: 'header', from: AT.header, to: AT.user },
+    { name: 'user', label: 'user data', from: AT.user, to: AT.edc }, { name: 'edc', label: 'EDC', from: AT.edc, to: AT.zeros },
+    { name: 'zeros', label: 'zeros', from: AT.zeros, to: AT.parity }, { name: 'p', label: 'P parity', from: AT.parity, to: Q_PARITY },
+    { name: 'q', label: 'Q parity', from: Q_PARITY, to: SECTOR_SIZE },
+];
+
+/** @type {Field[]} */
+const DATA_FIELDS = [...MODE1_FIELDS.slice(0, 2), { name: 'user', label: 'all else', from: AT.user, to: SECTOR_SIZE }];
+
+/** @type {Field[]} */
+const PLAIN_FIELDS = [{ name: 'user', label: 'bytes', from: 0, to: SECTOR_SIZE }];
+
+/**
+ * The fields of a sector of a kind.
+ * @param {number} kind
+ */
+export function fieldsOf(kind) {
+    if (kind === SECTOR_KIND.MODE1) return MODE1_FIELDS;
+    return kind === SECTOR_KIND.NOSYNC ? PLAIN_FIELDS : DATA_FIELDS;
+}

@@ -1,0 +1,60 @@
+// A sector in words: what it is, and what was found in it, by the program's own text.
+
+import { RECORD, RECORD_SIZE, SECTOR_KIND } from '../../core/module/records.js';
+import { addressText } from '../../core/sectors/sector.js';
+import { findingOf } from '../../core/sectors/survey.js';
+import { MARK } from '../app/index.js';
+import { counted } from '../ui/index.js';
+
+/** @typedef {import('../../core/module/calls.js').Calls} Calls */
+/** @typedef {import('../app/state.js').App} App */
+/** @typedef {import('../app/state.js').Surveyed} Surveyed */
+
+/** @type {Record<number, string>} */
+const KIND_WORDS = {
+    [SECTOR_KIND.NOSYNC]: 'no sync field: audio, or nothing that is known', [SECTOR_KIND.MODE0]: 'Mode 0', [SECTOR_KIND.MODE1]: 'Mode 1',
+    [SECTOR_KIND.MODE2]: 'Mode 2', [SECTOR_KIND.OTHER]: 'an unknown mode',
+};
+
+/**
+ * What `cdpatch audit` prints of a sector after its block, or ''.
+ * @param {Calls} calls
+ * @param {Surveyed} survey
+ * @param {number} sector
+ */
+export function findingAt(calls, { block, records }, sector) {
+    return findingOf(calls, block + sector, records.subarray(sector * RECORD_SIZE, (sector + 1) * RECORD_SIZE));
+}
+
+/**
+ * What is known of a sector, in words: its kind, its finding, and what `audit` has of that.
+ * @param {App} app
+ * @param {Surveyed} survey
+ * @param {number} sector
+ */
+export function sectorWords(app, survey, sector) {
+    if (sector >= survey.known) return { kind: 'not read yet', finding: '', codes: '', bad: false, damaged: false };
+    const kind = KIND_WORDS[survey.records[sector * RECORD_SIZE + RECORD.KIND]];
+    const mark = survey.marks.marks[sector];
+    const codes = mark === MARK.LOST ? 'inside Mode 1: sync field or mode lost' : findingAt(app.calls, survey, sector);
+    const damaged = mark === MARK.EDC || mark === MARK.PARITY;
+    return { kind, finding: damaged ? `damaged: ${codes}` : codes, codes, bad: codes !== '', damaged: damaged || mark === MARK.LOST };
+}
+
+/**
+ * The address that a block has, or '' if there is none.
+ * @param {App} app
+ * @param {number} block
+ */
+export function addressOf({ calls }, block) {
+    const address = calls.address(block);
+    return address === null ? '' : addressText(address);
+}
+
+/**
+ * All sectors of Mode 1, by their number.
+ * @param {number} count
+ */
+export function modeOneSectors(count) {
+    return count === 1 ? 'the Mode 1 sector' : `all ${counted(count)} Mode 1 sectors`;
+}

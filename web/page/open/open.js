@@ -1,0 +1,213 @@
+// Opening files: by the button, or dropped on the page. What each file is decides what becomes of it.
+
+import { readBytes } from '../../core/bytes.js';
+import { dataTrack, discFault, openDisc } from '../../core/disc/disc.js';
+import { natureOf } from '../../core/disc/file_type.js';
+import { FAULT, failedBy } from '../../core/faults.js';
+import { MOST_SCRIPT_BYTES } from '../../core/module/records.js';
+import { isMeantAsScript, isScript } from '../../core/script/script_start.js';
+import { MOST_SECTORS, SECTOR_SIZE, imageTooLong, sectorCount } from '../../core/sectors/sector.js';
+import { textOfFile } from '../../core/texts/encodings.js';
+import { byId, clearNotices, copyable, counted, element, messageParts, nameOf, namesOf, refuseWhileSaving } from '../ui/index.js';
+import { showFailure, showNotice } from '../ui/index.js';
+import { exampleFile } from './example.js';
+import { fileReader } from './file_reader.js';
+import { readImage } from './survey_image.js';
+
+/** @typedef {import('../../core/disc/disc.js').Disc} Disc */
+/** @typedef {import('../app/state.js').App} App */
+/** @typedef {import('../app/state.js').Image} Image */
+
+const SCRIPT_START = 1 << 16;
+
+/** @param {App} app */
+export function mountOpening(app) {
+    app.serve({ open: files => openFiles(app, files) });
+    const input = /** @type {HTMLInputElement} */ (byId('files'));
+    const choose = () => input.click();
+    byId('open-files').addEventListener('click', choose);
+    byId('open-other').addEventListener('click', choose);
+    byId('open-example').addEventListener('click', () => app.open([exampleFile(app.calls)]));
+    input.addEventListener('change', () => {
+        const files = [...input.files || []];
+        input.value = '';
+        app.open(files);
+    });
+    listenForDrops(app);
+}
+
+/** @param {App} app */
+function listenForDrops(app) {
+    const over = (/** @type {boolean} */ is) => { document.body.classList.toggle('over', is); };
+    document.addEventListener('dragover', event => {
+        event.preventDefault();
+        over(true);
+    });
+    document.addEventListener('dragleave', event => over(event.relatedTarget !== null));
+    document.addEventListener('drop', event => {
+        event.preventDefault();
+        over(false);
+        app.open([...(event.dataTransfer && event.dataTransfer.files) || []]);
+    });
+}
+
+/**
+ * @param {App} app
+ * @param {File[]} files
+ */
+async function openFiles(app, files) {
+    if (files.length === 0) return;
+    clearNotices();
+    try {
+        const others = [];
+        for (const file of files) {
+            if (!await isTaken(app, file)) others.push(file);
+        }
+        if (others.length > 0) await openImages(app, others);
+    } catch (error) {
+        await showOpeningFailure(app, files, error);
+    }
+}
+
+/**
+ * Whether a file is a script, or something else than an image that a panel takes.
+ * @param {App} app
+ * @param {File} file
+ */
+async function isTaken(app, file) {
+    for (const take of app.takers) {
+        if (await take(file)) return true;
+    }
+    const start = file.size > MOST_SCRIPT_BYTES ? new Uint8Array(0) : await fileReader(file).read(0, SCRIPT_START);
+    const text = new TextEncoder().encode(textOfFile(start));
+    if (!isScript(app.calls, text) && !isMeantAsScript(app.calls, text)) return false;
+    // The program reads no text with a mark of its encoding: what stands in the editor is in no file then.
+    const marked = MARKS.find(({ bytes }) => bytes.every((byte, i) => byte === start[i]));
+    app.setScript(textOfFile(await readBytes(fileReader(file), 0, file.size)), file.name, !marked);
+    app.showPanel('script');
+    if (marked) {
+        showNotice('warn', ['This file is ', marked.name, ', which cdpatch does not read: ', nameOf(file.name)],
+            'It was read here all the same. Save the script: then it is in plain UTF-8.');
+    }
+    return true;
+}
+
+/** How editors mark the encoding of a text. */
+const MARKS = [{ name: 'UTF-8 with a mark', bytes: [0xEF, 0xBB, 0xBF] }, { name: 'UTF-16', bytes: [0xFF, 0xFE] },
+    { name: 'UTF-16', bytes: [0xFE, 0xFF] }];
+
+/**
+ * Opens an image, or two; as the second image if one is open.
+ * @param {App} app
+ * @param {File[]} files
+ */
+async function openImages(app, files) {
+    const names = files.map(file => file.name);
+    if (refuseWhileSaving(app, names)) return;
+    const different = new Set(names.map(name => name.toLowerCase())).size;
+    if (different < names.length) throw discFault('Two of these files have one name. Open one of them.');
+    const two = files.length === 2 && (await Promise.all(files.map(file => isRawImage(app, file)))).every(it => it);
+    if (two && app.image !== null) {
+        throw discFault(`An image is open already: ${app.image.name}. Open one more, ${names.join(' or ')}, to compare it.`);
+    }
+    const images = [];
+    for (const group of two ? [[files[0]], [files[1]]] : [files]) images.push(await openedImage(app, group));
+    if (app.image === null) {
+        readImage(app, images.shift() || null);
+        app.showPanel('disc');
+        byId('map').focus();
+    }
+    if (images.length > 0) {
+        app.setSecond(images[0]);
+        app.showPanel('disc');
+    }
+    sayLeftOut(files, two ? null : images[0] || app.image);
+}
+
+/**
+ * Says which files were left out, since the cue sheet that was opened does not name them.
+ * @param {File[]} files
+ * @param {Image | null} image
+ */
+function sayLeftOut(files, image) {
+    if (image === null || image.from === '') return;
+    const taken = [image.from, ...image.disc.files.map(({ name }) => name)];
+    const names = files.map(file => file.name).filter(name => !taken.includes(name));
+    if (names.length === 0) return;
+    showNotice('warn', ['Not opened: ', ...namesOf(names), '.'], 'The cue sheet does not name ', names.length === 1 ? 'it: ' : 'them: ',
+        nameOf(image.from), '.');
+}
+
+/**
+ * @param {App} app
+ * @param {File} file
+ */
+async function isRawImage({ calls }, file) {
+    return (await natureOf(calls, fileReader(file))).kind === 'raw';
+}
+
+/**
+ * @param {App} app
+ * @param {File[]} files
+ */
+async function openedImage(app, files) {
+    const disc = await openDisc(app.calls, files.map(file => ({ name: file.name, reader: fileReader(file) })));
+    const sheet = files.find(file => file.name === disc.sheet);
+    return imageOfTrack(disc, sheet ? textOfFile(await readBytes(fileReader(sheet), 0, sheet.size)) : '', null);
+}
+
+/**
+ * The image in which a track of a disc lies: the one of a number, or the first with data; of a disc of audio, the first that is open.
+ * @param {Disc} disc
+ * @param {string} sheet
+ * @param {number | null} number
+ * @param {Map<string, string>} [renamed] those of its files that were saved patched
+ * @returns {Image}
+ */
+export function imageOfTrack(disc, sheet, number, renamed = new Map()) {
+    const { image, part, number: own } = (number === null && audioTrack(disc)) || dataTrack(disc, number);
+    if (imageTooLong(image.reader.size)) {
+        throw discFault(`An image has at most ${counted(MOST_SECTORS)} sectors, and this one has more: ${image.name}.`);
+    }
+    return { ...image, part, from: disc.sheet || '', sheet, disc, number: own, sha1: '', crc32: '', renamed };
+}
+
+/**
+ * The first track with bytes of a disc that has no data, to be looked at; of other discs null.
+ * @param {Disc} disc
+ */
+function audioTrack({ files, tracks }) {
+    const track = tracks.find(it => it.file >= 0 && it.sectors !== null);
+    if (!track || tracks.some(it => it.image !== null || !['', 'AUDIO'].includes(it.type))) return null;
+    const { name, reader } = files[track.file];
+    const image = { name, reader, base: 0, addressed: null, sectors: sectorCount(reader.size), tail: reader.size % SECTOR_SIZE };
+    return { number: track.number, image, part: image };
+}
+
+/**
+ * Says why files were not opened, with the command that makes a raw image of a CHD.
+ * @param {App} app
+ * @param {File[]} files
+ * @param {unknown} error
+ */
+async function showOpeningFailure(app, files, error) {
+    const kinds = files.map(file => natureOf(app.calls, fileReader(file)).then(({ kind }) => kind, () => 'unknown'));
+    const packed = files[failedBy(error, FAULT.DISC, FAULT.MISSING_FILES) ? (await Promise.all(kinds)).indexOf('chd') : -1];
+    if (packed) {
+        return showNotice('bad', ['A compressed image (CHD), which cdpatch cannot read: ', nameOf(packed.name)],
+            'Make a raw image of it first, in a terminal. Then open the new .cue and .bin here.', ...commandFor(packed.name));
+    }
+    if (failedBy(error, FAULT.MISSING_FILES)) return showFailure(error);
+    const names = [...files.map(file => file.name), app.image ? app.image.name : ''];
+    return showNotice('bad', 'Not opened.', ...messageParts(error, names));
+}
+
+/**
+ * The command that makes a raw image of a CHD. A name stands in it only if no shell of any system reads more in it than a name.
+ * @param {string} name
+ */
+function commandFor(name) {
+    const plain = /^[\p{L}\p{N}_(][\p{L}\p{N} ._()[\]-]*$/u.test(name);
+    const rename = 'Rename it to disc.chd before that: a terminal may read a part of its name as a command.';
+    return [!plain && element('p', {}, rename), ...copyable(`chdman extractcd -i "${plain ? name : 'disc.chd'}" -o disc.cue -ob disc.bin`)];
+}

@@ -1,0 +1,7 @@
+// Patchers, as players see them, and what they are made of.
+
+export { mountPatchers } from './opened_patcher.js';
+export { pageSource, publishedSource } from './own_text.js';
+export { patcherText } from './patcher.js';
+export { isImageName, isPlainSheet, isSeen } from './patcher_head.js';
+export { showPlayer } from './show.js';

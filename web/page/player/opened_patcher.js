@@ -1,0 +1,119 @@
+// Patchers that are opened: this page, if data stand after its last tag, or a file that is dropped on it.
+
+import { natureOf } from '../../core/disc/file_type.js';
+import { isScript } from '../../core/script/script_start.js';
+import { releaseOf } from '../app/index.js';
+import { fileReader } from '../open/index.js';
+import { byId, clearNotices, element, nameOf, notice, refuseWhileSaving, sentence, showNotice } from '../ui/index.js';
+import { pageSource } from './own_text.js';
+import { comparedWithPage, readPatcherText } from './patcher.js';
+import { showPlayer } from './show.js';
+
+/** @typedef {import('../app/state.js').App} App */
+/** @typedef {import('../ui/notices.js').Tone} Tone */
+/** @typedef {ReturnType<typeof comparedWithPage>} Compared */
+
+const LARGEST_PATCHER = 1 << 28;
+/** A page says in its first bytes that it is one, if its name does not. */
+const PAGE_START = 1 << 16;
+const PAGE_NAME = /\.(?:[xsd]?html?|xht|svgz?|mht|mhtml|xml)$/i;
+const PAGE_MARK = /<script\b|<!doctype html|<html\b|<plaintext hidden id="data">/i;
+/** Files that no browser opens as a page, whatever stands in them. */
+const IMAGES = ['raw', 'iso', 'subchannels', 'wave'];
+
+/** @param {App} app */
+export async function mountPatchers(app) {
+    app.addTaker(file => takePatcher(app, file));
+    await wholeDocument();
+    const text = byId('data').textContent || '';
+    if (text.trim() === '') return;
+    try {
+        showPlayer(app, await readPatcherText(app.calls, text), { note: null, back: null });
+    } catch (error) {
+        showNotice('bad', 'This patcher cannot be used.', `${sentence(error)}. Get it again from where its author offers it.`);
+    }
+}
+
+/** Waits until the browser has all of this page: the data of a patcher stand after the script, and come later. */
+async function wholeDocument() {
+    if (document.readyState !== 'loading') return;
+    showNotice('plain', 'The rest of this page is still being loaded.', 'If it is a patcher, it opens then.');
+    await new Promise(done => document.addEventListener('DOMContentLoaded', done, { once: true }));
+    clearNotices();
+}
+
+/**
+ * Whether a file is a page. The bytes of a patcher are compared with this page, and only its data are read.
+ * @param {App} app
+ * @param {File} file
+ */
+async function takePatcher(app, file) {
+    if (!await isPage(app, file)) return false;
+    if (refuseWhileSaving(app, [file.name])) return true;
+    const compared = file.size > LARGEST_PATCHER ? null : comparedWithPage(new Uint8Array(await file.arrayBuffer()), pageSource(app.calls));
+    const release = compared === null || compared.same ? '' : await releaseOf(compared.program);
+    if (compared === null) {
+        say('bad', 'Not this cdpatch', file, 'It is a page, and no patcher of cdpatch. A browser that opens it may run what is in it.');
+    } else if (compared.text.trim() === '') sayWithoutPatch(compared, release, file);
+    else await showCompared(app, compared, release, file);
+    return true;
+}
+
+/**
+ * @param {App} app
+ * @param {File} file
+ */
+async function isPage(app, file) {
+    if (PAGE_NAME.test(file.name)) return true;
+    const bytes = new Uint8Array(await file.slice(0, PAGE_START).arrayBuffer());
+    const text = new TextDecoder('latin1').decode(bytes).replaceAll('\0', '');
+    return PAGE_MARK.test(text) && !isScript(app.calls, bytes) && !IMAGES.includes((await natureOf(app.calls, fileReader(file))).kind);
+}
+
+/**
+ * @param {Tone} tone
+ * @param {string} verdict
+ * @param {File} file
+ * @param {string} rest
+ */
+function say(tone, verdict, file, rest) {
+    showNotice(tone, [`${verdict}: `, nameOf(file.name)], rest);
+}
+
+/**
+ * @param {NonNullable<Compared>} compared
+ * @param {string} release
+ * @param {File} file
+ */
+function sayWithoutPatch({ same, text }, release, file) {
+    const whole = text === '\n';
+    if (same && whole) return say('good', 'This very page, byte for byte', file, 'It holds no patch.');
+    if (same) return say('warn', 'This page, and white space after it', file, 'It holds no patch.');
+    if (release && whole) return say('good', `cdpatch ${release}, byte for byte`, file, `${EARLIER} It holds no patch.`);
+    return say('warn', 'Not this cdpatch', file, 'It is another version, or it was changed. It holds no patch.');
+}
+
+const EARLIER = 'It is an earlier release.';
+/** What the comparison does not say. */
+const NO_WORD = 'The comparison says nothing of who made the patch, or of what it does.';
+
+/**
+ * @param {App} app
+ * @param {NonNullable<Compared>} compared
+ * @param {string} release
+ * @param {File} file
+ */
+async function showCompared(app, { same, text }, release, file) {
+    const name = nameOf(file.name);
+    try {
+        const data = await readPatcherText(app.calls, text);
+        const note = same ? notice('good', ['This cdpatch, byte for byte: ', name], `Only its patch was read. ${NO_WORD}`)
+            : release !== '' ? notice('good', [`cdpatch ${release}, byte for byte: `, name],
+                `${EARLIER} Only its patch was read: what works here is this page. ${NO_WORD}`)
+            : notice('warn', ['Not this cdpatch: ', name],
+                'It is another version, or it was changed. Only its patch was read: what works here is this page.');
+        showPlayer(app, data, { note: element('div', { id: 'compared' }, note), back: null });
+    } catch (error) {
+        showNotice('bad', ['This patcher cannot be used: ', name], `${sentence(error)}.`);
+    }
+}

@@ -1,0 +1,56 @@
+// The page's own text, of the parts that its document has: each is known by what it has, wherever it stands.
+
+import { Fault } from '../../core/faults.js';
+import { OWN } from '../app/index.js';
+import { checksum } from './patcher.js';
+
+/** @typedef {import('../../core/module/calls.js').Calls} Calls */
+
+const SCRIPT_HASH = /^sha256-[A-Za-z0-9+/]{43}=$/;
+const CHANGED = 'Something in this browser has changed this page, an extension perhaps. Turn it off for this page, and open the page again';
+
+/**
+ * @param {Calls} calls
+ * @param {string} text of a style
+ */
+function isOwnStyle(calls, text) {
+    const bytes = new TextEncoder().encode(text);
+    return bytes.length === OWN.style.size && checksum(calls, bytes) === OWN.style.sha1;
+}
+
+/** @param {string} text of a policy */
+function isOwnPolicy(text) {
+    const [before, after] = OWN.policy;
+    return text.startsWith(before) && text.endsWith(after) && SCRIPT_HASH.test(text.slice(before.length, text.length - after.length));
+}
+
+/**
+ * The page's own style and policy, wherever they stand, and whether each is the first of its kind. Throws if one of them is gone.
+ * @param {Calls} calls
+ */
+function ownParts(calls) {
+    const styles = [...document.querySelectorAll('style')].map(it => it.textContent || '');
+    const policies = [...document.querySelectorAll('meta[http-equiv]')].map(it => it.getAttribute('content') || '');
+    const [style, policy] = [styles.findIndex(it => isOwnStyle(calls, it)), policies.findIndex(isOwnPolicy)];
+    if (style < 0 || policy < 0) throw new Fault(CHANGED);
+    return { style: styles[style], policy: policies[policy], first: style === 0 && policy === 0 };
+}
+
+/**
+ * The page's own text, to its last tag.
+ * @param {Calls} calls
+ */
+export function pageSource(calls) {
+    const { style, policy } = ownParts(calls);
+    const [before, toStyle, toScript, after] = OWN.html;
+    return [before, policy, toStyle, style, toScript, JOINED.script, after].join('');
+}
+
+/**
+ * The same to be published, which no page is in which another style or policy came before its own.
+ * @param {Calls} calls
+ */
+export function publishedSource(calls) {
+    if (!ownParts(calls).first) throw new Fault(CHANGED);
+    return pageSource(calls);
+}

@@ -1,0 +1,123 @@
+// The head of a patcher's data: what each member has to be, and what is taken of a head that a stranger may have written.
+
+import { sheetOf } from '../../core/disc/cue.js';
+import { LAST_BASE, MOST_SECTORS, SECTOR_SIZE } from '../../core/module/numbers.js';
+import { sheetNaming } from '../save/index.js';
+
+/** @typedef {import('./patcher.js').PatcherData} PatcherData */
+
+/** A name that moves no directory, and that each system takes for a file's. */
+const PLAIN_NAME = /^[^/\\:*?"<>|\p{C}\p{Zl}\p{Zp}]+$/u;
+/** What Windows takes for a device, whatever stands after the dot. */
+const DEVICE = /^(con|prn|aux|nul|conin\$|conout\$|(com|lpt)[0-9¹²³]) *(\.|$)/i;
+const LONGEST_STEM = 120;
+/** What an image is called if its patcher has no name for it that can be used. */
+const OTHER_NAME = 'patched.bin';
+
+/** @type {Record<string, (value: any) => boolean>} what each member of the head has to be */
+const HEAD_FORM = {
+    title: value => isText(value, 200) && isSeen(value),
+    author: value => isText(value, 200),
+    note: value => isText(value, 20000),
+    name: value => isText(value, 200) && /^[^/\\:*?"<>|\p{Cc}]+$/u.test(value) && !/^\.+$/.test(value),
+    cue: value => isText(value, 100000),
+    carry: value => typeof value === 'boolean',
+    base: value => isCount(value, LAST_BASE),
+    image: value => hasMembers(value, ['size', 'sha1']) && isCount(value.size, MOST_SECTORS * SECTOR_SIZE) && isSha1(value.sha1),
+    result: isSha1,
+};
+
+/**
+ * @param {unknown} value
+ * @param {number} most
+ */
+function isText(value, most) {
+    return typeof value === 'string' && value.length <= most;
+}
+
+/**
+ * Whether a text has a character that one sees.
+ * @param {string} text
+ */
+export function isSeen(text) {
+    return /[^\p{C}\p{Z}\p{M}\p{Default_Ignorable_Code_Point}\u2800]/u.test(text);
+}
+
+/**
+ * @param {unknown} value
+ * @param {number} most
+ */
+function isCount(value, most) {
+    return typeof value === 'number' && Number.isInteger(value) && value >= 0 && value <= most;
+}
+
+/** @param {unknown} value */
+function isSha1(value) {
+    return typeof value === 'string' && /^[0-9a-f]{40}$/.test(value);
+}
+
+/**
+ * @param {any} value
+ * @param {string[]} names
+ */
+function hasMembers(value, names) {
+    return typeof value === 'object' && value !== null && Object.keys(value).sort().join() === [...names].sort().join();
+}
+
+/**
+ * Why a head is not one of a patcher, or ''.
+ * @param {any} head
+ */
+export function headFault(head) {
+    if (!hasMembers(head, Object.keys(HEAD_FORM))) return 'the data do not have the members that they should';
+    const wrong = Object.keys(HEAD_FORM).find(name => !HEAD_FORM[name](head[name]));
+    return wrong ? `the data have a wrong ${wrong}` : '';
+}
+
+/**
+ * Whether a patched image may have this name: a plain one, with the ending of an image, so that no program runs what is in it.
+ * @param {string} name
+ */
+export function isImageName(name) {
+    return isPlainName(name) && !/^[. ]/.test(name) && /.\.(bin|img|iso)$/i.test(name) && name.length <= LONGEST_STEM + 4;
+}
+
+/**
+ * Whether a cue sheet can be read, and names only files that lie beside it.
+ * @param {string} text
+ */
+export function isPlainSheet(text) {
+    if (/[^\P{Cc}\t\r\n]/u.test(text)) return false;
+    try {
+        return [...sheetOf(text).files.map(({ name }) => name), ...textFiles(text)].every(isPlainName);
+    } catch {
+        return false;
+    }
+}
+
+/** @param {string} name */
+function isPlainName(name) {
+    return PLAIN_NAME.test(name) && !/^\.+$/.test(name) && !DEVICE.test(name);
+}
+
+/**
+ * The files of titles that a cue sheet names, which move no bytes, but are opened.
+ * @param {string} text
+ */
+function textFiles(text) {
+    const lines = text.split(/[\r\n]+/).map(line => line.trim()).filter(line => /^CDTEXTFILE\b/i.test(line));
+    return lines.map(line => line.slice('CDTEXTFILE'.length).replace(/"/g, '').trim());
+}
+
+/**
+ * What is taken of a right head: an image is never called what its author says if that is no image's name, and a sheet that an emulator
+ * could read otherwise is none.
+ * @template {Pick<PatcherData, 'name' | 'cue'>} Head
+ * @param {Head} head
+ * @returns {Head}
+ */
+export function takenHead(head) {
+    const name = isImageName(head.name) ? head.name : OTHER_NAME;
+    const cue = head.cue === '' || name === head.name ? head.cue : sheetNaming(head.cue, [[head.name, name]]);
+    return { ...head, name, cue: cue !== '' && isPlainSheet(cue) ? cue : '' };
+}

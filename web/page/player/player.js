@@ -1,0 +1,283 @@
+// The page of a patcher, for players: three steps with one button each.
+
+import { readBytes } from '../../core/bytes.js';
+import { openDisc } from '../../core/disc/disc.js';
+import { RESULT } from '../../core/module/records.js';
+import { textOfFile } from '../../core/texts/encodings.js';
+import { fileReader } from '../open/index.js';
+import { downloadText, failureOfSaving, saveWork, sheetNaming } from '../save/index.js';
+import { askBeforeLeaving, button, clearNotices, countOf, counted, element, fill, hashParts, icon, isCancelled } from '../ui/index.js';
+import { jobBar, messageParts, nameOf, notice, refuseWhileSaving } from '../ui/index.js';
+import { CARRIES, VERDICTS, reasonForPlayer, reasonsOf } from './reason.js';
+import { authorsWords, moreOf } from './trust_note.js';
+import { imageOfSize, judgeImage } from './verdict.js';
+
+/** @typedef {import('../app/state.js').App} App */
+/** @typedef {import('../../core/disc/disc.js').DiscImage} DiscImage */
+/** @typedef {import('./patcher.js').PatcherData} PatcherData */
+/** @typedef {import('./verdict.js').Judged} Judged */
+/** @typedef {import('../save/patch_job.js').Saved} Saved */
+/** @typedef {import('../ui/fill.js').Child} Child */
+/** What is said of the file that the patcher came in, and how one goes back to the page that showed it, if one can. */
+/** @typedef {{ note: Child, back: (() => void) | null }} PlayerHow */
+/** @typedef {'now' | 'done' | 'later'} StepState */
+
+/** The page of a patcher. */
+export class Player {
+    /**
+     * @param {App} app
+     * @param {PatcherData} data
+     * @param {PlayerHow} how
+     * @param {HTMLElement} place
+     */
+    constructor(app, data, how, place) {
+        this.app = app;
+        this.data = data;
+        this.how = how;
+        this.image = /** @type {DiscImage | null} */ (null);
+        this.files = /** @type {File[]} */ ([]);
+        this.sheet = '';
+        this.leaving = false;
+        this.number = 0;
+        /** The block of the image's first sector, as far as it is known. */
+        this.base = /** @type {number | null} */ (null);
+        /** Ends the job that runs. */
+        this.stop = () => {};
+        askBeforeLeaving(() => this.leaving);
+        /** @type {HTMLInputElement} */
+        this.input = element('input', { type: 'file', id: 'player-files', class: 'hide', multiple: true, tabindex: -1,
+            'aria-label': 'Your disc image',
+            change: () => this.open([...this.input.files || []]) });
+        this.steps = element('ol', { class: 'steps' });
+        fill(place, how.note, authorsWords(data), this.steps, element('p', { class: 'safe left' }, icon('lock'),
+                element('span', {}, element('b', {}, 'Nothing leaves your computer.'),
+                ' Your image is not changed; a new file is saved.')), moreOf(data), this.input);
+        this.start();
+    }
+
+    /**
+     * @param {string} number
+     * @param {StepState} state
+     * @param {Child | Child[]} title
+     * @param {...Child} body
+     */
+    step(number, state, title, ...body) {
+        const isNow = state === 'now';
+        const made = element('li', { class: `step ${state}${isNow ? ' next' : ''}`, 'aria-current': isNow ? 'step' : null },
+            element('span', { class: 'no', 'aria-hidden': 'true' }, state === 'done' ? '✓' : number), element('h2', {}, ...[title].flat()));
+        if (body.length > 0) made.append(element('div', { class: 'stack' }, ...body.filter(it => it !== null && it !== false).map(it =>
+            it instanceof Node ? it : String(it))));
+        return made;
+    }
+
+    /**
+     * @param {HTMLElement} first
+     * @param {HTMLElement} [second]
+     * @param {HTMLElement} [third]
+     */
+    show(first, second = this.step('2', 'later', 'Patch it'), third = this.step('3', 'later', 'Play')) {
+        fill(this.steps, first, second, third);
+    }
+
+    /** @param {Child} [fault] */
+    start(fault = null) {
+        const choose = button('main big', () => this.input.click(), 'Choose the image…');
+        this.show(this.step('1', 'now', 'Your disc', fault, element('div', { class: 'drop' }, icon('disc'),
+            element('p', { class: 'what if-mouse' }, 'Drop your disc image here'), choose,
+            element('p', { class: 'small quiet' }, 'The .bin file, or the .cue and all .bin files together'))));
+    }
+
+    /** @param {File[]} files */
+    async open(files) {
+        this.input.value = '';
+        if (files.length === 0) return;
+        if (refuseWhileSaving(this.app, files.map(file => file.name))) return;
+        this.stop();
+        const number = ++this.number;
+        try {
+            const disc = await openDisc(this.app.calls, files.map(file => ({ name: file.name, reader: fileReader(file) })));
+            const sheet = files.find(file => file.name === disc.sheet);
+            const text = sheet ? textOfFile(await readBytes(fileReader(sheet), 0, sheet.size)) : '';
+            if (number !== this.number) return;
+            Object.assign(this, { sheet: text, files, image: imageOfSize(disc, this.data.image.size) });
+            if (this.image) await this.judge(this.image);
+        } catch (error) {
+            if (number !== this.number) return;
+            this.start(isCancelled(error) ? null : notice('bad', 'Not opened.', ...messageParts(error, files.map(file => file.name))));
+        }
+    }
+
+    /** @param {DiscImage} image */
+    async judge(image) {
+        await this.app.run(async (signal, cancel) => {
+            const bar = jobBar('Checking your image', cancel);
+            this.show(this.step('1', 'now', 'Checking your image', element('p', { class: 'mono' }, nameOf(image.name)), ...bar.parts));
+            this.stop = cancel;
+            const judged = await judgeImage(this.app, this.data, image, { signal, progress: bar.at });
+            if (signal.aborted) return;
+            this.base = judged.work.base;
+            this.judged(image, judged);
+        });
+    }
+
+    /**
+     * @param {DiscImage} image
+     * @param {Judged} judged
+     */
+    judged(image, judged) {
+        const { verdict } = judged;
+        const [tone, head] = VERDICTS[verdict];
+        const said = element('p', { class: `verdict ${tone}-ink`, role: 'status', id: 'verdict' },
+            icon(tone === 'good' ? 'tick' : 'warn'), element('span', {}, head));
+        const isChosen = tone === 'good' || verdict === 'fits';
+        const name = element('p', {}, element('span', { class: 'mono' }, nameOf(image.name)), ' ',
+            isChosen && button('slim bare tiny', () => this.input.click(), 'Choose another'));
+        if (tone === 'bad') return this.showOther(name, said, image, judged);
+        if (!isChosen) return this.showUnknown(name, said, image, judged);
+        const first = this.step('1', 'done', 'Your disc', name, said, reasonForPlayer(judged, image.reader.size, this.data.image.size),
+            this.details(image, judged));
+        if (verdict === 'patched') return this.show(first, this.step('2', 'done', 'Patched', 'There is nothing to do.'),
+            this.playStep(image.name, this.sheetFor(image.name)));
+        const patch = button('main big', () => this.patch(image, judged, first), 'Patch and save…');
+        const space = counted(Math.ceil(image.reader.size / 1e6));
+        this.show(first, this.step('2', 'now', 'Patch it',
+            element('p', {}, `${countOf(judged.patches, 'change')}. The new file needs ${space} MB of space.`),
+            this.data.carry && element('p', {}, CARRIES), patch));
+        return patch.focus();
+    }
+
+    /**
+     * @param {Element} name
+     * @param {Element} said
+     * @param {DiscImage} image
+     * @param {Judged} judged
+     */
+    showOther(name, said, image, judged) {
+        const { patches, refused } = judged;
+        const carries = this.data.carry ? [CARRIES] : [];
+        const why = [...reasonsOf(patches, refused), ...carries, 'Nothing was saved.'].map(text => element('p', {}, text));
+        const box = element('div', { class: 'say bad' }, said, ...why, element('div', { class: 'row' },
+            button('main', () => this.input.click(), 'Choose another image…')));
+        const fitting = patches - refused.length;
+        const some = button('slim bare', () => this.patch(image, judged, this.step('1', 'done', 'Your disc', name)),
+            `Save with the ${countOf(fitting, 'change that fits', 'changes that fit')}…`);
+        const details = this.details(image, judged);
+        if (fitting > 0) details.append(element('p', { class: 'small' }, some, ' The game may then show both languages, or stop.'));
+        this.show(this.step('1', 'now', 'Your disc', name, box, details));
+    }
+
+    /**
+     * An image of which nothing shows that the patch belongs into it, or that it is what the author made: no button is the one to press.
+     * @param {Element} name
+     * @param {Element} said
+     * @param {DiscImage} image
+     * @param {Judged} judged
+     */
+    showUnknown(name, said, image, judged) {
+        const patch = () => {
+            const done = element('p', { class: 'verdict warn-ink' }, icon('warn'), element('span', {}, VERDICTS.unknown[1]));
+            return this.patch(image, judged, this.step('1', 'done', 'Your disc', name, done));
+        };
+        const isOpen = judged.verdict === 'unknown';
+        const box = element('div', { class: 'say warn' }, said, reasonForPlayer(judged, image.reader.size, this.data.image.size),
+            isOpen && this.data.carry && element('p', {}, CARRIES),
+            element('div', { class: 'row' }, button('', () => this.input.click(), 'Choose another image…'),
+                isOpen && button('', patch, 'Patch it all the same…')));
+        this.show(this.step('1', 'now', 'Your disc', name, box, this.details(image, judged)));
+    }
+
+    /**
+     * @param {DiscImage} image
+     * @param {Judged} judged
+     */
+    details({ reader }, { sha1, words }) {
+        const { image } = this.data;
+        const row = (/** @type {string} */ name, /** @type {Child[]} */ ...value) => value.length === 0 || value[0] === '' ? []
+            : [element('dt', {}, name), element('dd', {}, ...value)];
+        const size = reader.size === image.size ? `${counted(reader.size)} bytes, as expected`
+            : `${counted(reader.size)} bytes, the author’s has ${counted(image.size)}`;
+        return element('details', {}, element('summary', {}, 'Details'),
+            element('dl', { class: 'hashes' }, ...row('made for', ...hashParts(image.sha1)),
+            ...row('your image', ...hashParts(sha1)), ...row('size', size), ...row('first place', words)));
+    }
+
+    /**
+     * @param {DiscImage} image
+     * @param {Judged} judged
+     * @param {HTMLElement} first
+     */
+    async patch(image, { work, verdict }, first) {
+        const { app, data } = this;
+        try {
+            const saved = await app.runSave((signal, cancel) => {
+                const bar = jobBar('Saving', cancel, { saves: true });
+                this.show(first, this.step('2', 'now', ['Saving ', nameOf(data.name)], ...bar.parts));
+                this.leaving = true;
+                this.stop = cancel;
+                const wanted = verdict === 'right' ? data.result : '';
+                return saveWork(app, { ...work, opened: this.files }, data.name, wanted, { signal, progress: bar.at });
+            });
+            clearNotices();
+            this.leaving = saved !== null && !saved.streamed;
+            if (saved !== null) return this.saved(saved, verdict, first);
+            return this.show(first, this.again(image, { work, verdict }, first,
+                notice('plain', 'No file was chosen.', 'Nothing was saved.')));
+        } catch (error) {
+            clearNotices();
+            this.leaving = false;
+            return this.show(first, this.again(image, { work, verdict }, first, failureOfSaving(error, work.reader.size)));
+        }
+    }
+
+    /**
+     * @param {DiscImage} image
+     * @param {Pick<Judged, 'work' | 'verdict'>} judged
+     * @param {HTMLElement} first
+     * @param {Child} said
+     */
+    again(image, judged, first, said) {
+        const isFit = judged.verdict === 'right' || judged.verdict === 'fits';
+        const again = button(isFit ? 'main big' : '', () => this.patch(image, /** @type {Judged} */ (judged), first), 'Patch and save…');
+        return this.step('2', 'now', 'Patch it', said, again);
+    }
+
+    /**
+     * @param {Saved} saved
+     * @param {Judged['verdict']} verdict
+     * @param {HTMLElement} first
+     */
+    saved({ made, name, size, streamed, sha1 }, verdict, first) {
+        const refused = made.outcomes.filter(it => it.result !== RESULT.OK).length;
+        const head = [streamed ? 'Saved: ' : 'Your browser is saving ', nameOf(name)];
+        const same = sha1 !== '' && 'It is exactly the image that the author made: the SHA-1 is the same.';
+        const wait = !streamed && `It must have ${counted(size)} bytes. Keep this page open until it has.`;
+        const left = refused > 0 && `${countOf(refused, 'change')} left out.`;
+        const unknown = verdict === 'unknown' && 'Nothing has shown whether the patch fits this disc.';
+        const tone = refused > 0 || unknown ? 'warn' : 'good';
+        const said = element('p', { class: `verdict ${tone}-ink`, role: 'status', id: 'saved' },
+            icon(tone === 'good' ? 'tick' : 'warn'), element('span', {}, ...head));
+        const rest = [same, wait, left, unknown].map(text => text && element('p', {}, text));
+        this.show(first, this.step('2', 'done', 'Patched', said, ...rest), this.playStep(name, this.sheetFor(name)));
+    }
+
+    /**
+     * The cue sheet of the open image, or of the author's, with another name in it; '' if there is none.
+     * @param {string} name
+     */
+    sheetFor(name) {
+        const { cue, name: own } = this.data;
+        return sheetNaming(this.sheet, [[this.image ? this.image.name : '', name]]) || sheetNaming(cue, [[own, name]]);
+    }
+
+    /**
+     * @param {string} name of the image to play
+     * @param {string} sheet
+     */
+    playStep(name, sheet) {
+        const shown = element('b', {}, nameOf(name));
+        if (sheet === '') return this.step('3', 'now', 'Play', element('p', {}, 'Open ', shown, ' in your emulator.'));
+        const save = button('main big', () => downloadText(sheet, name.replace(/(\.[^.]*)?$/, '.cue')), 'Save the cue sheet…');
+        return this.step('3', 'now', 'Play',
+            element('p', {}, 'Your emulator opens a cue sheet. This one names the new image. Save it in the same folder.'), save);
+    }
+}

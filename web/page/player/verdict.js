@@ -1,0 +1,98 @@
+// What a player's image is to a patcher: the right disc, another dump that the patch fits or does not fit, or patched already; or one of
+// which the patch cannot say it.
+
+import { dataTrack, discFault } from '../../core/disc/disc.js';
+import { RESULT, STATUS } from '../../core/module/records.js';
+import { ReadAhead } from '../../core/read_ahead.js';
+import { wordsOn } from '../../core/script/line_words.js';
+import { oldBytesOf } from '../../core/script/long_script.js';
+import { passPatched } from '../../core/script/patches.js';
+import { sha1Of } from '../app/index.js';
+import { assertNotTooLong, scriptFor, watched } from '../save/index.js';
+
+/** @typedef {import('../app/state.js').App} App */
+/** @typedef {import('../../core/disc/disc.js').Disc} Disc */
+/** @typedef {import('../../core/disc/disc.js').DiscImage} DiscImage */
+/** @typedef {import('../../core/bytes.js').Reader} Reader */
+/** @typedef {import('./patcher.js').PatcherData} PatcherData */
+/** @typedef {import('../save/patch_job.js').PatchWork} PatchWork */
+/**
+ * `right` and `patched` are said by the SHA-1 only. Any other image fits if it is as long as the author's and all that is written names its
+ * old bytes; if some names none, it is `unknown`. In one that is `changed` all places have their new bytes already.
+ * @typedef {'right' | 'fits' | 'unknown' | 'other' | 'damaged' | 'patched' | 'changed'} Verdict
+ */
+/**
+ * A verdict, the SHA-1 of the image, '' if it was not needed; how many patches there are, and how many of them name no old bytes; the
+ * results of those that are refused, and the program's words for the first of them; and what is to be done.
+ * @typedef {{ verdict: Verdict, sha1: string, patches: number, without: number, refused: number[], words: string, work: PatchWork }} Judged
+ */
+/** @typedef {{ signal: { aborted: boolean }, progress: (done: number, all: number) => void }} JudgeWatch */
+
+/**
+ * The image of the data track that has a size, or of the first one.
+ * @param {Disc} disc
+ * @param {number} size
+ */
+export function imageOfSize(disc, size) {
+    const [file] = disc.files;
+    if (disc.sheet === null && disc.tracks[0].image === null) throw discFault(`This is music; choose the data track: ${file.name}`);
+    const track = disc.tracks.find(it => it.image !== null && it.image.reader.size === size);
+    return (track || dataTrack(disc)).image;
+}
+
+/**
+ * Judges an image. First the patches, of which only the sectors are read, so that 'does not fit' comes at once; then the hash.
+ * @param {App} app
+ * @param {PatcherData} data
+ * @param {DiscImage} image
+ * @param {JudgeWatch} watch
+ * @returns {Promise<Judged>}
+ */
+export async function judgeImage(app, data, image, watch) {
+    const { reader } = image;
+    const hash = () => sha1Of(app.parts, reader, watch.signal, done => watch.progress(done, reader.size));
+    const early = addressedBase(image, data.base) === data.base ? '' : await hash();
+    const base = [data.image.sha1, data.result].includes(early) ? data.base : addressedBase(image, data.base);
+    const work = { reader, base, script: data.script, carry: data.carry };
+    const script = await scriptFor(app, data.script, base);
+    assertNotTooLong(reader);
+    const seen = watched(reader, { signal: watch.signal, progress: () => {} });
+    const { outcomes } = await passPatched(app.calls, seen, script, { base, carry: data.carry });
+    const refused = outcomes.filter(it => it.result !== RESULT.OK);
+    const words = refused.length === 0 ? '' : wordsOn(app.calls.outcomeLine(1, refused[0].result, refused[0].block, refused[0].offset), 1);
+    const { without } = oldBytesOf(app.calls, data.script);
+    const judged = { sha1: '', patches: outcomes.length, without, refused: refused.map(it => it.result), words, work };
+    const damaged = judged.refused.every(it => it === RESULT.DAMAGED);
+    if (refused.length > 0 && !await isPatched(app, work)) return { ...judged, verdict: damaged ? 'damaged' : 'other' };
+    const sha1 = early || await hash();
+    if (sha1 === data.image.sha1) return { ...judged, sha1, verdict: 'right' };
+    if (sha1 === data.result) return { ...judged, sha1, verdict: 'patched' };
+    const changed = refused.length > 0 || await isPatched(app, work);
+    return { ...judged, sha1, verdict: changed ? 'changed' : without === 0 && reader.size === data.image.size ? 'fits' : 'unknown' };
+}
+
+/**
+ * The base that the addresses of an image say, or that of the author's if they say none.
+ * @param {DiscImage} image
+ * @param {number} other
+ */
+function addressedBase({ addressed, base }, other) {
+    return addressed === null || addressed < 0 ? other : base;
+}
+
+/**
+ * Whether the script, without the old bytes that it asks for, would change nothing in the image.
+ * @param {App} app
+ * @param {PatchWork} work
+ */
+export async function isPatched(app, { reader, base, script }) {
+    let same = true;
+    const ahead = new ReadAhead(reader);
+    const how = { base, carry: true, withoutOld: true };
+    const made = await passPatched(app.calls, reader, await scriptFor(app, script, base), how, async piece => {
+        if (!('bytes' in piece) || !same) return;
+        const there = await ahead.bytesAt(piece.at, piece.bytes.length);
+        same = there.every((byte, i) => byte === piece.bytes[i]);
+    });
+    return same && made.status === STATUS.DONE && made.outcomes.length > 0;
+}

@@ -1,0 +1,3 @@
+// The panel Publish.
+
+export { mountPublish } from './panel.js';

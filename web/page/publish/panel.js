@@ -1,0 +1,256 @@
+// The panel Publish: a copy of this page with the script, for players.
+
+import { sha1Of } from '../app/index.js';
+import { isImageName, isPlainSheet, isSeen, patcherText, publishedSource, showPlayer } from '../player/index.js';
+import { download, sheetNaming } from '../save/index.js';
+import { askBeforeLeaving, button, countOf, element, fill, hashParts, isCancelled, isDisabled, jobBar, nameOf } from '../ui/index.js';
+import { notice, seenTitle, sentence, setDisabled, stemOf, term } from '../ui/index.js';
+import { proposedName, triedOn } from './trial.js';
+
+/** @typedef {import('../app/state.js').App} App */
+/** @typedef {import('../app/state.js').Image} Image */
+/** @typedef {import('../player/patcher.js').PatcherData} PatcherData */
+/** @typedef {import('../ui/fill.js').Child} Child */
+/** @typedef {import('./trial.js').Tried} Tried */
+
+const NAME_RULE = 'the name of the patched image has to end in .bin, .img or .iso, with at most 120 characters before that, ' +
+    'without hidden ones and without \\ / : * ? " < > |';
+/** A browser may send what is typed to a service that checks its spelling. */
+const PRIVATE = { autocomplete: 'off', spellcheck: 'false' };
+
+/** The panel. */
+class PublishPanel {
+    /**
+     * @param {App} app
+     * @param {HTMLElement} panel
+     */
+    constructor(app, panel) {
+        this.app = app;
+        this.tried = /** @type {Tried | null} */ (null);
+        this.fault = '';
+        this.number = 0;
+        this.trying = false;
+        this.busy = false;
+        /** Whether something was typed that is in no patcher yet. */
+        this.edited = false;
+        const text = (/** @type {string} */ id) => element('input', { type: 'text', id, maxlength: 200, ...PRIVATE,
+            input: () => this.typed() });
+        this.title = text('patcher-title');
+        this.author = text('patcher-author');
+        this.note = element('textarea', { id: 'patcher-note', rows: 5, maxlength: 20000, ...PRIVATE, input: () => this.typed() });
+        this.name = text('patcher-name');
+        this.sheet = element('input', { type: 'checkbox', id: 'patcher-cue', checked: true });
+        this.carry = element('input', { type: 'checkbox', id: 'patcher-carry', change: () => this.forget() });
+        this.list = element('div', { class: 'stack tight', role: 'status' });
+        this.state = element('div', { class: 'stack' });
+        this.save = button('main', () => this.publish(true), 'Save as a patcher…');
+        this.see = button('', () => this.publish(false), 'See it as a player');
+        panel.append(element('div', { class: 'two even' }, this.form(), element('div', { class: 'side' }, this.savingCard())));
+        askBeforeLeaving(() => this.edited);
+        app.on('panel', () => this.shown());
+        app.on('patcher', data => this.take(data));
+        for (const name of /** @type {const} */ (['image', 'script'])) app.on(name, () => this.forget());
+        for (const name of /** @type {const} */ (['hash', 'surveyed'])) app.on(name, () => this.shown());
+    }
+
+    form() {
+        const row = (/** @type {string} */ label, /** @type {HTMLElement} */ field) => element('div', {},
+            element('label', { for: field.id }, label), field);
+        this.cueRow = element('label', { class: 'check' }, this.sheet,
+            element('span', {}, 'Offer a cue sheet that names the patched image'));
+        this.carryRow = element('label', { class: 'check', hidden: true }, this.carry,
+            element('span', {}, 'Patch damaged sectors too (', term('carry', 'carry'), '), as the patcher that was opened'));
+        return element('section', { class: 'card', 'aria-label': 'A patcher for your players' },
+            element('header', {}, element('h2', {}, 'A patcher for your players')),
+            element('div', { class: 'pad stack' }, row('Title', this.title), row('By', this.author), row('Note for players', this.note),
+                row('Name of the patched image', this.name), this.cueRow, this.carryRow));
+    }
+
+    savingCard() {
+        return element('section', { class: 'card', 'aria-label': 'Before you save' },
+            element('header', {}, element('h2', {}, 'Before you save')),
+            element('div', { class: 'pad stack' }, this.list, this.state, element('div', { class: 'row' }, this.save, this.see),
+                element('p', { class: 'small quiet' },
+                    'One .html file. It holds this page, your script, the texts and the hashes. It holds no image.'),
+                element('p', { class: 'say warn thin', id: 'no-licence' }, element('b', {}, 'No licence has been chosen for cdpatch yet.'),
+                    'Until its owner has chosen one, nobody may pass copies of this page on.'),
+                element('p', { class: 'small quiet' }, 'The script itself can be saved under Script.')));
+    }
+
+    /** @param {...Child} parts of what became of a patcher */
+    say(...parts) {
+        fill(this.state, ...parts);
+    }
+
+    typed() {
+        this.edited = true;
+        this.draw();
+    }
+
+    /**
+     * Takes over what a patcher says of itself, so that the next one can be made of it.
+     * @param {PatcherData} data
+     */
+    take({ title, author, note, name, cue, carry }) {
+        [this.title.value, this.author.value, this.note.value, this.name.value] = [title, author, note, name];
+        this.sheet.checked = cue !== '';
+        this.carry.checked = carry;
+        if (this.carryRow) this.carryRow.hidden = !carry;
+        this.edited = false;
+    }
+
+    forget() {
+        this.tried = null;
+        this.fault = '';
+        this.trying = false;
+        this.number += 1;
+        this.shown();
+    }
+
+    /** Tries the script on the image as soon as the panel is shown. */
+    shown() {
+        if (this.app.panel !== 'publish') return;
+        const { image } = this.app;
+        if (this.name.value === '' && image) this.name.value = proposedName(image.name);
+        this.draw();
+        if (this.tried === null && this.fault === '' && !this.trying && image !== null) this.tryScript(image);
+    }
+
+    /** @param {Image} image */
+    async tryScript(image) {
+        const { number } = this;
+        this.trying = true;
+        try {
+            const tried = await triedOn(this.app, image, this.carry.checked);
+            if (number === this.number) this.tried = tried;
+        } catch (error) {
+            if (number === this.number) this.fault = sentence(error);
+        }
+        if (number === this.number) this.trying = false;
+        this.draw();
+    }
+
+    draw() {
+        const rows = this.rows();
+        fill(this.list, ...rows.map(([tone, ...words]) => element('p', { class: 'mark-row' },
+            element('b', { class: `${tone}-ink` }, SIGNS[tone]), ' ', ...words)));
+        const ready = rows.every(([tone]) => tone === 'good' || tone === 'warn');
+        for (const it of [this.save, this.see]) setDisabled(it, !ready);
+        if (this.cueRow) this.cueRow.hidden = this.app.image === null || this.cueOf(this.app.image) === '';
+    }
+
+    /** @returns {[('good' | 'bad' | 'warn' | 'quiet'), ...Child[]][]} what is ready, and what is not */
+    rows() {
+        const { app, tried, fault } = this;
+        const { image, survey } = app;
+        if (image === null) return [['bad', 'Open the image that the script is made for.']];
+        if (fault !== '') return [['bad', fault]];
+        if (tried === null) return [['quiet', 'Trying the script on this image…']];
+        const findings = survey ? survey.marks.findings() : 0;
+        const read = survey !== null && survey.ended > 0;
+        const mono = (/** @type {string} */ text) => element('span', { class: 'mono small' }, text);
+        return [
+            tried.patches > 0 ? ['good', `${countOf(tried.patches, 'patch', 'patches')}, no faults`]
+                : ['bad', 'The script has no patch yet.'],
+            [tried.refused === 0 ? 'good' : 'bad',
+                `tried on this image: ${tried.patches - tried.refused} would apply, ${tried.refused} refused`,
+                tried.first > 0 && button('slim bare tiny', () => app.goToLine(tried.first - 1), `Go to line ${tried.first}`),
+                tried.damaged > 0 && `, ${tried.damaged} for damage: a patcher does not carry it. Repair the image first.`],
+            tried.without === 0 ? ['good', 'each line has its old bytes (', mono('was'), ')']
+                : ['warn', `${countOf(tried.without, 'line')} without old bytes (`, mono('was'),
+                    '): on a dump that is not yours nothing shows whether they fit, and players are told so.'],
+            !read && survey !== null && survey.over ? ['bad', 'The image was not read to its end. Read it again under Disc.']
+                : !read ? ['quiet', 'reading the image…'] : findings === 0 ? ['good', 'the image is sound: 0 findings']
+                : ['warn', `the image has ${countOf(findings, 'finding')}: players with a sound disc have another hash.`],
+            image.sha1 === '' ? ['quiet', 'calculating the SHA-1 of the image…']
+                : ['good', 'made for SHA-1 ', element('span', { class: 'mono small' }, ...hashParts(image.sha1))],
+            isSeen(this.title.value) ? ['good', 'title: ', element('bdi', {}, seenTitle(this.title.value))]
+                : ['bad', 'a title is missing'],
+            ...this.warnings(image, tried),
+        ];
+    }
+
+    /**
+     * @param {Image} image
+     * @param {Tried} tried
+     * @returns {['bad' | 'warn', string][]}
+     */
+    warnings(image, tried) {
+        /** @type {[boolean, 'bad' | 'warn', string][]} */
+        const all = [
+            [!isImageName(this.name.value.trim()), 'bad', NAME_RULE],
+            [image.sheet !== '' && this.cueOf(image) === '', 'warn', 'the cue sheet is not offered: it names other than files beside it'],
+            [this.carry.checked, 'warn', 'damaged sectors are patched too: players are told so'],
+            [tried.old > 0, 'warn',
+                `The old bytes come from the game (${countOf(tried.old, 'byte')}). Check whether you may publish them.`],
+        ];
+        return all.flatMap(([is, tone, words]) => is ? [[tone, words]] : []);
+    }
+
+    /** @param {boolean} saving whether the patcher is saved, or shown as a player sees it */
+    async publish(saving) {
+        const { app, tried } = this;
+        const { image } = app;
+        if (image === null || tried === null || this.busy || isDisabled(this.save)) return;
+        this.busy = true;
+        try {
+            await app.run(async (signal, cancel) => {
+                const bar = jobBar('Calculating the SHA-1 of the result', cancel);
+                this.say(element('p', {}, 'Calculating the SHA-1 of the patched image, so that players can compare theirs.'),
+                    ...bar.parts);
+                const result = await sha1Of(app.parts, tried.result, signal, done => bar.at(done, tried.result.size));
+                const data = this.data(image, tried.script, result);
+                this.say();
+                if (saving) await this.saveAs(data);
+                else showPlayer(app, data, { note: '', back: () => app.showPanel('publish') });
+            });
+        } catch (error) {
+            this.say(isCancelled(error) ? notice('plain', 'Cancelled.', 'No patcher was saved.')
+                : notice('bad', sentence(error), 'No patcher was saved.'));
+        } finally {
+            this.busy = false;
+        }
+    }
+
+    /**
+     * @param {Image} image
+     * @param {string} script of which `result` is the result
+     * @param {string} result
+     * @returns {PatcherData}
+     */
+    data(image, script, result) {
+        const name = this.name.value.trim();
+        return { title: this.title.value.trim(), author: this.author.value.trim(), note: this.note.value, name,
+            carry: this.carry.checked, base: image.base,
+            cue: this.sheet.checked ? this.cueOf(image) : '',
+            image: { size: image.reader.size, sha1: image.sha1 }, result, script };
+    }
+
+    /**
+     * The cue sheet that players are offered, or ''.
+     * @param {Image} image
+     */
+    cueOf(image) {
+        const sheet = sheetNaming(image.sheet, [[image.name, this.name.value.trim()]]);
+        return sheet !== '' && isPlainSheet(sheet) ? sheet : '';
+    }
+
+    /** @param {PatcherData} data */
+    async saveAs(data) {
+        const name = `${stemOf(data.title) || 'patcher'}.html`;
+        download(new Blob([publishedSource(this.app.calls), await patcherText(this.app.calls, data)], { type: 'text/html' }), name);
+        this.edited = false;
+        this.say(notice('good', ['Saved: ', nameOf(name)], 'Players open it with a double click, and drop their image there.'));
+    }
+}
+
+/** @type {Record<string, string>} */
+const SIGNS = { good: '✓', bad: '✕', warn: '!', quiet: '…' };
+
+/**
+ * @param {App} app
+ * @param {HTMLElement} panel
+ */
+export function mountPublish(app, panel) {
+    return new PublishPanel(app, panel);
+}

@@ -1,0 +1,51 @@
+// What a patcher is made of: the script as it was tried on the image, and the name that the patched image gets.
+
+import { RESULT } from '../../core/module/records.js';
+import { applyPatches } from '../../core/script/patches.js';
+import { isImageName } from '../player/index.js';
+import { patchedName, pieceReader, scriptFor } from '../save/index.js';
+import { stemOf } from '../ui/index.js';
+
+/** @typedef {import('../app/state.js').App} App */
+/** @typedef {import('../app/state.js').Image} Image */
+/**
+ * What is known of a script on the image: how many patches are refused, the line of the first of them or 0, and how many of them for
+ * damage; how many are without old bytes, and how many old bytes there are; and the patched image.
+ * @typedef {{ script: string, patches: number, refused: number, first: number, damaged: number, without: number, old: number,
+ *     result: import('../../core/bytes.js').Reader }} Tried
+ */
+
+/**
+ * The name that is proposed for the patched image.
+ * @param {string} name of the image
+ */
+export function proposedName(name) {
+    const stem = stemOf(name).replace(/\.[^.]*$/, '').slice(0, LONGEST_PROPOSED).replace(/[\uD800-\uDBFF]$/, '');
+    const names = [patchedName(name), patchedName(stemOf(name), 'patched', '.bin'), patchedName(stem, 'patched', '.bin')];
+    return names.find(isImageName) || names[1];
+}
+
+/** Characters of an image's name that go into that of the patched one if it is too long. */
+const LONGEST_PROPOSED = 100;
+
+/**
+ * Tries the script on the image.
+ * @param {App} app
+ * @param {Image} image
+ * @param {boolean} carry
+ * @returns {Promise<Tried>}
+ */
+export async function triedOn(app, image, carry) {
+    const script = app.script.text();
+    const made = await applyPatches(app.calls, image.reader, await scriptFor(app, script, image.base), { base: image.base, carry });
+    const refused = made.outcomes.filter(it => it.result !== RESULT.OK);
+    return {
+        script,
+        patches: made.outcomes.length,
+        refused: refused.length,
+        first: refused.reduce((first, { number }) => first === 0 ? number : Math.min(first, number), 0),
+        damaged: made.outcomes.filter(it => it.result === RESULT.DAMAGED).length,
+        ...app.script.oldBytes(),
+        result: pieceReader(image.reader, made.pieces),
+    };
+}

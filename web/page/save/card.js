@@ -1,0 +1,218 @@
+// Saving the patched image, as its card says it: progress, what was saved, and what is left after a cancel or a failure.
+
+import { FAULT, failedBy } from '../../core/faults.js';
+import { RESULT } from '../../core/module/records.js';
+import { sha1Of, sumsOf } from '../app/index.js';
+import { fileReader, readImage } from '../open/index.js';
+import { askBeforeLeaving, button, countOf, counted, element, fill, hashParts, isCancelled, jobBar, messageOf } from '../ui/index.js';
+import { nameOf, namesOf, notice } from '../ui/index.js';
+import { sheetNaming } from './cue_rewrite.js';
+import { downloadText } from './files_out.js';
+import { saveWork } from './patch_job.js';
+import { adviceOf } from './refused.js';
+import { patchedName } from './save.js';
+
+/** @typedef {import('../app/state.js').App} App */
+/** @typedef {import('../app/state.js').Image} Image */
+/** @typedef {import('./patch_job.js').PatchWork} PatchWork */
+/** @typedef {import('./patch_job.js').Saved} Saved */
+/** @typedef {import('../../core/script/patches.js').Patched} Patched */
+/** @typedef {import('../ui/fill.js').Child} Child */
+
+/** What stands in the place of the card Check while an image is saved, and after that until it is closed. */
+export class SaveCard {
+    /**
+     * @param {App} app
+     * @param {() => void} redraw
+     */
+    constructor(app, redraw) {
+        this.app = app;
+        this.redraw = redraw;
+        this.title = /** @type {Child[]} */ ([]);
+        this.head = element('header');
+        this.box = element('div', { class: 'pad stack' });
+        askBeforeLeaving(() => this.leaving);
+        this.leaving = false;
+        this.running = false;
+        app.addTaker(file => this.isSaved(file));
+        this.saved = /** @type {Saved | null} */ (null);
+        /** The SHA-1 of what was saved last. */
+        this.sum = Promise.resolve('');
+        this.checked = element('div', { role: 'status' });
+        this.said = element('div');
+        /** Says that the file is whole. */
+        this.sayWhole = () => {};
+    }
+
+    shown() {
+        return this.title.length > 0;
+    }
+
+    parts() {
+        return [this.head, this.box];
+    }
+
+    drawTitle() {
+        fill(this.head, element('h2', {}, ...this.title));
+    }
+
+    /** Makes way for Check, unless an image is being saved. */
+    leave() {
+        if (this.shown() && !this.running) this.close();
+    }
+
+    close() {
+        this.title = [];
+        this.leaving = false;
+        this.redraw();
+    }
+
+    /**
+     * @param {Child | Child[]} title
+     * @param {...Child} body
+     */
+    show(title, ...body) {
+        this.title = [title].flat();
+        this.drawTitle();
+        fill(this.box, ...body);
+        this.redraw();
+    }
+
+    /**
+     * Saves what is made of an image. Returns what was done with the patches, null if nothing was saved.
+     * @param {Image} image
+     * @param {PatchWork} work
+     * @returns {Promise<Patched | null>}
+     */
+    async save(image, work) {
+        const name = patchedName(image.name);
+        this.running = true;
+        try {
+            const saved = await this.app.runSave((signal, cancel) => {
+                const bar = jobBar('Saving', cancel, { saves: true });
+                this.show(['Saving ', nameOf(name)], ...bar.parts, element('p', { class: 'small quiet' },
+                    'After Cancel no image is kept: the browser throws the unfinished file away.'));
+                this.leaving = true;
+                return saveWork(this.app, { ...work, opened: this.app.openFiles() }, name, '', { signal, progress: bar.at });
+            });
+            if (saved === null) this.close();
+            else this.showSaved(image, saved);
+            return saved && saved.made;
+        } catch (error) {
+            this.leaving = false;
+            this.show('Not saved', failureOfSaving(error, work.reader.size),
+                element('div', { class: 'row' }, button('back next', () => this.close(), 'Back')));
+            return null;
+        } finally {
+            this.running = false;
+        }
+    }
+
+    /**
+     * @param {Image} image
+     * @param {Saved} saved
+     */
+    showSaved(image, saved) {
+        const { made, name, size, streamed } = saved;
+        this.saved = saved;
+        this.leaving = !streamed;
+        const refused = made.outcomes.filter(it => it.result !== RESULT.OK).length;
+        const without = refused === 0 ? '' : `, without ${refused} of ${countOf(made.outcomes.length, 'patch', 'patches')}`;
+        const tone = refused === 0 ? 'good' : 'warn';
+        this.sayWhole = () => fill(this.said, notice(tone, ['Saved: ', nameOf(name), without], 'All other bytes are as before.'));
+        if (streamed) this.sayWhole();
+        else fill(this.said, notice(tone, ['Your browser is saving ', nameOf(name), without],
+            `It must have ${counted(size)} bytes. Keep this page open until it has.`));
+        this.app.noteSaved(image, name);
+        const sheet = sheetNaming(image.sheet, image.renamed);
+        const sheetName = image.disc.files.length > 1 ? patchedName(image.from) : name.replace(/(\.[^.]*)?$/, '.cue');
+        const others = [...image.renamed.values()].filter(it => it !== name);
+        fill(this.checked, !streamed && element('p', { class: 'small quiet' }, 'To check what was saved, drop the file on this page.'));
+        this.show(streamed ? 'Saved' : 'Saving by your browser', this.said,
+            element('dl', { class: 'hashes' }, element('dt', {}, 'size'), element('dd', {}, counted(size)), ...this.sumsOf(saved)),
+            this.checked, sheet !== '' && others.length > 0 && element('p', { class: 'small quiet' },
+                'The cue sheet names files too that you saved before: ', ...namesOf(others)),
+            element('div', { class: 'row' }, sheet !== '' && button('', () => downloadText(sheet, sheetName), 'Save a cue sheet…'),
+                (saved.blob || saved.file) && button('', () => this.openNew(saved), 'Open the new image'),
+                button('next', () => this.close(), 'Back to Check')));
+    }
+
+    /**
+     * Opens what was saved in place of the open image.
+     * @param {Saved} saved
+     */
+    openNew({ blob, file, name }) {
+        this.close();
+        readImage(this.app, null);
+        this.app.open([file || new File([/** @type {Blob} */ (blob)], name)]);
+    }
+
+    /**
+     * The SHA-1 and CRC-32 of what was saved, as soon as they are known.
+     * @param {Saved} saved
+     */
+    sumsOf(saved) {
+        const [sha1, crc32] = ['saved-sha1', 'saved-crc32'].map(id => element('dd', { id }, '…'));
+        const file = saved.blob || saved.file;
+        if (file === null) {
+            sha1.textContent = 'not known, for the browser does not read the file again';
+            return [element('dt', {}, 'SHA-1'), sha1];
+        }
+        const sums = sumsOf(this.app.parts, fileReader(new File([file], saved.name)), { aborted: false }, done => {
+            sha1.textContent = `(${Math.floor(100 * done / saved.size)} %)`;
+        });
+        this.sum = sums.then(it => it.sha1);
+        sums.then(it => {
+            fill(sha1, ...hashParts(it.sha1));
+            crc32.textContent = it.crc32;
+        }, error => {
+            sha1.textContent = messageOf(error);
+            crc32.textContent = 'not known';
+        });
+        return [element('dt', {}, 'SHA-1'), sha1, element('dt', {}, 'CRC-32'), crc32];
+    }
+
+    /**
+     * Whether a file that is dropped is the one that was saved last; then it is checked.
+     * @param {File} file
+     */
+    async isSaved(file) {
+        const { saved } = this;
+        if (saved === null || !this.shown() || file.name.replace(/ ?\(\d+\)(?=\.|$)/, '') !== saved.name) return false;
+        const wrong = file.size === saved.size ? ''
+            : `It has ${counted(file.size)} bytes and not ${counted(saved.size)}: it was not saved to its end.`;
+        const sha1 = wrong ? '' : await sha1Of(this.app.parts, fileReader(file), { aborted: false }, () => {});
+        const right = sha1 !== '' && sha1 === await this.sum;
+        if (this.saved !== saved) return true;
+        const open = button('slim', () => {
+            this.close();
+            this.app.open([file]);
+        }, 'Open it');
+        fill(this.checked, right ? notice('good', ['Right: ', nameOf(file.name)], 'Its size and SHA-1 are those of the patched image.',
+            element('div', { class: 'row' }, open))
+            : notice('bad', ['Not what it should be: ', nameOf(file.name)], wrong || 'Its SHA-1 is another one. Save it again.'));
+        this.leaving = this.leaving && !right;
+        if (right) {
+            this.sayWhole();
+            this.title = ['Saved'];
+            this.drawTitle();
+        }
+        return true;
+    }
+}
+
+/**
+ * What is said of a saving that ended early, with what is left.
+ * @param {unknown} error
+ * @param {number} size
+ */
+export function failureOfSaving(error, size) {
+    if (isCancelled(error)) return notice('plain', 'Cancelled.', 'No image was kept.');
+    if (failedBy(error, FAULT.UNWRITTEN)) {
+        const { full, done = 0 } = error.facts;
+        const percent = size === 0 ? 0 : Math.floor(100 * done / size);
+        return notice('bad', full ? `The disk is full at ${percent} %.` : `Writing failed at ${percent} %: ${messageOf(error)}`,
+            'No image was kept.');
+    }
+    return notice('bad', messageOf(error), adviceOf(error, 'No image was kept.'));
+}

@@ -1,0 +1,60 @@
+// The file that a user chooses to be written: none of those that are open.
+
+import { fileOf } from '../open/index.js';
+import { shownName } from '../ui/index.js';
+import { chosenFile } from './files_out.js';
+import { workRefused } from './refused.js';
+
+/** @typedef {import('../../core/bytes.js').Reader} Reader */
+/** @typedef {import('./files_out.js').ChosenFile} ChosenFile */
+/** @typedef {{ name: string, size: number }} OpenFile */
+
+/**
+ * Lets the user choose a file to write, or returns null if he chooses none. One that is open is refused, and so is one that has the name
+ * of another open file: a page does not see directories, and a stranger's patcher may propose the name.
+ * @param {string} name that is proposed
+ * @param {Reader[]} readers of the image, and of others that must not be written over
+ * @param {OpenFile[]} opened all files that are open
+ * @returns {Promise<ChosenFile | null>}
+ */
+export async function chosenOther(name, readers, opened) {
+    const chosen = await chosenFile(name);
+    if (chosen === null) return null;
+    const before = await chosen.getFile();
+    readers.forEach(reader => assertOther(before, reader));
+    const own = fileOf(readers[0]);
+    const alike = own && sameName(own, chosen) ? [] : opened.filter(it => sameName(it, chosen));
+    if (alike.length === 0) return chosen;
+    if (before.size === 0 && chosen.remove && alike.every(it => it.size > 0)) await chosen.remove().catch(() => {});
+    throw workRefused(`Another open file has this name: ${shownName(chosen.name)}`, 'Nothing was saved. Choose another name.');
+}
+
+/**
+ * @param {{ name: string }} one
+ * @param {{ name: string }} other
+ */
+function sameName(one, other) {
+    return one.name.toLowerCase() === other.name.toLowerCase();
+}
+
+/**
+ * Whether two files are one, as far as a page can see.
+ * @param {File} one
+ * @param {File} other
+ */
+export function isSameFile(one, other) {
+    return one.name === other.name && one.size === other.size && one.lastModified === other.lastModified;
+}
+
+/**
+ * Refuses a chosen file if it is an open image.
+ * @param {File} chosen
+ * @param {Reader} reader of the image
+ */
+export function assertOther(chosen, reader) {
+    const own = fileOf(reader);
+    if (own && isSameFile(chosen, own)) {
+        throw workRefused(`This is the open image itself: ${shownName(own.name)}`,
+            'cdpatch never writes over it. Choose another name.');
+    }
+}

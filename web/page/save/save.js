@@ -1,0 +1,136 @@
+// Saving: a patched image as a stream to a file, or as a Blob of slices of the old file with the patched sectors between them.
+
+import { readBytes } from '../../core/bytes.js';
+import { FAULT, Fault, cancelled } from '../../core/faults.js';
+import { RegionCutter, bytesOfRegion, dataOfRegion } from './regions.js';
+
+/** @typedef {import('../../core/bytes.js').Reader} Reader */
+/** @typedef {import('../../core/bytes.js').Piece} Piece */
+/** @typedef {import('./regions.js').Region} Region */
+/** @typedef {import('./regions.js').Write} Write */
+/** What a file is written by: FileSystemWritableFileStream, or a test's own. */
+/** @typedef {{ write(write: Write): Promise<void>, close(): Promise<void>, abort(): Promise<void> }} Sink */
+/**
+ * Who is told how many bytes are written, and what ends the saving. `seen` is given all bytes that are written, in turn, and `accept`
+ * throws if they are not to be kept.
+ * @typedef {{ signal: { aborted: boolean }, progress: (done: number) => void, seen?: (bytes: Uint8Array) => Promise<void>,
+ *     accept?: () => Promise<void> }} Watch
+ */
+/** @typedef {(take: (piece: Piece) => Promise<void>) => Promise<void>} Maker gives the pieces of an image in order */
+
+/**
+ * That a file could not be written to its end.
+ * @param {number} done how many bytes were written
+ * @param {unknown} cause
+ */
+function unwritten(done, cause) {
+    const full = cause instanceof Error && cause.name === 'QuotaExceededError';
+    return new Fault(cause instanceof Error ? cause.message : String(cause), FAULT.UNWRITTEN, { done, full });
+}
+
+/** Regions that go to a sink one after the other, of which the next is made while the last is written. */
+class SinkWriter {
+    /**
+     * @param {Sink} sink
+     * @param {Reader} reader
+     * @param {Watch} watch
+     */
+    constructor(sink, reader, watch) {
+        this.sink = sink;
+        this.reader = reader;
+        this.watch = watch;
+        this.done = 0;
+        /** @type {Promise<unknown>} what is being written: null, or why it failed */
+        this.writing = Promise.resolve(null);
+    }
+
+    /** @param {Region} region */
+    async push(region) {
+        const data = await dataOfRegion(this.reader, region);
+        await this.settle();
+        if (this.watch.signal.aborted) throw cancelled();
+        this.writing = this.write({ type: 'write', position: region.at, data }, region.size).then(() => null, error => error);
+        if (this.watch.seen) await this.watch.seen(await bytesOfRegion(this.reader, region));
+    }
+
+    /**
+     * @param {Write} write
+     * @param {number} size
+     */
+    async write(write, size) {
+        await this.sink.write(write).catch(error => this.fail(write, error));
+        this.done += size;
+        this.watch.progress(this.done);
+    }
+
+    /**
+     * A browser does not say whether a part of a file could not be read or not be written.
+     * @param {Write} write
+     * @param {unknown} error
+     */
+    async fail({ position, data }, error) {
+        if (data instanceof Blob) await readBytes(this.reader, position + data.size - 1, 1);
+        throw unwritten(this.done, error);
+    }
+
+    async settle() {
+        const fault = await this.writing;
+        if (fault !== null) throw fault;
+    }
+}
+
+/**
+ * Writes a patched image to a sink, and closes it only if all was written and is accepted. Throws a Fault, CANCELLED or UNWRITTEN,
+ * and what the reader, `make` and `accept` throw; then the sink was aborted.
+ * @param {Sink} sink
+ * @param {Reader} reader
+ * @param {Maker} make
+ * @param {Watch} watch
+ */
+export async function saveToSink(sink, reader, make, watch) {
+    const writer = new SinkWriter(sink, reader, watch);
+    const regions = new RegionCutter(region => writer.push(region));
+    try {
+        await make(piece => regions.push(piece));
+        await regions.end();
+        await writer.settle();
+        if (watch.accept) await watch.accept();
+        if (watch.signal.aborted) throw cancelled();
+        await sink.close().catch(error => {
+            throw unwritten(writer.done, error);
+        });
+    } catch (error) {
+        await sink.abort().catch(() => {});
+        throw error;
+    }
+}
+
+/** So many parts of a Blob are made before others get their turn: a browser needs up to a millisecond for each. */
+const MOST_PARTS = 100;
+
+/**
+ * The patched image as a Blob, which holds only what is patched: the rest are slices of the file.
+ * @param {Blob} file
+ * @param {Piece[]} pieces
+ */
+export async function blobOfPieces(file, pieces) {
+    /** @type {Blob[]} */
+    const blobs = [];
+    for (let i = 0; i < pieces.length; i += MOST_PARTS) {
+        if (i > 0) await new Promise(resolve => setTimeout(resolve));
+        const some = pieces.slice(i, i + MOST_PARTS);
+        blobs.push(new Blob(some.map(piece => 'bytes' in piece ? piece.bytes : file.slice(piece.from, piece.to))));
+    }
+    return new Blob(blobs, { type: 'application/octet-stream' });
+}
+
+/**
+ * A name like that of an image, with what is new about it: 'game.bin' becomes 'game (patched).bin'.
+ * @param {string} name
+ * @param {string} [what]
+ * @param {string} [ending] instead of its own
+ */
+export function patchedName(name, what = 'patched', ending = '') {
+    const [, stem, own] = /^(.*?)(\.[^.]*)?$/.exec(name) || ['', name, ''];
+    return `${stem} (${what})${ending || own || '.bin'}`;
+}

@@ -1,0 +1,200 @@
+// The card beside the editor: Check, what came of it, carry, and Apply and save.
+
+import { RESULT } from '../../core/module/records.js';
+import { SaveCard, adviceOf, checkWork } from '../save/index.js';
+import { announce, button, countOf, counted, element, fill, isCancelled, jobBar, messageOf, nameOf, notice } from '../ui/index.js';
+import { setDisabled, term } from '../ui/index.js';
+
+/** @typedef {import('../app/state.js').App} App */
+/** @typedef {import('../app/script_lines.js').ScriptLines} ScriptLines */
+/** @typedef {import('../../core/script/patches.js').Patched} Patched */
+/** @typedef {import('../ui/fill.js').Child} Child */
+/**
+ * What the card asks of the panel: the lines; to draw them anew; and to go to a line.
+ * @typedef {{ lines: ScriptLines, redraw: () => void, goTo: (line: number) => void, log: (text: Uint8Array | null) => void }} CheckOwner
+ */
+
+const MOST_NAMED = 12;
+
+/** The card. `patched` is what Check said, null if that is old. */
+export class CheckCard {
+    /**
+     * @param {App} app
+     * @param {CheckOwner} owner
+     */
+    constructor(app, owner) {
+        this.app = app;
+        this.owner = owner;
+        this.patched = /** @type {Patched | null} */ (null);
+        this.seconds = 0;
+        this.busy = false;
+        this.failure = /** @type {Child} */ (null);
+        this.body = element('div', { class: 'pad stack' });
+        this.head = element('header', {}, element('h2', {}, 'Check'));
+        this.card = element('section', { class: 'card', 'aria-label': 'Check' }, this.head, this.body);
+        this.carry = element('input', { type: 'checkbox', change: () => this.forget() });
+        this.carryRow = element('label', { class: 'check' }, this.carry, element('span', {}, 'Patch damaged sectors too (',
+            term('carry', 'carry'), ')', element('br'), element('span', { class: 'small quiet' }, 'They keep their damage.')));
+        this.saving = new SaveCard(app, () => this.draw());
+    }
+
+    /** What Check said and what was saved is that of another script, image or carry now. */
+    outdate() {
+        this.patched = null;
+        this.failure = null;
+        this.saving.leave();
+    }
+
+    /** Forgets what Check said, for the image or carry is another one. */
+    forget() {
+        this.outdate();
+        this.owner.lines.setOutcomes([]);
+        this.owner.log(null);
+        this.owner.redraw();
+        this.draw();
+    }
+
+    draw() {
+        if (!this.busy) this.drawCard();
+    }
+
+    drawCard() {
+        if (this.saving.shown()) return fill(this.card, ...this.saving.parts());
+        const { lines } = this.owner;
+        fill(this.head, element('h2', {}, 'Check'), this.patched && element('span', { class: 'tag' },
+            `${this.seconds.toFixed(1)} s, status ${this.patched.status}`));
+        fill(this.card, this.head, this.body);
+        if (this.app.image === null) return fill(this.body,
+            element('p', {}, 'Open the image that this script patches: then Check says what fits.'));
+        const ready = lines.faults === 0 && lines.head >= 0;
+        const check = button(this.patched ? '' : 'main', () => this.check(), this.patched ? 'Check again' : 'Check');
+        const apply = button(this.patched ? 'main' : '', () => this.apply(), 'Apply and save…');
+        for (const it of [check, apply]) setDisabled(it, !ready);
+        return fill(this.body, this.failure, ...lines.faults > 0 ? [this.faults()] : this.outcomes(), this.carryRow,
+            element('div', { class: 'row' }, check, apply), element('p', { class: 'small quiet' }, ...this.footnote(ready)));
+    }
+
+    faults() {
+        const { lines, goTo } = this.owner;
+        /** @type {number[]} */
+        const wrong = [];
+        for (let i = lines.nextWrong(-1, 1); wrong.length < Math.min(MOST_NAMED, lines.faults); i = lines.nextWrong(i, 1)) wrong.push(i);
+        const named = wrong.map(i => String(i + 1));
+        const more = lines.faults - named.length;
+        const list = more > 0 ? `${named.join(', ')} and ${counted(more)} more` : named.join(', ').replace(/, (\d+)$/, ' and $1');
+        const one = lines.faults === 1;
+        return notice('bad', one ? 'A line has a fault' : `${counted(lines.faults)} lines have a fault`,
+            `A script with a fault is not applied at all. The ${one ? 'line is' : 'lines are'} ${list}.`,
+            element('div', { class: 'row' }, button('slim', () => goTo(wrong[0]), `Go to line ${wrong[0] + 1}`)));
+    }
+
+    /** @returns {Child[]} */
+    outcomes() {
+        const { lines } = this.owner;
+        if (this.patched === null) {
+            return [element('p', {}, lines.long ? 'Check says which patches fit this image. Nothing is changed.'
+                : lines.patches === 0 ? 'The script has no patch yet.' : lines.patches === 1
+                ? 'Check says whether the patch fits this image. Nothing is changed.'
+                : `Check says which of the ${counted(lines.patches)} patches fit this image. Nothing is changed.`)];
+        }
+        const { outcomes } = this.patched;
+        const applied = outcomes.filter(it => it.result === RESULT.OK).length;
+        const refused = outcomes.length - applied;
+        const tally = (/** @type {string} */ tone, /** @type {number} */ count, /** @type {string} */ word) =>
+            element('div', { class: count > 0 ? tone : '' }, element('b', {}, counted(count)), word);
+        const first = lines.nextWrong(lines.lines.length - 1, 1);
+        return [element('div', { class: 'tally' }, tally('good-ink', applied, 'would apply'),
+            tally('bad-ink', refused, 'refused')),
+            element('p', {}, sentenceOf(applied, refused)),
+            first < 0 ? null : element('div', { class: 'row' }, button('slim', () => this.owner.goTo(first), `Go to line ${first + 1}`))];
+    }
+
+    /**
+     * @param {boolean} ready
+     * @returns {Child[]}
+     */
+    footnote(ready) {
+        if (!ready) return ['Ready as soon as no line has a fault.'];
+        const applied = this.patched ? this.patched.outcomes.filter(it => it.result === RESULT.OK).length : -1;
+        const name = this.app.image ? this.app.image.name : '';
+        const fitting = applied < 0 ? '' : ` with the ${countOf(applied, 'patch that fits', 'patches that fit')}`;
+        return [`Saves a new image${fitting}. `, element('b', {}, nameOf(name)),
+            ' stays as it is.'];
+    }
+
+    /** Whether the script can be checked and saved: it has no fault, and neither is done already. */
+    isFree() {
+        const { faults, head } = this.owner.lines;
+        return !this.busy && !this.saving.running && faults === 0 && head >= 0;
+    }
+
+    /** Checks the script on the image. */
+    async check() {
+        const { image } = this.app;
+        const { lines } = this.owner;
+        if (image === null || !this.isFree()) return;
+        this.busy = true;
+        const began = performance.now();
+        try {
+            await this.app.run(async (signal, cancel) => {
+                const bar = jobBar('Checking', cancel);
+                fill(this.body, ...bar.parts);
+                const work = { reader: image.reader, base: image.base, script: lines.text(), carry: this.carry.checked };
+                const patched = await checkWork(this.app, work, { signal, progress: bar.at });
+                if (this.app.image === image && work.script === lines.text()) this.take(patched, (performance.now() - began) / 1000);
+            });
+        } catch (error) {
+            this.failure = isCancelled(error) ? null : failureOf(error);
+        } finally {
+            this.busy = false;
+            this.draw();
+        }
+    }
+
+    /**
+     * @param {Patched} patched
+     * @param {number} seconds
+     */
+    take(patched, seconds) {
+        this.patched = patched;
+        this.seconds = seconds;
+        this.failure = null;
+        this.owner.lines.setOutcomes(patched.outcomes);
+        this.owner.log(patched.text);
+        this.owner.redraw();
+        const applied = patched.outcomes.filter(it => it.result === RESULT.OK).length;
+        announce(sentenceOf(applied, patched.outcomes.length - applied));
+    }
+
+    /** Saves the patched image. */
+    async apply() {
+        const { image } = this.app;
+        const { lines } = this.owner;
+        if (image === null || !this.isFree()) return;
+        const work = { reader: image.reader, base: image.base, script: lines.text(), carry: this.carry.checked };
+        const made = await this.saving.save(image, work);
+        if (made && this.app.image === image && work.script === lines.text()) this.take(made, this.seconds);
+        this.draw();
+    }
+}
+
+/**
+ * @param {number} applied
+ * @param {number} refused
+ */
+function sentenceOf(applied, refused) {
+    const all = applied + refused;
+    if (all === 0) return 'The script has no patch: the saved image would be a copy.';
+    if (refused === 0) return all === 1 ? 'The patch fits this image.' : `All ${counted(all)} patches fit this image.`;
+    const others = refused === 1 ? 'The other would be left out.' : `The ${counted(refused)} others would be left out.`;
+    return applied === 0 ? 'No patch fits this image. Another release, another disc, or another base?' :
+        `${counted(applied)} of ${counted(all)} patches fit this image. ${others}`;
+}
+
+/**
+ * A notice on a failure, which says that nothing was done.
+ * @param {unknown} error
+ */
+export function failureOf(error) {
+    return notice('bad', messageOf(error), adviceOf(error, 'Nothing was saved. Open it again.'));
+}

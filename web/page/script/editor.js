@@ -1,0 +1,289 @@
+// The script as one sees it: lines with numbers, marks and what is said of them. Only the visible ones are drawn, and the line with the
+// caret is the only one that can be typed in.
+
+import { CONTENT, RESULT, isFault } from '../../core/module/records.js';
+import { faultyWord, partOfWord, lineParts } from '../../core/script/line_words.js';
+import { element } from '../ui/index.js';
+
+/** @typedef {import('../app/script_lines.js').ScriptLines} ScriptLines */
+/** @typedef {import('../ui/fill.js').Child} Child */
+/** What helps with a line: a text, '' if there is none, and what a button after it says, or ''. */
+/** @typedef {{ text: string, says: string }} LineHelp */
+/**
+ * What the editor asks of its panel: help for a line that is wrong, and its button; and who is told that the caret has moved to another
+ * line, and that the text was changed.
+ * @typedef {{ help: (line: number) => LineHelp, helpButton: (line: number) => Child, moved: () => void, changed: () => void,
+ *     check: () => void }} EditorOwner
+ */
+
+export const ROW_HEIGHT = 24;
+const WORDS_HEIGHT = 16;
+const HELP_HEIGHT = 19;
+const MARGIN = 90;
+const WORDS_WIDTH = 7.6;
+const HELP_WIDTH = 6.6;
+const MOST_COLUMNS = 84;
+const NARROW_EDITOR = 700;
+const MOST_DRAWN = 600;
+const ABOVE_AND_BELOW = 6;
+
+/** The editor of a script. */
+export class ScriptEditor {
+    /**
+     * @param {ScriptLines} lines
+     * @param {EditorOwner} owner
+     */
+    constructor(lines, owner) {
+        this.lines = lines;
+        this.owner = owner;
+        this.current = 0;
+        /** The other end of the chosen lines, or -1. */
+        this.anchor = -1;
+        this.tops = new Float64Array(2);
+        /** @type {Map<number, LineHelp>} */
+        this.helps = new Map();
+        this.area = element('textarea', { rows: 1, spellcheck: 'false', autocomplete: 'off', autocapitalize: 'off', wrap: 'soft' });
+        this.now = element('li', { class: 'now' });
+        this.list = element('ol', {});
+        this.box = element('div', { class: 'editor' }, this.list);
+        this.box.addEventListener('scroll', () => this.drawRows());
+        this.width = 0;
+        new ResizeObserver(() => requestAnimationFrame(() => this.resized())).observe(this.box);
+    }
+
+    /** Heights depend on the width of the box only. */
+    resized() {
+        if (this.box.clientWidth === this.width) return this.drawRows();
+        this.width = this.box.clientWidth;
+        return this.draw();
+    }
+
+    /** Draws all anew, after a change of the text or of what is said of it. */
+    draw() {
+        this.current = Math.min(this.current, this.lines.lines.length - 1);
+        this.chooseHelps();
+        this.drawCurrent();
+        this.place();
+        this.drawRows();
+    }
+
+    /** Help stands below a wrong line if the wrong line before has other help. */
+    chooseHelps() {
+        this.helps = new Map();
+        if (this.lines.faults === 0 && this.lines.outcomes.size === 0) return;
+        let before = '';
+        for (let i = 0; i < this.lines.lines.length; i++) {
+            if (!this.lines.isWrong(i)) continue;
+            const help = this.owner.help(i);
+            if (help.text !== '' && help.text !== before) this.helps.set(i, help);
+            before = help.text || before;
+        }
+    }
+
+    /** Calculates where each line begins. */
+    place() {
+        const { lines } = this.lines;
+        const typed = Math.max(this.area.scrollHeight, ROW_HEIGHT) - ROW_HEIGHT;
+        const { clientWidth: width } = this.box;
+        const [isNarrow, hasHelp] = [width < NARROW_EDITOR, this.helps.size > 0];
+        this.tops = new Float64Array(lines.length + 1);
+        for (let i = 0; i < lines.length; i++) {
+            const said = (isNarrow ? this.wordsHeight(i, width) : 0) + (hasHelp ? this.helpHeight(i) : 0);
+            this.tops[i + 1] = this.tops[i] + ROW_HEIGHT + said + (i === this.current ? typed : 0);
+        }
+        this.list.style.height = `${this.tops[lines.length]}px`;
+    }
+
+    /**
+     * How much higher a line is for what is said of it, which stands under it in a narrow editor.
+     * @param {number} i
+     * @param {number} width of the editor
+     */
+    wordsHeight(i, width) {
+        if (!this.lines.outcomes.has(i + 1) && !this.lines.isWrong(i)) return 0;
+        return 6 + WORDS_HEIGHT * Math.ceil(this.lines.wordsAt(i).length * WORDS_WIDTH / (width - MARGIN));
+    }
+
+    /**
+     * The height of the help under a line, 0 if there is none.
+     * @param {number} i
+     */
+    helpHeight(i) {
+        const help = this.helps.get(i);
+        if (help === undefined) return 0;
+        const size = help.text.length + (help.says === '' ? 0 : help.says.length + 4);
+        const columns = Math.min((this.box.clientWidth - MARGIN) / HELP_WIDTH, MOST_COLUMNS);
+        return 11 + HELP_HEIGHT * Math.ceil(size / columns) + (help.says === '' ? 0 : 4);
+    }
+
+    /**
+     * The first line that ends below a place.
+     * @param {number} y
+     */
+    lineAt(y) {
+        let [low, high] = [0, this.lines.lines.length - 1];
+        while (low < high) {
+            const middle = (low + high) >> 1;
+            if (this.tops[middle + 1] > y) high = middle;
+            else low = middle + 1;
+        }
+        return low;
+    }
+
+    /** Draws the visible lines round the one with the caret, which stays where it is so that it keeps the focus. */
+    drawRows() {
+        const { scrollTop, clientHeight } = this.box;
+        const first = Math.max(this.lineAt(scrollTop) - ABOVE_AND_BELOW, 0);
+        const last = Math.min(this.lineAt(scrollTop + clientHeight) + ABOVE_AND_BELOW, this.lines.lines.length - 1);
+        const [before, after] = [/** @type {Node[]} */ ([]), /** @type {Node[]} */ ([])];
+        for (let i = first; i <= last; i++) {
+            const side = i < this.current ? before : after;
+            if (i !== this.current) side.push(this.row(i));
+            if (this.helps.has(i)) (i < this.current ? before : after).push(this.helpRow(i));
+        }
+        this.now.style.top = `${this.tops[this.current]}px`;
+        if (this.now.parentNode === null) this.list.append(this.now);
+        while (this.now.previousSibling) this.now.previousSibling.remove();
+        while (this.now.nextSibling) this.now.nextSibling.remove();
+        this.now.before(...before);
+        this.now.after(...after);
+    }
+
+    /** @param {number} i */
+    row(i) {
+        const chosen = this.isChosen(i) ? ' chosen' : '';
+        const made = element('li', { class: (this.lines.isWrong(i) ? 'bad' : '') + chosen }, ...this.margin(i),
+            element('span', { class: 'src' }, ...colored(this.lines, i)), this.words(i));
+        made.dataset.line = String(i);
+        made.style.top = `${this.tops[i]}px`;
+        made.style.minHeight = `${this.tops[i + 1] - this.tops[i] - this.helpHeight(i)}px`;
+        return made;
+    }
+
+    /** @param {number} i */
+    margin(i) {
+        const wrong = this.lines.isWrong(i);
+        const refused = this.lines.outcomes.has(i + 1);
+        const applied = refused && !wrong;
+        const mark = applied ? '✓' : !wrong ? '' : refused ? '✕' : '!';
+        return [element('span', { class: 'ln' }, i + 1),
+            element('span', { class: `mk ${applied ? 'good-ink' : 'bad-ink'}`, 'aria-hidden': 'true' }, mark)];
+    }
+
+    /** @param {number} i */
+    words(i) {
+        const outcome = this.lines.outcomes.get(i + 1);
+        const applied = outcome !== undefined && outcome.result === RESULT.OK;
+        return element('span', { class: `out ${applied ? 'good-ink' : 'bad-ink'}` }, this.lines.wordsAt(i));
+    }
+
+    /** @param {number} i */
+    helpRow(i) {
+        const help = this.helps.get(i);
+        const made = element('li', { class: 'why' }, element('p', {}, help ? help.text : '', ' ', this.owner.helpButton(i)));
+        const height = this.helpHeight(i);
+        made.style.top = `${this.tops[i + 1] - height}px`;
+        made.style.height = `${height}px`;
+        return made;
+    }
+
+    drawCurrent() {
+        const i = this.current;
+        const { text } = this.lines.lines[i];
+        const wrong = this.lines.isWrong(i);
+        const words = this.lines.wordsAt(i);
+        if (this.area.value !== text) this.area.value = text;
+        this.area.setAttribute('aria-label', `Script, line ${i + 1} of ${this.lines.lines.length}${words ? `: ${words}` : ''}`);
+        this.now.className = `now${wrong ? ' bad' : ''}${this.isChosen(i) ? ' chosen' : ''}`;
+        if (this.area.parentNode === null) this.now.append(element('span', { class: 'src' }, this.area));
+        const source = /** @type {Element} */ (this.area.parentNode);
+        while (source.previousSibling) source.previousSibling.remove();
+        while (source.nextSibling) source.nextSibling.remove();
+        source.before(...this.margin(i));
+        source.after(this.words(i));
+        this.area.style.height = `${ROW_HEIGHT}px`;
+        this.area.style.height = `${Math.max(this.area.scrollHeight, ROW_HEIGHT)}px`;
+    }
+
+    /** @param {number} i */
+    isChosen(i) {
+        return this.anchor >= 0 && i >= Math.min(this.anchor, this.current) && i <= Math.max(this.anchor, this.current);
+    }
+
+    /**
+     * Moves the caret to a line, and shows it.
+     * @param {number} line
+     * @param {number} [column]
+     */
+    goTo(line, column = this.area.selectionStart) {
+        const count = this.lines.lines.length;
+        const target = Math.min(Math.max(line, 0), count - 1);
+        const other = target !== this.current;
+        this.current = target;
+        this.drawCurrent();
+        const at = Math.min(column, this.area.value.length);
+        this.area.setSelectionRange(at, at);
+        this.place();
+        this.reveal();
+        this.drawRows();
+        if (other) this.owner.moved();
+    }
+
+    /** Scrolls so that the line with the caret and its help are visible. */
+    reveal() {
+        const [top, end] = [this.tops[this.current], this.tops[this.current + 1]];
+        const { scrollTop, clientHeight } = this.box;
+        if (top < scrollTop) this.box.scrollTop = top;
+        else if (end > scrollTop + clientHeight) this.box.scrollTop = Math.min(end - clientHeight, top);
+    }
+
+    /** Puts the focus on the line with the caret. */
+    focus() {
+        this.area.focus({ preventScroll: true });
+        this.reveal();
+    }
+
+    /**
+     * Changes lines, and puts the caret into one.
+     * @param {number} at
+     * @param {number} count
+     * @param {string[]} come
+     * @param {number} line
+     * @param {number} column
+     */
+    edit(at, count, come, line, column) {
+        this.anchor = -1;
+        this.lines.edit(at, count, come);
+        this.current = Math.min(line, this.lines.lines.length - 1);
+        this.draw();
+        this.goTo(line, column);
+        this.owner.changed();
+        this.owner.moved();
+    }
+
+    /** The width of a character in pixels. */
+    characterWidth() {
+        const context = /** @type {CanvasRenderingContext2D} */ (document.createElement('canvas').getContext('2d'));
+        context.font = getComputedStyle(this.area).font;
+        return context.measureText('0').width || 8;
+    }
+}
+
+/**
+ * The words of a line in colours, the faulty one underlined.
+ * @param {ScriptLines} lines
+ * @param {number} i
+ * @returns {Child[]}
+ */
+function colored({ calls, lines }, i) {
+    const { text, content } = lines[i];
+    const drawn = text.slice(0, MOST_DRAWN);
+    if (content === CONTENT.NOTHING) return [element('span', { class: 'c' }, drawn)];
+    const parts = lineParts(drawn);
+    const wrong = isFault(content) ? faultyWord(calls, text, content) : -1;
+    return parts.map((part, k) => {
+        if (wrong >= 0 && k === partOfWord(parts, wrong)) return element('span', { class: 'e' }, part);
+        if (k === partOfWord(parts, 0)) return element('span', { class: 'v' }, part);
+        return part === 'was' ? element('span', { class: 'w' }, part) : part;
+    });
+}

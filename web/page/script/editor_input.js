@@ -1,0 +1,265 @@
+// Typing in the script: keys, the pointer, and the clipboard. What goes over one line is done here; within a line the browser does it.
+
+import { linesOfText } from '../../core/script/line_words.js';
+import { ROW_HEIGHT } from './editor.js';
+
+/** @typedef {import('./editor.js').ScriptEditor} ScriptEditor */
+
+/** @param {ScriptEditor} editor */
+export function listenToEditor(editor) {
+    const { area, box } = editor;
+    area.addEventListener('input', () => typed(editor));
+    area.addEventListener('keydown', event => pressedIn(editor, event));
+    for (const name of /** @type {const} */ (['copy', 'cut'])) {
+        area.addEventListener(name, event => copySelection(editor, event, name === 'cut'));
+    }
+    area.addEventListener('paste', () => {
+        if (editor.anchor >= 0) removeChosen(editor, ['']);
+    });
+    box.addEventListener('mousedown', event => pointed(editor, event));
+    box.addEventListener('mousemove', event => dragged(editor, event));
+}
+
+/** @param {ScriptEditor} editor */
+function typed(editor) {
+    const { area, current } = editor;
+    const lines = linesOfText(area.value);
+    if (lines.length > 1) {
+        const column = linesOfText(area.value.slice(0, area.selectionStart));
+        return editor.edit(current, 1, lines, current + column.length - 1, column[column.length - 1].length);
+    }
+    editor.anchor = -1;
+    editor.lines.edit(current, 1, lines, 'line');
+    editor.draw();
+    editor.reveal();
+    editor.owner.changed();
+    return editor.owner.moved();
+}
+
+/**
+ * @param {ScriptEditor} editor
+ * @param {KeyboardEvent} event
+ */
+function pressedIn(editor, event) {
+    const control = event.ctrlKey || event.metaKey;
+    const done = control ? pressedWithControl(editor, event) : pressedAlone(editor, event);
+    if (!done) return;
+    event.preventDefault();
+    event.stopPropagation();
+}
+
+/**
+ * @param {ScriptEditor} editor
+ * @param {KeyboardEvent} event
+ * @returns {boolean} whether the key was taken
+ */
+function pressedWithControl(editor, { key, shiftKey }) {
+    const last = editor.lines.lines.length - 1;
+    /** @type {Record<string, () => void>} */
+    const keys = {
+        Enter: () => editor.owner.check(),
+        Home: () => move(editor, 0, 0, shiftKey),
+        End: () => move(editor, last, Infinity, shiftKey),
+        a: () => {
+            editor.anchor = 0;
+            editor.goTo(last, Infinity);
+        },
+        z: () => turnBack(editor, shiftKey ? editor.lines.redo() : editor.lines.undo()),
+        y: () => turnBack(editor, editor.lines.redo()),
+    };
+    const press = keys[key.length === 1 ? key.toLowerCase() : key];
+    if (press) press();
+    return press !== undefined;
+}
+
+/**
+ * Shows what was undone or made again.
+ * @param {ScriptEditor} editor
+ * @param {number} line of it, or -1
+ */
+export function turnBack(editor, line) {
+    if (line < 0) return;
+    editor.anchor = -1;
+    editor.current = Math.min(line, editor.lines.lines.length - 1);
+    editor.draw();
+    editor.goTo(line, Infinity);
+    editor.owner.changed();
+    editor.owner.moved();
+}
+
+/**
+ * Takes back the bytes of a sector that were typed last, if nothing was done after them, and says whether it was so.
+ * @param {ScriptEditor} editor
+ */
+export function takeBackBytes(editor) {
+    const { done } = editor.lines;
+    const isLast = done.length > 0 && done[done.length - 1].typed === 'bytes';
+    if (isLast) turnBack(editor, editor.lines.undo());
+    return isLast;
+}
+
+/**
+ * @param {ScriptEditor} editor
+ * @param {KeyboardEvent} event
+ * @returns {boolean} whether the key was taken
+ */
+function pressedAlone(editor, { key, shiftKey, altKey, isComposing }) {
+    if (altKey || isComposing) return false;
+    const { area, current, lines } = editor;
+    const page = Math.max(Math.floor(editor.box.clientHeight / ROW_HEIGHT) - 1, 1);
+    const column = area.selectionStart;
+    if (key === 'ArrowUp') return atEdge(editor, -1) && move(editor, current - 1, column, shiftKey);
+    if (key === 'ArrowDown') return atEdge(editor, 1) && move(editor, current + 1, column, shiftKey);
+    if (key === 'PageUp') return move(editor, current - page, column, shiftKey);
+    if (key === 'PageDown') return move(editor, current + page, column, shiftKey);
+    if (key === 'Escape' && editor.anchor >= 0) return forget(editor);
+    if (key === 'F8') return showLine(editor, lines.nextWrong(current, shiftKey ? -1 : 1));
+    if (editor.anchor >= 0 && editor.anchor !== current) return pressedOnChosen(editor, key);
+    editor.anchor = -1;
+    if (area.selectionStart !== area.selectionEnd && key !== 'Enter') return false;
+    return pressedAtCaret(editor, key);
+}
+
+/**
+ * What a key does that goes over the borders of a line.
+ * @param {ScriptEditor} editor
+ * @param {string} key
+ */
+function pressedAtCaret(editor, key) {
+    const { area, current } = editor;
+    const { lines } = editor.lines;
+    const [line, at] = [area.value, area.selectionStart];
+    if (key === 'Enter') editor.edit(current, 1, [line.slice(0, at), line.slice(area.selectionEnd)], current + 1, 0);
+    else if (key === 'Backspace' && at === 0 && current > 0) {
+        const { text } = lines[current - 1];
+        editor.edit(current - 1, 2, [text + line], current - 1, text.length);
+    } else if (key === 'Delete' && at === line.length && current < lines.length - 1) {
+        editor.edit(current, 2, [line + lines[current + 1].text], current, at);
+    } else if (key === 'ArrowLeft' && at === 0 && current > 0) editor.goTo(current - 1, Infinity);
+    else if (key === 'ArrowRight' && at === line.length && current < lines.length - 1) editor.goTo(current + 1, 0);
+    else return false;
+    return true;
+}
+
+/**
+ * What a key does to chosen lines. A letter takes their place.
+ * @param {ScriptEditor} editor
+ * @param {string} key
+ */
+function pressedOnChosen(editor, key) {
+    if (key === 'Backspace' || key === 'Delete') return removeChosen(editor, []);
+    if (key === 'Enter') return removeChosen(editor, ['', '']);
+    if (key.length === 1) removeChosen(editor, ['']);
+    else if (/^(Arrow|Home|End)/.test(key)) forget(editor);
+    return false;
+}
+
+/** @param {ScriptEditor} editor */
+function forget(editor) {
+    editor.anchor = -1;
+    editor.draw();
+    return true;
+}
+
+/**
+ * @param {ScriptEditor} editor
+ * @param {string[]} come
+ */
+function removeChosen(editor, come) {
+    const [first, last] = chosen(editor);
+    editor.edit(first, last - first + 1, come, first, 0);
+    return true;
+}
+
+/**
+ * The first and the last chosen line.
+ * @param {ScriptEditor} editor
+ */
+function chosen({ anchor, current }) {
+    return anchor < 0 ? [current, current] : [Math.min(anchor, current), Math.max(anchor, current)];
+}
+
+/**
+ * Moves the caret, and chooses the lines on its way if Shift is held.
+ * @param {ScriptEditor} editor
+ * @param {number} line
+ * @param {number} column
+ * @param {boolean} choosing
+ */
+function move(editor, line, column, choosing) {
+    editor.anchor = !choosing ? -1 : editor.anchor < 0 ? editor.current : editor.anchor;
+    editor.goTo(line, column);
+    return true;
+}
+
+/**
+ * @param {ScriptEditor} editor
+ * @param {number} line or -1
+ */
+function showLine(editor, line) {
+    if (line >= 0) move(editor, line, 0, false);
+    return true;
+}
+
+/**
+ * Whether the caret stands in the first row of its line, or in the last.
+ * @param {ScriptEditor} editor
+ * @param {number} step -1 or 1
+ */
+function atEdge(editor, step) {
+    const { area, anchor } = editor;
+    if (anchor >= 0 || area.scrollHeight < 2 * ROW_HEIGHT) return true;
+    const columns = Math.max(Math.floor(area.clientWidth / editor.characterWidth()), 1);
+    const [row, last] = [Math.floor(area.selectionStart / columns), Math.floor(area.value.length / columns)];
+    return step < 0 ? row === 0 : row >= last;
+}
+
+/**
+ * @param {ScriptEditor} editor
+ * @param {ClipboardEvent} event
+ * @param {boolean} cut
+ */
+function copySelection(editor, event, cut) {
+    if (editor.anchor < 0 || event.clipboardData === null) return;
+    const [first, last] = chosen(editor);
+    event.clipboardData.setData('text/plain', editor.lines.lines.slice(first, last + 1).map(({ text }) => `${text}\n`).join(''));
+    event.preventDefault();
+    if (cut) removeChosen(editor, []);
+}
+
+/**
+ * The line at the pointer, or -1.
+ * @param {MouseEvent} event
+ */
+function lineUnder({ target }) {
+    const row = target instanceof Element ? /** @type {HTMLElement | null} */ (target.closest('li[data-line]')) : null;
+    return row ? Number(row.dataset.line) : -1;
+}
+
+/**
+ * @param {ScriptEditor} editor
+ * @param {MouseEvent} event
+ */
+function pointed(editor, event) {
+    const line = lineUnder(event);
+    if (line < 0 || event.button !== 0) {
+        if (event.target === editor.area) forget(editor);
+        return;
+    }
+    event.preventDefault();
+    const source = /** @type {Element} */ (event.target).closest('li');
+    const text = source && source.querySelector('.src');
+    const left = text ? text.getBoundingClientRect().left + 4 : 0;
+    const column = Math.max(Math.round((event.clientX - left) / editor.characterWidth()), 0);
+    move(editor, line, column, event.shiftKey);
+    editor.area.focus({ preventScroll: true });
+}
+
+/**
+ * @param {ScriptEditor} editor
+ * @param {MouseEvent} event
+ */
+function dragged(editor, event) {
+    const line = lineUnder(event);
+    if (line >= 0 && event.buttons === 1 && document.activeElement === editor.area) move(editor, line, 0, true);
+}

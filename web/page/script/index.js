@@ -1,0 +1,3 @@
+// The panel Script.
+
+export { mountScript } from './panel.js';

@@ -1,0 +1,253 @@
+// The panel Script: the editor with what its line with the caret means, Check and Apply, and the log.
+
+import { LONG } from '../app/index.js';
+import { downloadText } from '../save/index.js';
+import { askBeforeLeaving, button, byId, clearNotices, copyText, countOf, counted, element, fill, keyed, nameOf } from '../ui/index.js';
+import { notice, setDisabled, showNotice } from '../ui/index.js';
+import { CheckCard } from './check_card.js';
+import { ScriptEditor } from './editor.js';
+import { listenToEditor, takeBackBytes, turnBack } from './editor_input.js';
+import { explainLine } from './explain.js';
+import { helpOfFault, helpOfRefusal } from './plain_words.js';
+import { makeUndo } from './undo_file.js';
+
+/** @typedef {import('../app/state.js').App} App */
+/** @typedef {import('./editor.js').LineHelp} LineHelp */
+/** @typedef {import('../ui/fill.js').Child} Child */
+
+const MOST_LOG = 200000;
+
+/** The panel. */
+class ScriptPanel {
+    /**
+     * @param {App} app
+     * @param {HTMLElement} panel
+     */
+    constructor(app, panel) {
+        this.app = app;
+        this.lines = app.script;
+        /** Whether the script has changed since it was drawn. */
+        this.isOld = false;
+        this.editor = new ScriptEditor(this.lines, {
+            help: line => this.help(line),
+            helpButton: line => this.helpButton(line),
+            moved: () => this.explain(),
+            changed: () => this.changed(),
+            check: () => void this.check.check(),
+        });
+        this.check = new CheckCard(app, {
+            lines: this.lines,
+            redraw: () => this.editor.draw(),
+            goTo: line => this.goTo(line),
+            log: text => this.showLog(text),
+        });
+        this.strip = element('div', { class: 'explain', 'aria-live': 'off' });
+        this.unshown = element('div');
+        this.undoing = element('div', { class: 'pad stack' });
+        this.head = element('header', {});
+        this.log = element('section', { class: 'card', 'aria-label': 'Log', hidden: true });
+        this.side = element('div', { class: 'side' });
+        this.opening = element('input', { type: 'file', class: 'hide', tabindex: -1, 'aria-label': 'A script to open',
+            change: () => this.open() });
+        listenToEditor(this.editor);
+        panel.append(element('div', { class: 'two' }, element('section', { class: 'card', 'aria-label': 'Script' }, this.head,
+            this.undoing, this.unshown, this.editor.box, this.strip),
+            this.side), this.opening);
+        panel.addEventListener('keydown', event => this.pressed(event));
+        this.load(null);
+        this.listen();
+    }
+
+    listen() {
+        const { app } = this;
+        askBeforeLeaving(() => this.isLost());
+        app.serve({ takeBackBytes: () => takeBackBytes(this.editor) });
+        app.on('line', line => this.goTo(line));
+        app.on('script', change => change && this.load(change.back));
+        app.on('image', () => {
+            this.check.forget();
+            this.drawHead();
+        });
+        for (const name of /** @type {const} */ (['files', 'encoding'])) app.on(name, () => this.explain());
+        app.on('panel', () => {
+            if (app.panel !== 'script') return;
+            if (this.isOld) this.drawAll();
+            else this.editor.draw();
+            this.editor.goTo(this.editor.current);
+            this.explain();
+        });
+    }
+
+    /** Whether there is a script that is in no file. */
+    isLost() {
+        return !this.lines.isSaved() && !this.lines.isNew();
+    }
+
+    /**
+     * Shows the script, which somebody else has changed. Only the head is seen while another panel is shown.
+     * @param {(() => number) | null} back brings back what it was, if that is in no file
+     */
+    load(back) {
+        this.editor.current = Math.min(this.editor.current, this.lines.lines.length - 1);
+        this.check.outdate();
+        this.showLog(null);
+        this.drawHead();
+        this.isOld = true;
+        if (this.app.panel === 'script') this.drawAll();
+        if (back) queueMicrotask(() => this.offerBack(back));
+    }
+
+    /** @param {() => number} bringBack */
+    offerBack(bringBack) {
+        const back = () => {
+            const line = bringBack();
+            clearNotices();
+            this.load(null);
+            turnBack(this.editor, line);
+        };
+        showNotice('warn', 'Your script was in no file, and has made way for this one.', element('div', { class: 'row' },
+            button('slim', back, 'Bring it back')));
+    }
+
+    changed() {
+        this.check.outdate();
+        this.showLog(null);
+        this.drawHead();
+        this.drawSide();
+        this.app.noteTyped();
+    }
+
+    drawAll() {
+        this.isOld = false;
+        const { long } = this.lines;
+        this.editor.box.hidden = this.strip.hidden = long !== null;
+        fill(this.unshown, long && notice('plain', 'This script is too long: its lines are not shown.', LONG));
+        this.editor.draw();
+        this.drawSide();
+        this.explain();
+    }
+
+    drawHead() {
+        const { lines, app } = this;
+        const { name } = lines;
+        const fault = lines.faults > 0;
+        const tag = fault ? countOf(lines.faults, 'fault') : lines.long ? countOf(lines.long.text.length, 'character')
+            : `${countOf(lines.patches, 'patch', 'patches')}${lines.version ? `, version ${lines.version}` : ''}`;
+        const undo = button('slim bare', () => void makeUndo(app, undo, this.undoing, lines, this.check.carry.checked),
+            'Make the undo script…');
+        setDisabled(undo, fault || app.image === null || (lines.patches === 0 && !lines.long));
+        fill(this.head, element('h2', { class: name ? 'mono' : '' }, name ? nameOf(name) : 'New script'),
+            element('span', { class: `tag${fault ? ' bad' : ''}` }, tag),
+            this.isLost() && element('span', { class: 'tag warn' }, 'in no file yet'),
+            button('slim bare', () => this.opening.click(), 'Open…'),
+            keyed('save', button('slim bare', () => this.save(), 'Save script…')), undo);
+        const count = byId('count-script');
+        count.hidden = !fault && lines.patches === 0;
+        count.className = `count${fault ? ' bad' : ''}`;
+        fill(count, counted(fault ? lines.faults : lines.patches), fault
+            ? element('span', { class: 'long' }, lines.faults === 1 ? ' fault' : ' faults')
+            : element('span', { class: 'hide' }, lines.patches === 1 ? ' patch' : ' patches'));
+    }
+
+    drawSide() {
+        const works = this.check.busy || this.check.saving.shown();
+        const none = this.lines.patches === 0 && this.lines.faults === 0 && !this.lines.long && !works;
+        if (none) return fill(this.side, this.emptyCard());
+        this.check.draw();
+        return fill(this.side, this.check.card, this.log);
+    }
+
+    emptyCard() {
+        const { app } = this;
+        return element('section', { class: 'card pad stack' }, element('h2', {}, 'No patches yet'),
+            element('p', {}, 'A script is the list of your changes. You rarely type it:'),
+            element('div', { class: 'stack tight start' }, button('', () => app.showPanel('text'), 'Find and replace a text'),
+                button('', () => app.showPanel('disc'), 'Change bytes of a sector'),
+                    button('', () => this.opening.click(), 'Open a script…')));
+    }
+
+    explain() {
+        explainLine(this.app, this.lines, this.editor.current, this.strip);
+    }
+
+    /**
+     * @param {number} line
+     * @returns {LineHelp}
+     */
+    help(line) {
+        const { app: { image }, lines } = this;
+        const outcome = lines.outcomes.get(line + 1);
+        if (outcome !== undefined && image) return helpOfRefusal(outcome.result, image, lines.writerBefore(outcome));
+        const { text, fix } = helpOfFault(lines, line);
+        return { text, says: fix ? fix.says : '' };
+    }
+
+    /**
+     * The button that shows where a patch is refused, or mends a faulty line; null if there is none.
+     * @param {number} line
+     */
+    helpButton(line) {
+        const { says } = this.help(line);
+        const outcome = this.lines.outcomes.get(line + 1);
+        const press = () => {
+            if (outcome) return this.app.goTo(outcome.block, outcome.offset, true);
+            const { fix } = helpOfFault(this.lines, line);
+            return this.editor.edit(line, 1, fix ? fix.lines : [], line, 0);
+        };
+        return says === '' ? null : button('slim bare', press, says);
+    }
+
+    /** @param {number} line */
+    goTo(line) {
+        this.editor.anchor = -1;
+        this.editor.goTo(line, 0);
+        this.editor.focus();
+    }
+
+    /** @param {KeyboardEvent} event */
+    pressed(event) {
+        const control = event.ctrlKey || event.metaKey;
+        if (event.key === 'Enter' && control) this.check.check();
+        else if (event.key === 's' && control) this.save();
+        else if (event.key === 'F8') {
+            const line = this.lines.nextWrong(this.editor.current, event.shiftKey ? -1 : 1);
+            if (line >= 0) this.goTo(line);
+        } else return;
+        event.preventDefault();
+    }
+
+    save() {
+        downloadText(this.lines.text(), this.lines.name || 'script.txt');
+        this.lines.noteSaved();
+        this.drawHead();
+    }
+
+    open() {
+        const files = [...this.opening.files || []];
+        this.opening.value = '';
+        this.app.open(files);
+    }
+
+    /** @param {Uint8Array | null} bytes */
+    showLog(bytes) {
+        this.log.hidden = bytes === null;
+        if (bytes === null) return;
+        const text = new TextDecoder().decode(bytes);
+        const shown = text.length > MOST_LOG ? `${text.slice(0, text.lastIndexOf('\n', MOST_LOG))}\n…\n` : text;
+        const command = element('span', { class: 'mono' }, 'cdpatch check');
+        fill(this.log, element('header', {}, element('h2', {}, 'Log'), button('slim bare', () => copyText(text), 'Copy',
+            element('span', { class: 'hide' }, ' the log')),
+            button('slim bare', () => downloadText(text, 'log.txt'), 'Save…', element('span', { class: 'hide' }, ' the log'))),
+        element('div', { class: 'pad stack tight' }, element('pre', { class: 'log', tabindex: 0, 'aria-label': 'Log' }, shown),
+            element('p', { class: 'small quiet' }, 'The same text as ', command,
+                ' prints, in the order of application: by block, then by line.')));
+    }
+}
+
+/**
+ * @param {App} app
+ * @param {HTMLElement} panel
+ */
+export function mountScript(app, panel) {
+    return new ScriptPanel(app, panel);
+}

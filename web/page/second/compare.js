@@ -1,0 +1,129 @@
+// Compare with a second image: where both differ, and the script from one to the other.
+
+import { FIELD_COUNT, SECOND_STATE, tailsDiffer } from '../../core/images/compare.js';
+import { patchedName } from '../save/index.js';
+import { button, countOf, element, fill, jobBar, notice, tableCard, tallyOf, term } from '../ui/index.js';
+import { addDiffering, compareMarks } from './marks.js';
+import { writeScript } from './script.js';
+
+/** @typedef {import('../app/state.js').App} App */
+/** @typedef {import('../../core/images/compare.js').Differing} Differing */
+/** @typedef {import('./marks.js').PairMarks} PairMarks */
+/** @typedef {{ block: number, fields: number[], state: number }} FieldRow */
+
+/** What was found: the first rows, how many sectors differ only in their codes, and whether the bytes after the last sector differ. */
+/** @typedef {{ rows: FieldRow[], onlyCodes: number, tail: boolean }} Rows */
+
+const MOST_ROWS = 400;
+
+export class SecondCompare {
+    /**
+     * @param {App} app
+     * @param {() => void} changed
+     */
+    constructor(app, changed) {
+        this.app = app;
+        this.changed = changed;
+        this.body = element('div', { class: 'stack' });
+        this.table = element('div');
+        this.place = element('div', { class: 'stack' });
+        this.marks = /** @type {PairMarks | null} */ (null);
+        this.begun = false;
+        /** @type {FieldRow[]} */
+        this.rows = [];
+        this.onlyCodes = 0;
+        this.tail = false;
+    }
+
+    model() {
+        return this.marks;
+    }
+
+    forget() {
+        Object.assign(this, { begun: false, marks: null, rows: [], onlyCodes: 0, tail: false });
+        fill(this.body);
+        fill(this.table);
+        fill(this.place);
+    }
+
+    async begin() {
+        const { app } = this;
+        const { image, second, survey } = app;
+        if (this.begun || image === null || second === null || survey === null) return;
+        this.forget();
+        this.begun = true;
+        const marks = compareMarks(survey.marks);
+        /** @type {Rows} */
+        const found = { rows: [], onlyCodes: 0, tail: false };
+        try {
+            await app.runPair((signal, cancel) => {
+                const bar = jobBar('Comparing both images', cancel);
+                fill(this.body, ...bar.parts);
+                const how = { base: image.base, signal, progress: bar.sectors };
+                return app.crew.share('differ', [image.reader, second.reader], {}, how, answer => addRows(marks, found, answer));
+            });
+            found.tail = await tailsDiffer(image.reader, second.reader);
+        } catch (error) {
+            if (app.second !== second) return;
+            this.begun = false;
+            throw error;
+        }
+        if (app.second !== second) return;
+        Object.assign(this, found, { marks });
+        this.draw(marks);
+        this.changed();
+    }
+
+    /** @param {PairMarks} marks */
+    draw(marks) {
+        const [differ, damaged, others] = [0, 1, 2].map(which => marks.count(which));
+        const all = differ + damaged + others;
+        const tally = tallyOf([[all, all === 1 ? 'sector differs' : 'sectors differ', ''], [this.onlyCodes, 'only in EDC or parity', ''],
+            [damaged, 'damaged in the second', damaged > 0 ? 'bad-ink' : '']]);
+        const write = button('main', () => this.write(), 'Write the script');
+        const same = notice('good', `Both images are the same, ${this.tail ? 'sector for sector' : 'byte for byte'}.`);
+        const tail = this.tail && notice('warn', 'The bytes after the last sector differ.', 'No script changes them.');
+        fill(this.body, tally, tail, all === 0 ? same : element('div', { class: 'row' }, write), this.place);
+        if (all > 0) this.drawTable(all);
+    }
+
+    write() {
+        const { image, second } = this.app;
+        if (image !== null && second !== null) {
+            writeScript(this.app, this.place, image, second.reader, patchedName(second.name, 'changes', '.txt'));
+        }
+    }
+
+    /** @param {number} all */
+    drawTable(all) {
+        const { rows } = this;
+        const names = ['header', 'user data', 'EDC', 'parity'];
+        const head = element('tr', {}, element('th', { class: 'n' }, term('block', 'Block')), ...names.map(name =>
+            element('th', { class: 'n' }, name === 'EDC' ? term('edc', name) : name)));
+        const body = rows.map(({ block, fields, state }) => element('tr', {},
+            element('td', { class: 'n', 'data-l': 'block' },
+                button('slim bare tiny', () => this.app.goTo(block, -1, true), String(block)),
+                state === SECOND_STATE.DAMAGED && element('span', { class: 'tag bad' }, 'damaged in the second')),
+            ...fields.map((count, i) => element('td', { class: 'n', 'data-l': names[i] }, count))));
+        const text = rows.map(({ block, fields }) => `${block}\t${fields.join('\t')}\n`).join('');
+        const left = all - rows.length;
+        const foot = left > 0 ? `${countOf(left, 'more block has', 'more blocks have')} no row here.`
+            : 'If the user data differ and the EDC does not, one of the two is damaged.';
+        fill(this.table, tableCard('Bytes that differ, by field', head, body, text, foot));
+    }
+}
+
+/**
+ * @param {PairMarks} marks
+ * @param {Rows} found
+ * @param {Differing} answer
+ */
+function addRows(marks, found, answer) {
+    addDiffering(marks, answer);
+    answer.blocks.forEach((block, i) => {
+        const [sync, header, user, edc, zeros, parity] = answer.fields.subarray(i * FIELD_COUNT, (i + 1) * FIELD_COUNT);
+        const fields = [sync + header, user, edc, zeros + parity];
+        found.onlyCodes += Number(fields[0] + fields[1] === 0);
+        if (found.rows.length < MOST_ROWS) found.rows.push({ block, fields, state: answer.states[i] });
+    });
+}

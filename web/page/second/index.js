@@ -1,0 +1,3 @@
+// The card of a second image.
+
+export { SecondCard } from './card.js';

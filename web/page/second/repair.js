@@ -1,0 +1,267 @@
+// Repair from a second image: what it would take, shown before anything is saved.
+
+import { readBytes } from '../../core/bytes.js';
+import { mergeImages } from '../../core/images/merge.js';
+import { filesAt } from '../../core/iso/files.js';
+import { blocksIn, blocksText } from '../../core/sectors/runs.js';
+import { SECTOR_SIZE } from '../../core/sectors/sector.js';
+import { findingOf } from '../../core/sectors/survey.js';
+import { MARK, sha1Of } from '../app/index.js';
+import { fileReader, readImage } from '../open/index.js';
+import { failureOfSaving, patchedName, pieceReader, savePieces } from '../save/index.js';
+import { askBeforeLeaving, button, countOf, counted, element, fill, hashParts, jobBar, messageOf, nameOf, notice } from '../ui/index.js';
+import { runAt, shownName, tableCard, tallyOf, term } from '../ui/index.js';
+import { repairMarks } from './marks.js';
+import { writeScript } from './script.js';
+
+/** @typedef {import('../app/state.js').App} App */
+/** @typedef {import('../../core/images/merge.js').Repair} Repair */
+/** @typedef {import('../../core/bytes.js').Piece} Piece */
+/** @typedef {import('../ui/fill.js').Child} Child */
+/** @typedef {import('./marks.js').PairMarks} PairMarks */
+/** @typedef {{ repair: Repair, pieces: Piece[] }} Found the pieces are those of the repaired image */
+/** @typedef {{ block: number, here: string, there: string, file: string, same: boolean }} DamageRow */
+
+const MOST_ROWS = 200;
+const MOST_RUNS_NAMED = 8;
+
+export class SecondRepair {
+    /**
+     * @param {App} app
+     * @param {() => void} changed
+     */
+    constructor(app, changed) {
+        this.app = app;
+        this.changed = changed;
+        this.body = element('div', { class: 'stack' });
+        this.table = element('div');
+        this.place = element('div', { class: 'stack' });
+        this.marks = /** @type {PairMarks | null} */ (null);
+        this.found = /** @type {Found | null} */ (null);
+        this.begun = false;
+        this.drawn = 0;
+        /** Whether a file is being saved, as far as this page can know. */
+        this.saving = false;
+        askBeforeLeaving(() => this.saving);
+        app.on('surveyed', () => this.draw());
+        app.on('files', () => void this.drawTable());
+    }
+
+    model() {
+        return this.marks;
+    }
+
+    forget() {
+        this.begun = this.saving = false;
+        this.marks = this.found = null;
+        for (const part of [this.body, this.table, this.place]) fill(part);
+    }
+
+    async begin() {
+        const { app } = this;
+        const { image, second } = app;
+        if (this.begun || image === null || second === null) return;
+        this.begun = true;
+        try {
+            /** @type {Piece[]} */
+            const pieces = [];
+            const repair = await app.runPair((signal, cancel) => {
+                const bar = jobBar('Comparing both images', cancel);
+                fill(this.body, ...bar.parts);
+                return mergeImages(app.crew, image, [second], { signal, progress: bar.sectors }, piece => { pieces.push(piece); });
+            });
+            if (app.second !== second) return;
+            this.found = { repair, pieces };
+            this.draw();
+            await this.drawTable();
+        } catch (error) {
+            if (app.second !== second) return;
+            this.begun = false;
+            throw error;
+        }
+    }
+
+    /** The blocks that are not repaired: damaged ones, and those inside Mode 1 that are it in neither image. */
+    unrepaired() {
+        const { found, app: { survey } } = this;
+        if (found === null || survey === null) return [];
+        const lost = found.repair.others.filter(({ first }) => survey.marks.marks[first - survey.block] === MARK.LOST);
+        return [...found.repair.damaged, ...lost].sort((a, b) => a.first - b.first);
+    }
+
+    /** Shows what was found, on the map too. If the repair is refused nothing was found that is of use. */
+    draw() {
+        const { found, app: { survey } } = this;
+        if (found === null || survey === null) return;
+        const { repair, pieces } = found;
+        const unrepaired = this.unrepaired();
+        this.marks = repair.refused ? null : repairMarks(survey.marks);
+        if (this.marks) {
+            this.marks.setRuns(repair.taken, 0);
+            this.marks.setRuns(unrepaired, 1);
+        }
+        const words = repair.refused ? [refusedRepair(repair)] : this.foundWords(repair, pieces, blocksIn(unrepaired));
+        fill(this.body, ...words);
+        this.changed();
+    }
+
+    /**
+     * @param {Repair} repair
+     * @param {Piece[]} pieces of the repaired image
+     * @param {number} damaged how many sectors are not repaired
+     * @returns {Child[]}
+     */
+    foundWords(repair, pieces, damaged) {
+        const [taken, different] = [blocksIn(repair.taken), repair.different[0]];
+        const tally = tallyOf([[taken, 'can be repaired', taken > 0 ? 'good-ink' : ''],
+            [damaged, 'cannot be repaired', damaged > 0 ? 'bad-ink' : ''], [different, 'sound in both, but different', '']]);
+        const save = button('main', () => void this.save(pieces), 'Save repaired image…');
+        const script = button('', () => void this.script(pieces), 'Write it as a script');
+        const none = taken === 0 ? [notice('plain', 'There is nothing to repair from it.', damaged === 0 ? 'No sector here is damaged.'
+            : 'No sector that is damaged here is sound there, with the address of its block.')] : [];
+        const warning = different > 0 ? [notice('warn',
+            `${countOf(different, 'sector is sound in both, and differs', 'sectors are sound in both, and differ')}.`,
+            'Perhaps it is another release of the disc. They stay as they are here.')] : [];
+        const doubt = repair.doubtful.length > 0 && notice('warn',
+            `${countOf(blocksIn(repair.doubtful), 'sector has', 'sectors have')} other data here, and another EDC.`,
+            `Perhaps the second image is another release of the disc: look at ${blocksText(repair.doubtful, MOST_RUNS_NAMED)} first.`);
+        const tail = repair.tails[0] && notice('warn', 'The bytes after the last sector differ.', 'They stay as they are here.');
+        return [tally, ...none, doubt, ...warning, tail, element('p', { class: 'small quiet' },
+            'Whole sectors are copied, and only those that are damaged here and sound there. A sound sector is never changed. ' +
+            'Your file stays as it is.'), taken > 0 && element('div', { class: 'row' }, save, script), this.place];
+    }
+
+    /** @param {Piece[]} pieces */
+    save(pieces) {
+        return runAt(this.place, () => this.saveHere(pieces));
+    }
+
+    /** @param {Piece[]} pieces */
+    async saveHere(pieces) {
+        const { app, place } = this;
+        const { image, second } = app;
+        if (image === null || second === null) return;
+        const show = (/** @type {Child[]} */ ...parts) => fill(place, ...parts);
+        try {
+            const saved = await app.runSave((signal, cancel) => {
+                const bar = jobBar('Saving', cancel, { saves: true });
+                show(...bar.parts);
+                this.saving = true;
+                const progress = (/** @type {number} */ done) => bar.at(done, image.reader.size);
+                const name = patchedName(image.name, 'repaired');
+                return savePieces([image.reader, second.reader], pieces, name, app.openFiles(), { signal, progress });
+            });
+            this.saving = saved !== null && !saved.streamed;
+            show(...saved ? this.savedWords(saved, image.reader.size) : []);
+        } catch (error) {
+            this.saving = false;
+            show(failureOfSaving(error, image.reader.size));
+        }
+    }
+
+    /**
+     * @param {{ name: string, streamed: boolean, file: File | null }} saved
+     * @param {number} size
+     * @returns {Child[]}
+     */
+    savedWords({ name, streamed, file }, size) {
+        const { app } = this;
+        const said = streamed ? notice('good', ['Saved: ', nameOf(name)], 'All sectors that were not repaired are as before.')
+            : notice('good', ['Your browser is saving ', nameOf(name)],
+                `It must have ${counted(size)} bytes. Keep this page open until it has.`);
+        if (file === null) return [said];
+        const sum = element('dd', { id: 'repaired-sha1' }, '…');
+        const told = (/** @type {number} */ done) => { sum.textContent = `(${Math.floor(100 * done / size)} %)`; };
+        sha1Of(app.parts, fileReader(file), app.pairing.signal, told).then(sha1 => fill(sum, ...hashParts(sha1)),
+            error => { sum.textContent = messageOf(error); });
+        const open = button('', () => {
+            readImage(app, null);
+            app.open([file]);
+        }, 'Open the new image');
+        return [said, element('dl', { class: 'hashes' }, element('dt', {}, 'SHA-1'), sum), element('div', { class: 'row' }, open)];
+    }
+
+    /** @param {Piece[]} pieces */
+    async script(pieces) {
+        const { image } = this.app;
+        if (image === null) return;
+        await writeScript(this.app, this.place, image, pieceReader(image.reader, pieces), patchedName(image.name, 'repair', '.txt'));
+    }
+
+    /** Lists what is not repaired, again as soon as the files are known. */
+    async drawTable() {
+        const { found } = this;
+        if (found === null) return;
+        const number = ++this.drawn;
+        const damaged = found.repair.refused ? [] : this.unrepaired();
+        const rows = await this.rows(blocksOf(damaged, MOST_ROWS));
+        if (this.found !== found || number !== this.drawn) return;
+        if (rows.length === 0) {
+            fill(this.table);
+            return;
+        }
+        const count = blocksIn(damaged);
+        const cells = rows.map(({ block, here, there, file }) => element('tr', {},
+            element('td', { class: 'n', 'data-l': 'block' }, button('slim bare tiny', () => this.app.goTo(block, -1, true), String(block))),
+            element('td', { class: 'mono small', 'data-l': 'here' }, here),
+            element('td', { class: 'mono small', 'data-l': 'there' }, there), element('td', { class: 'mono small wide' }, file)));
+        const head = element('tr', {}, element('th', { class: 'n' }, term('block', 'Block')), element('th', {}, 'Here'),
+            element('th', {}, 'In the second image'), element('th', {}, 'File'));
+        const text = rows.map(({ block, here, there, file }) => `${block}\t${here}\t${there}\t${file}\n`).join('');
+        const same = rows.filter(row => row.same).map(row => row.block);
+        fill(this.table, tableCard(`Cannot be repaired: ${counted(count)}`, head, cells, text, footOf(same, count - rows.length)));
+    }
+
+    /**
+     * @param {number[]} blocks
+     * @returns {Promise<DamageRow[]>}
+     */
+    async rows(blocks) {
+        const { calls, image, second, files } = this.app;
+        if (image === null || second === null) return [];
+        const rows = [];
+        for (const block of blocks) {
+            const at = (block - image.base) * SECTOR_SIZE;
+            const [old, other] = await Promise.all([image, second].map(it => readBytes(it.reader, at, SECTOR_SIZE)));
+            const said = [old, other].map(sector => findingOf(calls, block, calls.survey(sector, block)) || 'not of Mode 1');
+            const [file] = files === null ? [] : filesAt(files.files, block, 0);
+            const same = old.every((it, i) => it === other[i]);
+            const where = file ? shownName(file.path) : files === null ? '–' : 'in no file';
+            rows.push({ block, here: said[0], there: said[1], file: where, same });
+        }
+        return rows;
+    }
+}
+
+/** @param {Repair} repair that is refused */
+function refusedRepair({ different: [different] }) {
+    return notice('bad', 'This is no dump of the same disc, or it is shifted.',
+        `${countOf(different, 'sector is sound in both and differs', 'sectors are sound in both and differ')}: ` +
+        'more than one in a hundred. Nothing is taken.');
+}
+
+/**
+ * The first blocks of runs.
+ * @param {{ first: number, last: number }[]} runs
+ * @param {number} most
+ */
+function blocksOf(runs, most) {
+    const blocks = [];
+    for (const { first, last } of runs) {
+        for (let block = first; block <= last && blocks.length < most; block++) blocks.push(block);
+    }
+    return blocks;
+}
+
+/**
+ * @param {number[]} same the blocks in which both images hold the same bytes
+ * @param {number} left how many blocks have no row
+ */
+function footOf(same, left) {
+    const more = left > 0 ? `${countOf(left, 'more has', 'more have')} no row here. ` : '';
+    if (same.length === 0) return `${more}The images differ in each block.`;
+    const several = same.length < 4 ? `blocks ${same.join(', ')}` : `${same.length} of these blocks`;
+    const blocks = same.length === 1 ? `block ${same[0]}` : several;
+    return `${more}In ${blocks} both images hold the same bytes: perhaps the damage is on the disc itself, or on purpose. ` +
+        'A third dump would show it.';
+}

@@ -1,0 +1,5 @@
+// What stands around the panels.
+
+export { mountDiscLine } from './disc_line.js';
+export { mountHelp } from './help.js';
+export { mountFrame } from './shell.js';

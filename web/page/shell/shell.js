@@ -1,0 +1,82 @@
+// What stands round the panels: the tabs, the notes that open, and the keys that work anywhere.
+
+import { PANELS } from '../app/index.js';
+import { byId, escapeJob, oneStop, setAttribute } from '../ui/index.js';
+
+/** @typedef {import('../app/state.js').App} App */
+/** @typedef {import('../app/state.js').PanelName} PanelName */
+
+/** @param {App} app */
+export function mountFrame(app) {
+    oneStop(byId('tabs'), '[role=tab]', tab => app.showPanel(panelOfTab(tab)));
+    for (const name of PANELS) byId(`tab-${name}`).addEventListener('click', () => app.showPanel(name));
+    const frame = { started: false };
+    for (const name of /** @type {const} */ (['panel', 'image'])) app.on(name, () => showPanels(app, frame));
+    byId('home').addEventListener('click', () => app.showPanel('disc'));
+    document.addEventListener('keydown', pressed);
+}
+
+/**
+ * @param {HTMLElement} tab
+ * @returns {PanelName}
+ */
+function panelOfTab(tab) {
+    return PANELS.find(name => tab.id === `tab-${name}`) || 'disc';
+}
+
+/**
+ * Shows the chosen panel. If no image is open the start stands in place of the Disc panel, and of all until there is a script or an image.
+ * @param {App} app
+ * @param {{ started: boolean }} frame
+ */
+function showPanels(app, frame) {
+    frame.started = frame.started || app.image !== null || !app.script.isNew() || app.script.name !== '';
+    const { started } = frame;
+    byId('start').hidden = app.image !== null || (started && app.panel !== 'disc');
+    byId('tabs').hidden = !started;
+    byId('open-other').hidden = !started;
+    byId('disc-line').hidden = app.image === null;
+    for (const name of PANELS) {
+        const shown = started && name === app.panel && (name !== 'disc' || app.image !== null);
+        byId(`panel-${name}`).hidden = !shown;
+        setAttribute(byId(`tab-${name}`), 'aria-selected', String(name === app.panel));
+        byId(`tab-${name}`).tabIndex = name === app.panel ? 0 : -1;
+    }
+}
+
+/** @param {KeyboardEvent} event */
+function pressed(event) {
+    if (event.defaultPrevented) return;
+    if (event.key === 'Escape' && !isNoteOpen() && escapeJob(document.activeElement)) event.preventDefault();
+    if (event.key === 'F6') {
+        event.preventDefault();
+        focusNextCard(event.shiftKey ? -1 : 1);
+    }
+}
+
+/** Whether a note is open. A browser that has no notes knows no such selector. */
+function isNoteOpen() {
+    return 'popover' in HTMLElement.prototype && document.querySelector(':popover-open') !== null;
+}
+
+/**
+ * Moves the focus to the first control of the next card, or of the previous one.
+ * @param {number} step
+ */
+function focusNextCard(step) {
+    const cards = /** @type {HTMLElement[]} */ ([...document.querySelectorAll('#bar, main .card, main .drop, footer')])
+        .filter(card => card.offsetParent !== null && firstStop(card) !== null);
+    const at = cards.findIndex(card => card.contains(document.activeElement));
+    const next = cards[(at + step + cards.length) % cards.length];
+    const stop = next && firstStop(next);
+    if (stop) stop.focus();
+}
+
+/**
+ * @param {HTMLElement} card
+ * @returns {HTMLElement | null}
+ */
+function firstStop(card) {
+    const stops = /** @type {HTMLElement[]} */ ([...card.querySelectorAll('button, input, select, textarea, a[href], [tabindex="0"]')]);
+    return stops.find(it => it.tabIndex >= 0 && it.offsetParent !== null) || null;
+}

@@ -1,0 +1,126 @@
+// The bytes round a hit, in hex and as text.
+
+import { USER_SIZE } from '../../core/sectors/sector.js';
+import { bytesInside, charactersFrom } from '../../core/texts/boundaries.js';
+import { bytesAround } from '../../core/texts/context.js';
+import { button, element, fill, hexOf } from '../ui/index.js';
+import { chosenEncoding, columnLabel, encodingLabel, signOf } from './encodings.js';
+
+/** @typedef {import('../app/state.js').App} App */
+/** @typedef {import('../app/state.js').Image} Image */
+/** @typedef {import('../../core/texts/encoding.js').Encoding} Encoding */
+/** @typedef {import('../../core/texts/find.js').Hit} Hit */
+/** User data from the first byte of a block on; the hit begins at a place of it. */
+/** @typedef {{ bytes: Uint8Array, at: number }} Around */
+
+const NARROW_CARD = 560;
+const ROWS_BEFORE = 4;
+const ROWS = 9;
+
+/** The bytes before a hit and after it that the rows may show. */
+const BYTES_BEFORE = 64;
+const BYTES_AFTER = 160;
+
+/**
+ * What the card shows of a hit.
+ * @param {Image} image
+ * @param {Hit} hit
+ * @returns {Promise<Around>}
+ */
+export function readAround(image, hit) {
+    return bytesAround(image, hit, hit.offset + (hit.offset < BYTES_BEFORE ? USER_SIZE : 0), hit.size + BYTES_AFTER);
+}
+
+/** The card. It is drawn anew if its width fits rows of another length. */
+export class AroundCard {
+    /** @param {App} app */
+    constructor(app) {
+        this.app = app;
+        this.columns = 0;
+        this.shown = /** @type {{ hit: Hit, around: Around } | null} */ (null);
+        this.card = element('section', { class: 'card', 'aria-label': 'The bytes around it', hidden: true });
+        new ResizeObserver(() => {
+            if (this.shown !== null && this.columns !== this.fitting()) this.draw(this.shown);
+        }).observe(this.card);
+    }
+
+    /** How many bytes of a row the card has room for. */
+    fitting() {
+        const { clientWidth } = this.card;
+        if (clientWidth === 0) return this.columns;
+        return clientWidth < NARROW_CARD ? 8 : 16;
+    }
+
+    /**
+     * @param {Hit} hit
+     * @param {Around} around
+     */
+    show(hit, around) {
+        this.shown = { hit, around };
+        this.card.hidden = false;
+        this.draw(this.shown);
+    }
+
+    /** @param {{ hit: Hit, around: Around }} shown */
+    draw({ hit, around }) {
+        this.columns = this.fitting() || 16;
+        const label = columnLabel(encodingLabel(this.app.encoding), this.columns);
+        const numbers = Array.from({ length: this.columns }, (_, i) => element('i', {}, i));
+        fill(this.card, element('header', {}, element('h2', {}, 'The bytes around it'),
+            button('slim bare', () => this.app.goTo(hit.block, hit.offset, true), 'Open the sector')),
+        element('div', { class: `hex around${this.columns === 8 ? ' cols8' : ''}`, tabindex: 0, role: 'group',
+            'aria-label': `The bytes around block ${hit.block} offset ${hit.offset}` },
+        element('div', { class: 'head', 'aria-hidden': 'true' }, element('span', { class: 'o' }, 'offset'),
+            element('span', { class: 'b' }, ...numbers),
+            element('span', { class: 't' }, label)), ...hexRows(this.app, hit, around, this.columns)));
+    }
+}
+
+/**
+ * @param {App} app
+ * @param {Hit} hit
+ * @param {Around} around
+ * @param {number} columns
+ */
+function hexRows(app, hit, { bytes: user, at }, columns) {
+    const from = Math.max(Math.floor(at / columns) - ROWS_BEFORE, 0) * columns;
+    const to = Math.min(from + ROWS * columns, user.length);
+    const texts = rowTexts(chosenEncoding(app), user, [from, at, Math.min(at + hit.size, to), to]);
+    const rows = [];
+    for (let row = from; row < to; row += columns) {
+        const cells = [];
+        for (let i = row; i < row + columns; i++) cells.push(byteBox(user[i], i >= at && i < at + hit.size));
+        const shown = texts.slice(row - from, row - from + columns)
+            .map((text, k) => row + k >= at && row + k < at + hit.size && text !== '' ? element('mark', {}, text) : text);
+        rows.push(element('div', { class: 'line' }, element('span', { class: 'o' }, row % USER_SIZE),
+            element('span', { class: 'b' }, ...cells),
+            element('span', { class: 't' }, ...shown)));
+    }
+    return rows;
+}
+
+/**
+ * @param {number} byte
+ * @param {boolean} hit
+ */
+function byteBox(byte, hit) {
+    return element('i', { class: hit ? 'hit' : byte === 0 ? 'zero' : '' }, hexOf(Uint8Array.of(byte)));
+}
+
+/**
+ * For each byte the character that begins at it: '' inside one, '·' if there is none to show. What is before the hit, the hit and what is
+ * after it are read apart, since a hit may begin inside a character of what is before it.
+ * @param {Encoding} encoding
+ * @param {Uint8Array} user
+ * @param {number[]} ends where the first of these parts begins, and where each ends
+ * @returns {string[]}
+ */
+function rowTexts(encoding, user, ends) {
+    const [from] = ends;
+    const texts = Array.from({ length: ends[ends.length - 1] - from }, () => '');
+    ends.slice(1).forEach((end, i) => {
+        const begin = ends[i] + (i === 0 ? Math.min(bytesInside(encoding, user, from), end - from) : 0);
+        for (const { at, text } of charactersFrom(encoding, user.subarray(0, end), begin)) texts[at - from] = signOf(text);
+    });
+    return texts;
+}

@@ -1,0 +1,75 @@
+// The encodings that can be chosen.
+
+import { ENCODINGS, USUAL_ENCODING, encodingOf, tableOf } from '../../core/texts/encodings.js';
+import { element, fill, messageOf, nameOf, notice, shownName } from '../ui/index.js';
+
+/** @typedef {import('../app/state.js').App} App */
+/** @typedef {import('../../core/texts/encoding.js').Encoding} Encoding */
+
+/**
+ * The chosen encoding.
+ * @param {App} app
+ * @returns {Encoding}
+ */
+export function chosenEncoding({ encoding, tables }) {
+    const found = tables.get(encoding) || encodingOf(encoding);
+    if (found === null) throw new Error(`there is no encoding ${encoding}`);
+    return found;
+}
+
+/**
+ * The name of an encoding, or of a table, for people.
+ * @param {string} name
+ */
+export function encodingLabel(name) {
+    const known = encodingOf(name);
+    return known === null ? shownName(name) : known.label;
+}
+
+/**
+ * The name of an encoding over a column of texts. Beside 8 bytes there is no room for what stands in brackets.
+ * @param {string} label
+ * @param {number} columns
+ */
+export function columnLabel(label, columns) {
+    return columns === 8 ? label.replace(/ \(.*/, '') : label;
+}
+
+/**
+ * A character as it is shown: a point if it has no sign.
+ * @param {string} text
+ */
+export function signOf(text) {
+    return /^[\p{C}\p{Z}\uFFFD]*$/u.test(text) && text !== ' ' && text !== '\u3000' ? '·' : text;
+}
+
+/**
+ * Puts the encodings into a list of choices, and keeps both alike.
+ * @param {App} app
+ * @param {HTMLSelectElement} choice
+ * @param {(encoding: Encoding) => boolean} [isOffered]
+ */
+export function bindEncodings(app, choice, isOffered = () => true) {
+    const draw = () => {
+        const names = [...ENCODINGS.filter(isOffered).map(({ name }) => name), ...app.tables.keys()];
+        names.sort((a, b) => Number(b === USUAL_ENCODING.name) - Number(a === USUAL_ENCODING.name));
+        fill(choice, ...names.map(name => element('option', { value: name, selected: name === app.encoding }, encodingLabel(name))));
+    };
+    draw();
+    app.on('encoding', draw);
+    choice.addEventListener('change', () => app.chooseEncoding(choice.value));
+}
+
+/**
+ * Makes the table in a file the encoding from now on, and says so.
+ * @param {App} app
+ * @param {File} file
+ */
+export async function takeTable(app, file) {
+    try {
+        app.addTable(file.name, tableOf(new Uint8Array(await file.arrayBuffer())));
+        return notice('good', ['Loaded: ', nameOf(file.name)], 'It is the encoding now, here and where bytes are shown as text.');
+    } catch (error) {
+        return notice('bad', ['Not a table that can be read: ', nameOf(file.name)], messageOf(error));
+    }
+}

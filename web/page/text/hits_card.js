@@ -1,0 +1,162 @@
+// The table of hits, with the file and what stands round each.
+
+import { USER_SIZE } from '../../core/module/numbers.js';
+import { contextOf, filesWith } from '../../core/texts/context.js';
+import { button, copyText, counted, element, fill, keyed, oneStop, shownPaths, term } from '../ui/index.js';
+import { chosenEncoding, signOf } from './encodings.js';
+
+/** @typedef {import('../app/state.js').App} App */
+/** @typedef {import('../app/state.js').Image} Image */
+/** @typedef {import('../../core/texts/context.js').Context} Context */
+/** @typedef {import('../../core/texts/encoding.js').Encoding} Encoding */
+/** @typedef {import('../../core/texts/find.js').Hit} Hit */
+/** @typedef {import('../ui/fill.js').Child} Child */
+/** What a search has found: all hits are counted, `hits` are those that are kept. */
+/** @typedef {{ text: string, encoding: Encoding, count: number, hits: Hit[], seconds: number }} Search */
+
+const ROWS_SHOWN = 200;
+
+/** The characters that are shown before a hit and after it, and the bytes that are read for these. */
+const CHARACTERS_BEFORE = 14;
+const CHARACTERS_AFTER = 24;
+const BYTES_AFTER = 48;
+/** Hits that are read at a time. */
+const HITS_AT_ONCE = 25;
+
+/** @param {string[]} characters */
+function shownText(characters) {
+    return characters.map(signOf).join('');
+}
+
+/** The card with the hits. */
+export class HitsCard {
+    /**
+     * @param {App} app
+     * @param {(index: number) => void} choose
+     */
+    constructor(app, choose) {
+        this.app = app;
+        this.choose = choose;
+        this.search = /** @type {Search | null} */ (null);
+        this.chosen = -1;
+        this.shown = ROWS_SHOWN;
+        /** @type {Map<number, Context>} */
+        this.contexts = new Map();
+        /** Of those who read contexts, the number of the last one: the others end. */
+        this.reader = 0;
+        this.body = element('tbody', {});
+        oneStop(this.body, 'button');
+        this.card = element('section', { class: 'card', 'aria-label': 'Hits' });
+    }
+
+    /** @param {Search} search */
+    take(search) {
+        this.search = search;
+        this.shown = ROWS_SHOWN;
+        this.contexts = new Map();
+        const head = element('header', {}, element('h2', {}, search.count === 1 ? '1 hit' : `${counted(search.count)} hits`),
+            element('span', { class: 'small quiet' }, `in ${search.seconds.toFixed(1)} s`),
+            search.count > search.hits.length && element('span', { class: 'tag warn' },
+                `only the first ${counted(search.hits.length)} are listed`),
+            button('slim bare', () => this.copy(), 'Copy', element('span', { class: 'hide' }, ' the hits')));
+        const column = (/** @type {string} */ name, /** @type {Child} */ shown) => element('th',
+            { scope: 'col', class: name === 'n' ? 'n' : '' }, shown);
+        const table = element('table', { class: 'hits' }, element('thead', {}, element('tr', {}, column('n', term('block', 'Block')),
+            column('n', term('offset', 'Offset')), column('', 'File'), column('', 'Context'))), this.body);
+        fill(this.card, head, element('div', { class: 'scroll fit' }, table), this.more());
+        this.draw();
+    }
+
+    more() {
+        const { search } = this;
+        if (search === null || search.hits.length <= this.shown) return null;
+        const next = button('', () => {
+            this.shown += ROWS_SHOWN;
+            next.remove();
+            this.draw();
+            this.card.append(...[this.more()].filter(it => it !== null).map(it => /** @type {Node} */ (it)));
+        }, `Show ${counted(Math.min(ROWS_SHOWN, search.hits.length - this.shown))} more`);
+        return element('div', { class: 'pad' }, next);
+    }
+
+    /** Draws the rows, which say of the hits in the script in which line they are. */
+    draw() {
+        const { search, app: { script } } = this;
+        if (search === null) return;
+        fill(this.body, ...search.hits.slice(0, this.shown).map((hit, i) => this.row(hit, i, script.lineAt(hit))));
+        this.readContexts(search);
+    }
+
+    /**
+     * @param {Hit} hit
+     * @param {number} i
+     * @param {number} line of the script, or 0
+     */
+    row(hit, i, line) {
+        const { app } = this;
+        const files = app.files ? filesWith(app.files.files, hit) : [];
+        const tags = [line > 0 && element('span', { class: 'tag good' }, `in the script, line ${line}`),
+            hit.offset + hit.size > USER_SIZE && element('span', { class: 'tag' }, 'over a border of blocks'),
+            app.files !== null && files.length === 0 && element('span', { class: 'tag' }, 'in no file')];
+        const place = element('td', { class: 'wide' }, ...this.context(i), ...tags);
+        const choose = button('plain', () => this.choose(i), hit.block, element('span', { class: 'hide' }, `, hit ${i + 1}`));
+        const made = element('tr', { class: i === this.chosen ? 'on' : '', click: () => this.choose(i) },
+            element('td', { class: 'n', 'data-l': 'block' }, choose), element('td', { class: 'n', 'data-l': 'offset' }, hit.offset),
+            element('td', { class: 'mono small' }, element('bdi', {}, shownPaths(files, ' ') || '–')), place);
+        if (i === this.chosen) made.setAttribute('aria-current', 'true');
+        return keyed(String(i), made);
+    }
+
+    /**
+     * @param {number} i
+     * @returns {Child[]}
+     */
+    context(i) {
+        const context = this.contexts.get(i);
+        if (context === undefined) return [element('span', { class: 'ctx' }, '…')];
+        const { before, hit, after, doubt } = context;
+        const parts = [element('em', {}, shownText(before.slice(-CHARACTERS_BEFORE))), element('mark', {}, shownText([...hit])),
+            element('em', {}, shownText(after.slice(0, CHARACTERS_AFTER)))];
+        return [element('span', { class: 'ctx' }, ...parts), doubt !== '' && element('span', { class: 'tag warn' }, doubt)];
+    }
+
+    /**
+     * Reads what stands round the hits that are shown, and puts it into their rows.
+     * @param {Search} search
+     */
+    async readContexts({ hits }) {
+        const { app } = this;
+        const { image } = app;
+        const number = ++this.reader;
+        const encoding = chosenEncoding(app);
+        const wanted = hits.slice(0, this.shown).map((_, i) => i).filter(i => !this.contexts.has(i));
+        for (let at = 0; at < wanted.length && image !== null; at += HITS_AT_ONCE) {
+            const part = wanted.slice(at, at + HITS_AT_ONCE);
+            const read = await Promise.all(part.map(i => contextOf(image, encoding, hits[i], BYTES_AFTER)));
+            if (number !== this.reader) return;
+            part.forEach((i, k) => this.showContext(i, read[k]));
+        }
+    }
+
+    /**
+     * @param {number} i
+     * @param {Context} context
+     */
+    showContext(i, context) {
+        this.contexts.set(i, context);
+        const row = this.body.rows[i];
+        const waiting = row && row.cells[3].querySelector('.ctx');
+        if (waiting) waiting.replaceWith(...this.context(i).filter(it => it instanceof Node).map(it => /** @type {Node} */ (it)));
+    }
+
+    /** They are those of another encoding. */
+    forgetContexts() {
+        this.contexts.clear();
+        this.reader += 1;
+    }
+
+    copy() {
+        const { search } = this;
+        if (search !== null) copyText(search.hits.map(({ block, offset }) => `${block} ${offset}\n`).join(''));
+    }
+}

@@ -1,0 +1,292 @@
+// The panel Text: find, the hits, and replacing them in the script.
+
+import { filledUp } from '../../core/script/replace_bytes.js';
+import { announce, button, countOf, element, fill, hexOf, isCancelled, jobBar, messageOf, notice, sentence, term } from '../ui/index.js';
+import { AroundCard, readAround } from './around_card.js';
+import { bindEncodings, chosenEncoding, encodingLabel, takeTable } from './encodings.js';
+import { linesForAll, linesReplacing } from './hits.js';
+import { HitsCard } from './hits_card.js';
+import { ReplaceCard } from './replace_card.js';
+import { SearchJob } from './search_job.js';
+
+/** @typedef {import('../app/state.js').App} App */
+/** @typedef {import('../app/state.js').Image} Image */
+/** @typedef {import('../../core/texts/find.js').Hit} Hit */
+/** @typedef {import('./hits_card.js').Search} Search */
+/** @typedef {import('../../core/texts/encoding.js').Encoding} Encoding */
+
+/** The panel. */
+class TextPanel {
+    /**
+     * @param {App} app
+     * @param {HTMLElement} panel
+     */
+    constructor(app, panel) {
+        this.app = app;
+        this.found = /** @type {Search | null} */ (null);
+        this.chosen = -1;
+        this.adding = false;
+        this.search = new SearchJob(app);
+        /** @type {HTMLInputElement} */
+        this.field = element('input', { type: 'text', id: 'find-text', autocomplete: 'off', spellcheck: 'false',
+            input: () => this.drawAsked(),
+            keydown: event => {
+                if (event.key === 'Enter' && !event.isComposing) this.find();
+            } });
+        this.choice = element('select', { id: 'find-encoding' });
+        bindEncodings(app, this.choice);
+        this.table = element('input', { type: 'file', class: 'hide', tabindex: -1, accept: '.tbl,.txt', 'aria-label': 'A table to load',
+            change: () => this.load() });
+        this.hint = element('p', { class: 'small quiet hint' });
+        this.state = element('div', { class: 'stack', role: 'status' });
+        this.hits = new HitsCard(app, index => this.choose(index));
+        this.replace = new ReplaceCard(app, { add: (hit, fresh, old) => this.alone(() => this.add(hit, fresh, old)),
+            addAll: (fresh, byte) => this.alone(() => this.addAll(fresh, byte)), skip: () => this.next() });
+        this.around = new AroundCard(app);
+        this.results = element('div', { class: 'two even', hidden: true }, element('div', { class: 'side' }, this.hits.card),
+            element('div', { class: 'side' }, this.replace.card, this.around.card));
+        panel.append(this.askCard(), this.state, this.results, this.table);
+        app.addTaker(file => this.isTable(file));
+        this.listen();
+        this.drawHint();
+    }
+
+    listen() {
+        const { app } = this;
+        app.on('image', () => {
+            this.search.end();
+            this.forget();
+        });
+        app.on('encoding', () => {
+            this.drawAsked();
+            this.replace.draw();
+            this.hits.forgetContexts();
+            this.drawHits();
+        });
+        for (const name of /** @type {const} */ (['script', 'files', 'panel'])) app.on(name, () => this.drawHits());
+    }
+
+    askCard() {
+        const label = (/** @type {string} */ target, /** @type {string} */ text) => element('label', { for: target }, text);
+        return element('section', { class: 'card pad stack tight', 'aria-label': 'Find' }, element('div', { class: 'ask' },
+            element('div', {}, label('find-text', 'Find this text'), this.field),
+                element('div', {}, label('find-encoding', 'In which encoding'), this.choice),
+            button('', () => this.table.click(), 'Load a table (.tbl)…'), button('main', () => this.find(), 'Find')),
+        this.hint, this.search.place);
+    }
+
+    /** The bytes of the text that is searched for, or why it has none. */
+    drawHint() {
+        const where = ['searched in the ', term('user', 'user data'), ' of all sectors, over the borders of blocks'];
+        if (this.field.value === '') return fill(this.hint, 'A text is ', ...where, '.');
+        try {
+            const bytes = chosenEncoding(this.app).units(this.field.value).map(([usual]) => hexOf(usual).replace(/..(?=.)/g, '$& '));
+            const count = bytes.join(' ').split(' ').length;
+            this.field.setAttribute('aria-invalid', 'false');
+            return fill(this.hint, `${countOf(count, 'byte')}: `, element('span', { class: 'mono' }, bytes.slice(0, 24).join(' ')),
+                bytes.length > 24 ? '…' : '', ' · ', ...where);
+        } catch (error) {
+            this.field.setAttribute('aria-invalid', 'true');
+            return fill(this.hint, element('b', { class: 'bad-ink' }, messageOf(error)));
+        }
+    }
+
+    /** Shows the hits only as long as they are those of the text and the encoding that are asked for. */
+    drawAsked() {
+        this.drawHint();
+        if (!this.search.running && !this.adding) fill(this.state);
+        this.drawResults();
+    }
+
+    drawResults() {
+        this.results.hidden = this.found === null || !(this.adding || this.isAsked(this.found));
+    }
+
+    /**
+     * Whether a search was for the text and in the encoding that are asked for. Hits of bytes can be read in any encoding.
+     * @param {{ text: string, encoding: Encoding }} search
+     */
+    isAsked({ text, encoding }) {
+        return this.field.value === text && (!encoding.hasCharacters || encoding === chosenEncoding(this.app));
+    }
+
+    forget() {
+        this.found = null;
+        this.results.hidden = true;
+        this.replace.show(null);
+        fill(this.state);
+    }
+
+    async find() {
+        const { app } = this;
+        const { image } = app;
+        const asked = { text: this.field.value, encoding: chosenEncoding(app) };
+        if (asked.text === '') return this.field.focus();
+        if (image === null) return fill(this.state, notice('warn', 'No image is open.', 'Open the disc image first.'));
+        if (this.field.getAttribute('aria-invalid') === 'true') return this.field.focus();
+        if (this.adding) return fill(this.state, notice('warn', 'Lines are still being made.',
+            'Search again when that has ended, or press Cancel there first.'));
+        this.forget();
+        try {
+            const found = await this.search.find(image, asked);
+            if (found !== null) await this.take(found, image);
+        } catch (error) {
+            fill(this.state, isCancelled(error) ? notice('plain', 'Cancelled.', 'The search has not come to its end.')
+                : notice('bad', messageOf(error)));
+        }
+        return undefined;
+    }
+
+    /**
+     * @param {Search} found
+     * @param {Image} image
+     */
+    async take(found, image) {
+        const { app } = this;
+        fill(this.state);
+        if (!this.isAsked(found)) return;
+        if (found.count === 0) {
+            fill(this.state, notice('plain', `No hit in ${encodingLabel(app.encoding)}.`,
+                `The user data of ${countOf(image.sectors, 'sector')} were searched to the end. `,
+                'Another encoding? A game may also have its own table, or packed texts.'));
+            announce('No hit.');
+            return;
+        }
+        this.found = found;
+        this.results.hidden = false;
+        this.hits.take(found);
+        announce(countOf(found.count, 'hit'));
+        this.chosen = -1;
+        await this.next();
+        this.replace.input.focus();
+    }
+
+    /** Draws the hits again, for the script or the files have changed. */
+    drawHits() {
+        if (this.found === null || this.app.panel !== 'text') return;
+        this.hits.draw();
+        const { target } = this.replace;
+        if (target !== null) this.replace.show({ ...target, ...this.writtenOf(target.hit, this.found) });
+    }
+
+    /**
+     * What the script writes of the hits: how many it leaves, and the line that writes one of them, or 0.
+     * @param {Hit} hit
+     * @param {Search} found
+     */
+    writtenOf(hit, { hits }) {
+        const { script } = this.app;
+        return { left: hits.filter(it => script.lineAt(it) === 0).length, line: script.lineAt(hit) };
+    }
+
+    /**
+     * Shows a hit, to be replaced.
+     * @param {number} index
+     */
+    async choose(index) {
+        const { app, found } = this;
+        const { image } = app;
+        if (found === null || image === null || index < 0) return;
+        this.chosen = index;
+        this.hits.chosen = index;
+        const hit = found.hits[index];
+        const around = await readAround(image, hit);
+        if (this.found !== found || this.chosen !== index) return;
+        this.hits.draw();
+        const old = around.bytes.slice(around.at, around.at + hit.size);
+        this.replace.show({ hit, number: index + 1, of: found.count, old, ...this.writtenOf(hit, found) });
+        this.around.show(hit, around);
+    }
+
+    /** Goes to the next hit that is in no line of the script. */
+    async next() {
+        const { found } = this;
+        if (found === null) return;
+        const count = found.hits.length;
+        for (let k = 1; k <= count; k++) {
+            const index = (this.chosen + k) % count;
+            if (this.app.script.lineAt(found.hits[index]) > 0) continue;
+            await this.choose(index);
+            return;
+        }
+        await this.choose(this.chosen < 0 ? 0 : this.chosen);
+        fill(this.state, notice('good', 'All hits are in the script.', 'Script and Check say whether they fit.'));
+    }
+
+    /** @param {() => Promise<void>} job that makes lines, of which one runs at a time */
+    async alone(job) {
+        if (this.adding) return;
+        this.adding = true;
+        await job().finally(() => { this.adding = false; });
+        this.drawResults();
+    }
+
+    /**
+     * @param {Hit} hit
+     * @param {Uint8Array} fresh
+     * @param {Uint8Array} old
+     */
+    async add(hit, fresh, old) {
+        const { app } = this;
+        if (app.image === null) return;
+        try {
+            app.addLines(await linesReplacing(app.calls, app.image, hit, fresh, old));
+            announce('Added to the script.');
+            fill(this.state);
+            await this.next();
+        } catch (error) {
+            fill(this.state, notice('bad', 'Nothing was added to the script.', sentence(error)));
+        }
+    }
+
+    /**
+     * Adds lines for each hit that is in no line of the script. Those that can't be replaced so are said.
+     * @param {Uint8Array} fresh
+     * @param {Uint8Array | null} filling
+     */
+    async addAll(fresh, filling) {
+        const [{ app, found }, { image }] = [this, this.app];
+        if (found === null || image === null) return;
+        try {
+            const { lines, left } = await app.runOnImage((signal, cancel) => {
+                const bar = jobBar('Making the lines', cancel, { noun: 'hits' });
+                fill(this.replace.job, ...bar.parts);
+                return linesForAll(app.calls, image, chosenEncoding(app), found.hits.filter(hit => app.script.lineAt(hit) === 0),
+                    size => filledUp(fresh, size, filling), { signal, progress: bar.things });
+            });
+            if (app.image !== image || this.found !== found) return;
+            if (lines.length > 0) app.addLines(lines);
+            await this.next();
+            const rest = left.length === 0 ? 'Script and Check say whether they fit.'
+                : `${countOf(left.length, 'hit')} left: ${left.slice(0, 5).join('; ')}${left.length > 5 ? '; …' : '.'}`;
+            fill(this.state, notice(left.length > 0 ? 'warn' : 'good', `${countOf(lines.length, 'line')} added to the script.`, rest));
+        } catch (error) {
+            if (app.image === image) fill(this.state, notice(isCancelled(error) ? 'plain' : 'bad', 'Nothing was added to the script.',
+                sentence(error)));
+        } finally {
+            fill(this.replace.job);
+        }
+    }
+
+    async load() {
+        const file = (this.table.files || [])[0];
+        this.table.value = '';
+        if (file) fill(this.state, await takeTable(this.app, file));
+    }
+
+    /** @param {File} file */
+    async isTable(file) {
+        if (!/\.tbl$/i.test(file.name)) return false;
+        this.app.showPanel('text');
+        fill(this.state, await takeTable(this.app, file));
+        return true;
+    }
+}
+
+/**
+ * @param {App} app
+ * @param {HTMLElement} panel
+ */
+export function mountText(app, panel) {
+    return new TextPanel(app, panel);
+}

@@ -1,0 +1,225 @@
+// The card that replaces a hit: the new text, its length beside that of the old one, and the line that goes into the script.
+
+import { filledUp } from '../../core/script/replace_bytes.js';
+import { encodeText, fillsOf, spaceIn } from '../../core/texts/encoding.js';
+import { bytesOfHex, hexText } from '../../core/texts/hex.js';
+import { announce, button, countOf, counted, element, fill, hexOf, isDisabled, messageOf, setDisabled, visible } from '../ui/index.js';
+import { chosenEncoding } from './encodings.js';
+import { replacingLine } from './hits.js';
+
+/** @typedef {import('../app/state.js').App} App */
+/** @typedef {import('../../core/texts/find.js').Hit} Hit */
+/** @typedef {import('../ui/fill.js').Child} Child */
+/** @typedef {import('../../core/texts/encoding.js').Encoding} Encoding */
+/** A hit to replace: its number from 1, of how many; its old bytes; and how many hits are in no line of the script yet. */
+/** @typedef {{ hit: Hit, number: number, of: number, old: Uint8Array, left: number, line: number }} Target */
+/**
+ * @typedef {{ add: (hit: Hit, fresh: Uint8Array, old: Uint8Array) => void, addAll: (fresh: Uint8Array, fill: Uint8Array | null) => void,
+ *     skip: () => void }} ReplaceOwner
+ */
+
+const MOST_BOXES = 40;
+
+/** What is filled with if there is no space, until somebody has chosen. */
+const NO_FILL = 'none';
+const OTHER_FILL = '';
+
+/** The card. */
+export class ReplaceCard {
+    /**
+     * @param {App} app
+     * @param {ReplaceOwner} owner
+     */
+    constructor(app, owner) {
+        this.app = app;
+        this.owner = owner;
+        this.target = /** @type {Target | null} */ (null);
+        this.input = element('input', { type: 'text', class: 'mono', id: 'new-text', autocomplete: 'off', spellcheck: 'false',
+            'aria-describedby': 'new-length', input: () => this.draw(), keydown: event => this.pressed(event) });
+        this.fill = element('select', { class: 'short', 'aria-label': 'Fill with', change: () => this.draw() });
+        this.filled = /** @type {Encoding | null} the one to which the choices belong */ (null);
+        this.other = element('input', { type: 'text', class: 'short mono', 'aria-label': 'The byte to fill with, two digits',
+            maxlength: 2, value: 'FF',
+            hidden: true, input: () => this.draw() });
+        this.head = element('header', {});
+        this.old = element('div', {});
+        this.length = element('span', { class: 'small', id: 'new-length', role: 'status' });
+        this.rest = element('div', { class: 'stack' });
+        this.job = element('div', { class: 'stack' });
+        this.add = button('main', () => this.addLine(), 'Add to the script');
+        this.all = button('', () => this.addAll(), '');
+        const filling = element('span', { class: 'row small quiet' }, 'Fill with', this.fill, this.other);
+        this.card = element('section', { class: 'card', 'aria-label': 'Replace', hidden: true }, this.head,
+            element('div', { class: 'pad stack' }, this.old,
+            element('div', {}, element('label', { for: 'new-text' }, 'New text'), this.input),
+            element('div', { class: 'row spread' }, this.length, filling), this.rest,
+            element('div', { class: 'row' }, this.add, this.all, button('slim bare', () => owner.skip(), 'Skip ▸')), this.job,
+            element('p', { class: 'small quiet' }, element('kbd', {}, 'Enter'), ' adds the line and goes to the next hit.')));
+    }
+
+    /** @param {Target | null} target */
+    show(target) {
+        this.target = target;
+        this.card.hidden = target === null;
+        this.draw();
+    }
+
+    /** The new bytes, or why there are none. */
+    fresh() {
+        try {
+            return { bytes: encodeText(chosenEncoding(this.app), this.input.value), fault: '' };
+        } catch (error) {
+            return { bytes: new Uint8Array(0), fault: messageOf(error) };
+        }
+    }
+
+    /** Offers what the encoding has to fill with, its space first. */
+    drawFills() {
+        const encoding = chosenEncoding(this.app);
+        if (this.filled === encoding) return;
+        this.filled = encoding;
+        const choices = fillsOf(encoding).map(({ bytes, name }) => [hexText(bytes), `${hexText(bytes, ' ')} ${name}`.trim()]);
+        if (spaceIn(encoding) === null) choices.unshift([NO_FILL, 'choose…']);
+        fill(this.fill, ...[...choices, [OTHER_FILL, 'another byte…']].map(([value, label]) => element('option', { value }, label)));
+    }
+
+    /** The bytes to fill with, or null if they are no byte. */
+    filling() {
+        const digits = this.fill.value || this.other.value;
+        return /^([0-9A-Fa-f]{2})+$/.test(digits) ? bytesOfHex(digits) : null;
+    }
+
+    draw() {
+        const { target } = this;
+        if (target === null) return;
+        const { hit, number, of, old, left, line } = target;
+        this.drawFills();
+        this.other.hidden = this.fill.value !== OTHER_FILL;
+        fill(this.head, element('h2', {}, `Replace: block ${hit.block} offset ${hit.offset}`),
+            element('span', { class: 'small quiet' }, `hit ${counted(number)} of ${counted(of)}`));
+        fill(this.old, element('span', { class: 'label' }, `Old text: ${countOf(old.length, 'byte')}`),
+            element('p', { class: 'mono old-text' }, visible(chosenEncoding(this.app).text(old))));
+        const { bytes, fault } = this.fresh();
+        const filling = this.filling();
+        const filled = filledTo(bytes, old.length, filling);
+        const ready = filled !== null && fault === '' && this.input.value !== '';
+        const replaces = this.rewritten(target, old) !== '';
+        fill(this.add, replaces ? `Replace line ${line}` : 'Add to the script');
+        this.add.classList.toggle('main', line === 0 || replaces);
+        fill(this.length, ...this.lengthWords(bytes, old.length, fault));
+        this.input.setAttribute('aria-invalid', String(fault !== '' || bytes.length > old.length));
+        fill(this.rest, gauge(bytes, old.length, filling), ...this.advice(bytes, old, filled, fault, line));
+        fill(this.all, `Add for all ${counted(left)} left`);
+        const had = document.activeElement === this.all;
+        this.all.hidden = left < 2;
+        if (had && left < 2) this.input.focus();
+        for (const it of [this.add, this.all]) setDisabled(it, !ready);
+    }
+
+    /**
+     * @param {Uint8Array} bytes
+     * @param {number} size
+     * @param {string} fault
+     * @returns {Child[]}
+     */
+    lengthWords(bytes, size, fault) {
+        if (fault !== '') return [element('b', { class: 'bad-ink' }, fault)];
+        const more = bytes.length - size;
+        if (more > 0) return [element('b', { class: 'bad-ink' }, `${countOf(bytes.length, 'byte')}, ${more} too many`),
+            ` for the ${size} of the old text`];
+        const rest = more === 0 ? ', just as many' : `, and ${-more} to fill`;
+        return [element('b', { class: 'good-ink' }, countOf(bytes.length, 'byte')), ` of ${size}${rest}`];
+    }
+
+    /**
+     * What goes into the script, or why nothing does.
+     * @param {Uint8Array} bytes
+     * @param {Uint8Array} old
+     * @param {Uint8Array | null} filled
+     * @param {string} fault
+     * @param {number} line of the script in which the hit is already, or 0
+     * @returns {Child[]}
+     */
+    advice(bytes, old, filled, fault, line) {
+        const more = bytes.length - old.length;
+        const say = (/** @type {string} */ text) => [element('p', { class: 'say bad' }, text)];
+        if (fault !== '' || this.target === null) return [];
+        if (more > 0) {
+            return say(`A patch cannot move bytes: the new text needs as many bytes as the old one, or fewer. Shorten it by\u00A0${more}.`);
+        }
+        if (this.input.value === '') return [element('p', { class: 'say plain' }, 'Type the new text.')];
+        if (filled === null) return say(`${countOf(-more, 'byte')} cannot be filled with that. Choose another byte.`);
+        const out = this.rewritten(this.target, filled);
+        const known = line > 0 && out === '' ? `Line ${line} of the script writes here already. A second line would meet other old bytes.`
+            : '';
+        return [element('div', {}, element('span', { class: 'label' }, out ? `This line takes the place of line ${line}`
+            : 'This line goes into the script'),
+        element('p', { class: 'line-out' }, out || replacingLine(this.target.hit, filled, old))),
+        known !== '' && element('p', { class: 'say warn' }, known)];
+    }
+
+    /**
+     * What would take the place of the line of the script that writes just this hit; '' if there is no such line.
+     * @param {Target} target
+     * @param {Uint8Array} fresh
+     */
+    rewritten({ hit, line }, fresh) {
+        return this.app.script.rewritten(line, hit, fresh);
+    }
+
+    /** @param {KeyboardEvent} event */
+    pressed(event) {
+        if (event.key !== 'Enter' || event.isComposing) return;
+        event.preventDefault();
+        this.addLine();
+    }
+
+    addLine() {
+        const { target } = this;
+        if (target === null || isDisabled(this.add)) return;
+        const filled = filledTo(this.fresh().bytes, target.old.length, this.filling());
+        if (filled === null) return;
+        const line = this.rewritten(target, filled);
+        if (line === '') return this.owner.add(target.hit, filled, target.old);
+        this.app.replaceLine(target.line, line);
+        announce(`Line ${target.line} is replaced.`);
+        this.owner.skip();
+    }
+
+    addAll() {
+        if (!isDisabled(this.all)) this.owner.addAll(this.fresh().bytes, this.filling());
+    }
+}
+
+/**
+ * New bytes filled up to the size of the old ones, or null if they do not fit.
+ * @param {Uint8Array} fresh
+ * @param {number} size
+ * @param {Uint8Array | null} filling
+ */
+function filledTo(fresh, size, filling) {
+    try {
+        return filledUp(fresh, size, filling);
+    } catch {
+        return null;
+    }
+}
+
+/**
+ * A box for each byte: what fits, what is filled, and what is too much.
+ * @param {Uint8Array} bytes
+ * @param {number} size
+ * @param {Uint8Array | null} filling
+ */
+function gauge(bytes, size, filling) {
+    const count = Math.max(bytes.length, size);
+    if (count > MOST_BOXES) return null;
+    const made = element('div', { class: 'gauge', 'aria-hidden': 'true' });
+    made.style.setProperty('--n', String(count));
+    for (let i = 0; i < count; i++) {
+        const byte = i < bytes.length ? bytes[i] : filling ? filling[(i - bytes.length) % filling.length] : 0;
+        made.append(element('i', { class: i >= size ? 'over' : i >= bytes.length ? 'pad-byte' : '' },
+            count <= 24 ? hexOf(Uint8Array.of(byte)) : ''));
+    }
+    return made;
+}

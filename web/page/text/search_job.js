@@ -1,0 +1,58 @@
+// The search of the panel Text: one at a time, with its bar.
+
+import { searchText } from '../../core/texts/search.js';
+import { element, fill, jobBar } from '../ui/index.js';
+import { MOST_HITS } from './hits.js';
+
+/** @typedef {import('../app/state.js').App} App */
+/** @typedef {import('../app/state.js').Image} Image */
+/** @typedef {import('./hits_card.js').Search} Search */
+
+/** The search that runs, if one does. Its bar stands at `place`. */
+export class SearchJob {
+    /** @param {App} app */
+    constructor(app) {
+        this.app = app;
+        this.place = element('div', { class: 'stack' });
+        this.running = false;
+        this.number = 0;
+        this.cancel = () => {};
+    }
+
+    /** Ends the search that runs, whose hits nobody waits for any more. */
+    end() {
+        this.number += 1;
+        this.running = false;
+        this.cancel();
+        fill(this.place);
+    }
+
+    /**
+     * What a search finds; null if it was ended by another one, or its image was closed. Throws a Fault, CANCELLED, if it was cancelled.
+     * @param {Image} image
+     * @param {Pick<Search, 'text' | 'encoding'>} asked
+     * @returns {Promise<Search | null>}
+     */
+    async find(image, asked) {
+        const { app } = this;
+        this.end();
+        const { number } = this;
+        this.running = true;
+        try {
+            return await app.runOnImage(async (signal, cancel) => {
+                this.cancel = cancel;
+                const bar = jobBar('Searching', cancel);
+                fill(this.place, ...bar.parts);
+                const began = performance.now();
+                const [{ count, hits } = { count: 0, hits: [] }] = await searchText(app.crew, image, { text: asked.text,
+                    encodings: [asked.encoding], limit: MOST_HITS }, { signal, progress: bar.sectors });
+                return number === this.number ? { ...asked, count, hits, seconds: (performance.now() - began) / 1000 } : null;
+            });
+        } catch (error) {
+            if (number !== this.number) return null;
+            throw error;
+        } finally {
+            if (number === this.number) this.end();
+        }
+    }
+}

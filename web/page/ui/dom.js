@@ -1,0 +1,153 @@
+// Making parts of the page, and numbers and texts as people read them. Texts go in as texts: nothing here reads markup.
+
+import { listen, nodesOf } from './fill.js';
+
+/** @typedef {import('./fill.js').Child} Child */
+/** @typedef {string | number | boolean | null | ((event: any) => void)} Attribute */
+
+const SVG = 'http://www.w3.org/2000/svg';
+
+/**
+ * A new element. An attribute that is a function listens to the event of its name; false and null leave an attribute out.
+ * @template {keyof HTMLElementTagNameMap} Tag
+ * @param {Tag} tag
+ * @param {Record<string, Attribute>} [attributes]
+ * @param {...Child} children
+ * @returns {HTMLElementTagNameMap[Tag]}
+ */
+export function element(tag, attributes = {}, ...children) {
+    const made = document.createElement(tag);
+    for (const [name, value] of Object.entries(attributes)) setAttribute(made, name, value);
+    made.append(...nodesOf(children));
+    return made;
+}
+
+/**
+ * Sets an attribute, or takes it away if the value is false or null. A function becomes a listener.
+ * @param {Element} target
+ * @param {string} name
+ * @param {Attribute} value
+ */
+export function setAttribute(target, name, value) {
+    if (typeof value === 'function') listen(target, name, value);
+    else if (value === false || value === null) target.removeAttribute(name);
+    else target.setAttribute(name, value === true ? '' : String(value));
+}
+
+/**
+ * Asks before the page is left, as long as something would be lost.
+ * @param {() => boolean} isLost
+ */
+export function askBeforeLeaving(isLost) {
+    window.addEventListener('beforeunload', event => { if (isLost()) event.preventDefault(); });
+}
+
+/**
+ * The element of the page with an id.
+ * @param {string} id
+ * @returns {HTMLElement}
+ */
+export function byId(id) {
+    const found = document.getElementById(id);
+    if (found === null) throw new Error(`the page has no part ${id}`);
+    return found;
+}
+
+/**
+ * A picture of the page's own: 'mark', 'disc', 'lock', 'tick' or 'warn'. What it says is said in words beside it.
+ * @param {string} name
+ */
+export function icon(name) {
+    const picture = document.createElementNS(SVG, 'svg');
+    picture.setAttribute('aria-hidden', 'true');
+    picture.setAttribute('class', `icon-${name}`);
+    const use = document.createElementNS(SVG, 'use');
+    use.setAttribute('href', `#icon-${name}`);
+    picture.append(use);
+    return picture;
+}
+
+/**
+ * A button.
+ * @param {string} looks classes beside `btn`, as 'main' or 'slim bare'
+ * @param {() => void} press
+ * @param {...Child} children
+ */
+export function button(looks, press, ...children) {
+    return element('button', { type: 'button', class: `btn ${looks}`.trim(), click: () => press() }, ...children);
+}
+
+/**
+ * A word that opens its explanation, which stands in page.html under `term-NAME`.
+ * @param {string} name
+ * @param {string} word
+ */
+export function term(name, word) {
+    return element('button', { type: 'button', class: 'term', popovertarget: `term-${name}` }, word);
+}
+
+/**
+ * Makes a button that can't be pressed now stay reachable, and says so to screen readers.
+ * @param {Element} target
+ * @param {boolean} disabled
+ */
+export function setDisabled(target, disabled) {
+    setAttribute(target, 'aria-disabled', disabled ? 'true' : null);
+}
+
+/** @param {Element} target */
+export function isDisabled(target) {
+    return target.getAttribute('aria-disabled') === 'true';
+}
+
+/**
+ * A count with separators, as 1,329. Blocks and offsets have none, so that they can be copied into a script.
+ * @param {number} number
+ */
+export function counted(number) {
+    return number.toLocaleString('en-GB');
+}
+
+/**
+ * A count with its noun: 1 sector, 2 sectors.
+ * @param {number} number
+ * @param {string} noun
+ * @param {string} [plural]
+ */
+export function countOf(number, noun, plural = `${noun}s`) {
+    return `${counted(number)} ${number === 1 ? noun : plural}`;
+}
+
+/**
+ * Bytes in hexadecimal digits, without spaces.
+ * @param {Uint8Array} bytes
+ */
+export function hexOf(bytes) {
+    return Array.from(bytes, byte => byte.toString(16).toUpperCase().padStart(2, '0')).join('');
+}
+
+/**
+ * A hash, which has its line break in the middle if it needs one.
+ * @param {string} digits
+ * @returns {Child[]}
+ */
+export function hashParts(digits) {
+    const middle = digits.length / 2;
+    return digits === '' ? [] : [digits.slice(0, middle), element('wbr'), digits.slice(middle)];
+}
+
+/**
+ * The value of a custom property of the style.
+ * @param {string} name
+ */
+export function styleValue(name) {
+    return getComputedStyle(document.documentElement).getPropertyValue(name).trim();
+}
+
+/**
+ * Says something to screen readers without moving the focus.
+ * @param {string} text
+ */
+export function announce(text) {
+    byId('announced').textContent = text;
+}

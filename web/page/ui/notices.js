@@ -1,0 +1,149 @@
+// What the page says of files and failures: first what it is, then what to do.
+
+import { FAULT, failedBy } from '../../core/faults.js';
+import { button, byId, element } from './dom.js';
+import { fill } from './fill.js';
+import { namesOf, seen, withNames } from './names.js';
+
+/** @typedef {import('./fill.js').Child} Child */
+/** @typedef {import('../app/state.js').App} App */
+/** @typedef {'good' | 'bad' | 'warn' | 'plain'} Tone */
+
+/**
+ * A notice.
+ * @param {Tone} tone
+ * @param {Child | Child[]} head
+ * @param {...Child} rest
+ */
+export function notice(tone, head, ...rest) {
+    return element('div', { class: `say ${tone}`, role: tone === 'bad' ? 'alert' : 'status' }, element('b', {}, ...[head].flat()), ...rest);
+}
+
+/**
+ * Shows a notice over the panel or the player, or at the drop area of the start, until it is closed or another one comes.
+ * @param {Tone} tone
+ * @param {Child | Child[]} head
+ * @param {...Child} rest
+ */
+export function showNotice(tone, head, ...rest) {
+    const place = byId(byId('start').offsetParent === null ? 'messages' : 'start-message');
+    const close = button('slim bare', clearNotices, 'Close');
+    const made = notice(tone, head, ...rest);
+    const row = made.querySelector('.row') || element('div', { class: 'row' });
+    row.append(close);
+    made.append(row);
+    fill(place, made);
+    place.hidden = false;
+    made.scrollIntoView({ block: 'nearest' });
+}
+
+/**
+ * Whether an image is being saved, which is said then: no other one is opened until it has ended, and none is closed.
+ * @param {App} app
+ * @param {string[]} [names] of the files that were to be opened
+ */
+export function refuseWhileSaving({ saves }, names = []) {
+    if (saves === 0) return false;
+    showNotice('warn', names.length > 0 ? ['Not opened: ', ...namesOf(names), '.'] : 'An image is being saved.',
+        `${names.length > 0 ? 'An image is being saved. ' : ''}Do it again when that has ended, or press Cancel there first.`);
+    return true;
+}
+
+/** Takes away what showNotice has shown. */
+export function clearNotices() {
+    for (const place of [byId('messages'), byId('start-message')]) {
+        place.hidden = true;
+        fill(place);
+    }
+}
+
+/**
+ * Shows a failure. Errors of our own say themselves what to do.
+ * @param {unknown} error
+ * @param {string} [rest]
+ */
+export function showFailure(error, rest = '') {
+    if (failedBy(error, FAULT.MISSING_FILES)) return showNotice('bad', TOGETHER, ...namesOf(error.facts.names || []));
+    const text = messageOf(error);
+    const [, first, after] = /^(.*?[.!?])\s+(.*)$/s.exec(text) || ['', text, ''];
+    return showNotice('bad', first, [after, rest].filter(it => it !== '').join(' '));
+}
+
+/** A page does not see what lies beside a file. */
+const TOGETHER = 'Select or drop the cue sheet and these together:';
+
+/** Most characters of a message that are shown: the lines of a stranger's cue sheet stand in some of them. */
+const MOST_MESSAGE = 1000;
+
+/** @param {unknown} error */
+function wordsOf(error) {
+    const message = error instanceof Error ? error.message : String(error);
+    if (failedBy(error, FAULT.MISSING_FILES)) return `${TOGETHER} ${(error.facts.names || []).join(', ')}`;
+    if (failedBy(error, FAULT.IMAGE_ENDED)) return 'The file is shorter than it was when it was opened.';
+    if (failedBy(error, FAULT.NO_MEMORY)) return 'This browser has not enough memory left. Close other tabs, then try again.';
+    return message.length > MOST_MESSAGE ? `${message.slice(0, MOST_MESSAGE)}…` : message;
+}
+
+/**
+ * What an error says.
+ * @param {unknown} error
+ */
+export function messageOf(error) {
+    return seen(wordsOf(error));
+}
+
+/**
+ * What an error says of files with these names, as parts of the page, with a capital letter unless it begins with a name.
+ * @param {unknown} error
+ * @param {string[]} names
+ */
+export function messageParts(error, names) {
+    const text = wordsOf(error);
+    const begins = names.some(name => name !== '' && text.startsWith(name));
+    return withNames(begins ? text : text.charAt(0).toUpperCase() + text.slice(1), names);
+}
+
+/**
+ * What an error says, as a sentence begins.
+ * @param {unknown} error
+ */
+export function sentence(error) {
+    const text = messageOf(error);
+    return text.charAt(0).toUpperCase() + text.slice(1);
+}
+
+/** @param {unknown} error */
+export function isCancelled(error) {
+    return failedBy(error, FAULT.CANCELLED);
+}
+
+/**
+ * A command or another text to copy.
+ * @param {string} text
+ */
+export function copyable(text) {
+    const label = 'Copy the command';
+    const copy = button('slim', async () => {
+        await copyText(text);
+        copy.textContent = 'Copied';
+        setTimeout(() => { copy.textContent = label; }, 2000);
+    }, label);
+    return [element('p', { class: 'line-out' }, text), element('div', { class: 'row' }, copy)];
+}
+
+/**
+ * Puts a text on the clipboard.
+ * @param {string} text
+ */
+export async function copyText(text) {
+    try {
+        await navigator.clipboard.writeText(text);
+    } catch {
+        const area = element('textarea', { class: 'hide', 'aria-hidden': 'true' });
+        area.value = text;
+        document.body.append(area);
+        area.select();
+        document.execCommand('copy');
+        area.remove();
+    }
+}

@@ -1,0 +1,27 @@
+// How far a job has come, how fast, and how long it still takes.
+
+/** The rate of a job, and how long it still takes. */
+export class Pace {
+    /**
+     * @param {number} all
+     * @param {number} now in milliseconds
+     */
+    constructor(all, now) {
+        this.all = all;
+        this.began = now;
+    }
+
+    /**
+     * @param {number} done
+     * @param {number} now
+     */
+    at(done, now) {
+        const seconds = Math.max(now - this.began, 1) / 1000;
+        const rate = done / seconds;
+        return {
+            percent: this.all === 0 ? 100 : Math.floor(100 * done / this.all),
+            rate,
+            left: rate === 0 ? 0 : Math.ceil((this.all - done) / rate),
+        };
+    }
+}

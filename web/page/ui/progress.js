@@ -1,0 +1,88 @@
+// The bar of a running job, with how much is done, the rate and the time left, and Cancel, which Escape presses in the job's card.
+
+import { SECTOR_SIZE } from '../../core/sectors/sector.js';
+import { button, counted, element } from './dom.js';
+import { fill } from './fill.js';
+import { Pace } from './pace.js';
+
+/** @typedef {import('./fill.js').Child} Child */
+
+/**
+ * A bar. `at` is told how many bytes of how many are done, `sectors` how many sectors, `things` how many of something else.
+ * @param {string} name what the job does, for screen readers
+ * @param {() => void} cancel
+ * @param {{ saves?: boolean, noun?: string }} how whether an image is saved, and what `things` are, in the plural
+ */
+export function jobBar(name, cancel, { saves = false, noun = '' } = {}) {
+    const bar = element('i');
+    const progress = element('div', { class: 'progress', role: 'progressbar', 'aria-label': name, 'aria-valuemin': 0,
+        'aria-valuemax': 100 }, bar);
+    const facts = element('p', { class: 'facts' });
+    const pace = { now: /** @type {Pace | null} */ (null), drawn: 0 };
+    const fact = (/** @type {string} */ strong, /** @type {string} */ rest) => element('span', {}, element('b', {}, strong), rest);
+    const draw = (/** @type {number} */ done, /** @type {number} */ all, /** @type {(rate: number) => Child[]} */ amounts) => {
+        const now = performance.now();
+        if (pace.now === null || pace.now.all !== all) pace.now = new Pace(all, now);
+        if (all > 0 && now - pace.drawn < 100 && done < all) return;
+        pace.drawn = all > 0 ? now : 0;
+        const { percent, rate, left } = all === 0 ? { percent: 0, rate: 0, left: 0 } : pace.now.at(done, now);
+        bar.style.width = `${percent}%`;
+        progress.setAttribute('aria-valuenow', String(percent));
+        fill(facts, fact(`${percent} %`, ''), ...all === 0 ? [] : [...amounts(rate), fact(`${left} s`, ' left')]);
+    };
+    const at = (/** @type {number} */ done, /** @type {number} */ all) => draw(done, all, rate =>
+        [fact(megabytes(done), ` of ${megabytes(all)} MB`), fact(megabytes(rate), ' MB/s')]);
+    const things = (/** @type {number} */ done, /** @type {number} */ all) => draw(done, all, () =>
+        [fact(counted(done), ` of ${counted(all)} ${noun}`)]);
+    const sectors = (/** @type {number} */ done, /** @type {number} */ all) => at(done * SECTOR_SIZE, all * SECTOR_SIZE);
+    at(0, 0);
+    return { at, sectors, things, parts: [progress, facts, jobEnd(cancel, saves)] };
+}
+
+/**
+ * The button that ends a job. Escape in its card presses it; if an image is saved it asks first.
+ * @param {() => void} cancel
+ * @param {boolean} saves
+ */
+export function jobEnd(cancel, saves) {
+    const row = element('div', { class: 'row' }, button('', cancel, 'Cancel'));
+    const show = (/** @type {HTMLElement} */ part) => {
+        fill(end, part);
+        /** @type {HTMLElement} */ (part.querySelector('.btn')).focus();
+    };
+    const question = element('div', { class: 'say warn', role: 'alert' }, element('b', {}, 'End the saving?'), 'Then no image is kept.',
+        element('div', { class: 'row' }, button('', () => show(row), 'Go on saving'), button('', cancel, 'End it')));
+    const escaped = () => saves ? show(question.isConnected ? row : question) : cancel();
+    const end = element('div', { class: 'job-end', escape: escaped }, row);
+    return end;
+}
+
+/** @type {WeakSet<Element>} places at which a job runs */
+const busy = new WeakSet();
+
+/**
+ * Runs a job whose bar stands at a place, unless one runs there.
+ * @param {Element} place
+ * @param {() => Promise<void>} job
+ */
+export async function runAt(place, job) {
+    if (busy.has(place)) return;
+    busy.add(place);
+    await job().finally(() => busy.delete(place));
+}
+
+/**
+ * What Escape does to the job of the card that has the focus. Says whether there is one.
+ * @param {Element | null} focused
+ */
+export function escapeJob(focused) {
+    const card = focused && focused.closest('.card, .step');
+    const end = card && card.querySelector('.job-end');
+    if (end) end.dispatchEvent(new Event('escape'));
+    return Boolean(end);
+}
+
+/** @param {number} bytes */
+function megabytes(bytes) {
+    return counted(Math.round(bytes / 1e6));
+}

@@ -1,0 +1,28 @@
+// A few counts, written large, and the card of a table.
+
+import { button, counted, element } from './dom.js';
+import { copyText } from './notices.js';
+import { oneStop } from './tab_groups.js';
+
+/** @param {[number, string, string][]} counts each with what it counts, and how it looks */
+export function tallyOf(counts) {
+    return element('div', { class: 'tally' }, ...counts.map(([count, name, looks]) =>
+        element('div', { class: looks || null }, element('b', {}, counted(count)), name)));
+}
+
+/**
+ * A card with a table whose rows can be copied as text.
+ * @param {string} title
+ * @param {HTMLElement} head the row of names
+ * @param {HTMLElement[]} rows
+ * @param {string} text
+ * @param {string} foot
+ */
+export function tableCard(title, head, rows, text, foot) {
+    const table = element('table', {}, element('thead', {}, head), element('tbody', {}, ...rows));
+    const part = element('div', { class: 'scroll fit' }, table);
+    oneStop(part, 'tbody button');
+    return element('section', { class: 'card', 'aria-label': title },
+        element('header', {}, element('h2', {}, title), button('slim bare', () => copyText(text), 'Copy')), part,
+        element('p', { class: 'foot' }, element('span', {}, foot)));
+}
