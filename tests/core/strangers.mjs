@@ -14,7 +14,7 @@ export const harmlessSheet = size => bytesOf(SHEET + 'REM a comment that says no
 /** Cue sheets that a search by regular expressions takes long for. @type {Record<string, Uint8Array>} */
 export const SHEETS = {
     'spaces before a line separator': bytesOf(`${SHEET}REM${' '.repeat(2600)}a\u2028b\n`),
-    'nothing but ends of lines': bytesOf('\n'.repeat(40000)),
+    'nothing but ends of lines': bytesOf('\n'.repeat(130000)),
     'ends of lines before a sheet': bytesOf('\n'.repeat(130000) + SHEET),
     'spaces in a name': bytesOf(`${SHEET}FILE a${' '.repeat(100000)}b c\n`),
     'words after a name': bytesOf(`${SHEET}FILE a${' b'.repeat(60000)}"\n`),
