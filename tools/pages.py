@@ -212,7 +212,6 @@ def figures() -> list[str]:
         ('crates', str(len(crates()))),
         ('wrong bodies of functions that the prover refuses in each gate, each by a goal of a contract (`crates/*/must-fail`)',
          count('crates/*/must-fail/*.edit')),
-        ('further ones, which are tried at each release (`tests/wrong/bodies`)', count('tests/wrong/bodies/*/*.edit')),
         ('wrong definitions that a worked case refuses (`tests/wrong/definitions`)', count('tests/wrong/definitions/*.patch')),
         ('lines of definitions to read for the headline of `apply`; more for the whole theorem',
          f'{sum(map(lines_of, headline))}; {sum(map(lines_of, rest))}'),

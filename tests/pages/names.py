@@ -55,8 +55,7 @@ def words_of(folder: str) -> frozenset[str]:
 def vocabulary() -> frozenset[str]:
     texts = [(TOP / name).read_text(encoding='utf-8') for name in ('Makefile', 'install.mk', 'crates.txt', '.gitignore')]
     words = {word for text in texts for word in WORD.findall(re.sub(HASH, ' ', text))}
-    bodies = [*TOP.glob('crates/*/must-fail/*.edit'), *TOP.glob('tests/wrong/bodies/*/*.edit')]
-    edits = {part for file in bodies for part in file.stem.split('.')}
+    edits = {part for file in TOP.glob('crates/*/must-fail/*.edit') for part in file.stem.split('.')}
     patches = {file.stem for file in TOP.glob('tests/wrong/*/*')}
     return frozenset(words | edits | patches).union(*(words_of(folder) for folder in FOLDERS)) | OTHERS | PROGRAMS
 

@@ -83,8 +83,6 @@ for page in README.md docs/TRUST.md; do
     judge "$page: more than ${wrong:-no} wrong bodies, which are $edits" \
         test "${wrong:-0}" -gt 0 -a "$edits" -gt "${wrong:-0}" -a "$edits" -lt $((${wrong:-0} + 100))
 done
-judge 'docs/TRUST.md has the number of wrong bodies of a release' grep -qF \
-    "(\`tests/wrong/bodies\`) | $(find "$top/tests/wrong/bodies" -name '*.edit' | wc -l) |" "$top/docs/TRUST.md"
 judge 'docs/TRUST.md has the number of wrong definitions' grep -qF \
     "(\`tests/wrong/definitions\`) | $(find "$top/tests/wrong/definitions" -name '*.patch' | wc -l) |" "$top/docs/TRUST.md"
 

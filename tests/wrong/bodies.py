@@ -1,0 +1,189 @@
+#!/usr/bin/env python3
+"""Has the prover refuse wrong bodies: `bodies.py [--lanes N] [CRATE..]` tries the edits in `must-fail` of these crates, or of all, over the
+libraries that `rt ci` or `make` has left. It prints what was refused by which goal; the last line is 'N passed, M failed'.
+
+`rt must-fail` checks a crate once for each edit, and most of a check is spent on reading the libraries below it. Here one check has an edit
+of each function of the crate: between functions stand contracts, so each edit meets only the goals of its own function. Such an edit
+counts if the check refuses a goal of that function for itself, not for a function that it calls. What does not count so (an edit of a
+table or of several functions, one that only a caller refuses, one that cannot be read) is tried by itself as rt does, and has to be
+refused there."""
+
+from __future__ import annotations
+
+import argparse
+import os
+import re
+import shutil
+import sys
+import tempfile
+import time
+from concurrent.futures import ThreadPoolExecutor
+from dataclasses import dataclass
+from importlib.machinery import SourceFileLoader
+from importlib.util import module_from_spec, spec_from_loader
+from pathlib import Path
+from typing import Any
+
+TOP = Path(__file__).resolve().parents[2]
+RT = Path(shutil.which('rt') or sys.exit('There is no rt on the path.')).resolve()
+FLAGS = ['--jobs', '1']
+# A proof that names what an edit took away says nothing of the contract, nor does one that waits for another.
+SAYS_LITTLE = re.compile(r'has no field|is not in scope|has no `|was not admitted|that depends? on')
+
+
+def module_of_rt() -> Any:
+    sys.path.insert(0, str(RT.parent))
+    loader = SourceFileLoader('rt_command', str(RT))
+    spec = spec_from_loader(loader.name, loader)
+    assert spec
+    module = module_from_spec(spec)
+    loader.exec_module(module)
+    return module
+
+
+rt = module_of_rt()
+
+
+@dataclass
+class Edit:
+    path: str
+    function: str  # the one function that it changes, or ''
+    texts: dict[str, str]  # the crate's files as this edit alone makes them
+    why: str  # why it can't be applied, or ''
+
+    @property
+    def name(self) -> str:
+        return Path(self.path).stem
+
+
+def function_at(text: str, place: int) -> str:
+    """The function of a crate's file whose body or contract has this place, or ''."""
+    found = [*re.finditer(r'(?m)^( *)(?:pub(?:\([a-z]+\))? )?(?:const |unsafe |extern "C" )*fn (\w+)', text[:place])]
+    if not found:
+        return ''
+    indent, name = found[-1].groups()
+    return '' if re.search(rf'(?m)^{indent}}}', text[found[-1].end():place]) else str(name)
+
+
+def changed_function(folder: Path, changes: str, named: str) -> str:
+    """The function that an edit's rows change if it is only the one that its file's name has, or ''."""
+    file = text = ''
+    for line in changes.split('\n'):
+        if line.startswith('file: '):
+            file = line.removeprefix('file: ').strip()
+            text = (folder / file).read_text(encoding='utf-8')
+        elif line.startswith('old: '):
+            old = line.removeprefix('old: ')
+            if not file.startswith('src/') or text.count(old) != 1 or function_at(text, text.index(old)) != named:
+                return ''
+    return named
+
+
+def edits_of(crate: Any) -> list[Edit]:
+    good, bad = rt.edits_of(crate)
+    edits = [Edit(path, '', {}, 'it stands in a folder, or its name is none of an edit') for path in bad]
+    for path in good:
+        texts, why = rt.read_edit(path, crate.folder)
+        parts = Path(path).stem.split('.')
+        with open(path, encoding='utf-8') as file:
+            function = changed_function(Path(crate.folder), file.read(), parts[1]) if len(parts) == 3 and not why else ''
+        edits.append(Edit(path, function, texts or {}, why or ''))
+    return edits
+
+
+def merged(texts: dict[str, str], edit: Edit, folder: str) -> dict[str, str] | None:
+    """The files of a crate that has some edits, with one more, or None if a text of that one is no longer there once."""
+    with open(edit.path, encoding='utf-8') as file, tempfile.TemporaryDirectory() as room:
+        for path in edit.texts:
+            to = Path(room, path)
+            to.parent.mkdir(parents=True, exist_ok=True)
+            to.write_text(texts.get(path) or Path(folder, path).read_text(encoding='utf-8'), encoding='utf-8')
+        found, why = rt.edited(file.read(), room)
+    return None if why else {**texts, **found}
+
+
+def rounds_of(edits: list[Edit], folder: str) -> list[tuple[list[Edit], dict[str, str]]]:
+    """The edits of one function each in as few checks as can be: of each function one in a check."""
+    rounds: list[tuple[list[Edit], dict[str, str]]] = []
+    for edit in edits:
+        for at, (members, texts) in enumerate(rounds):
+            more = None if any(it.function == edit.function for it in members) else merged(texts, edit, folder)
+            if more:
+                rounds[at] = [*members, edit], more
+                break
+        else:
+            rounds.append(([edit], edit.texts))
+    return rounds
+
+
+def goals_refused(printed: str) -> dict[str, str]:
+    """By its name, the first goal of each function that a check has refused for the function itself."""
+    goals: dict[str, str] = {}
+    for line in printed.splitlines():
+        at = re.match(r'(?:\./)?proofs/(?:[^:]*/)?(\w+)/\w+\.antt:\d+:\d+: error: (.*)', line)
+        if at and not SAYS_LITTLE.search(at[2]):
+            goals.setdefault(at[1], at[2])
+        said = re.match(r'fn \w+::(\S+): (?:no proof|not proved)(.*)', line)
+        if said and ('`search` did not prove' in said[2] or said[2] == ''):
+            path = [it for it in said[1].split('+')[0].split('::') if it != 'fn']
+            # A closure's goals are its function's: fn::FUNCTION::CALL.
+            name = said[1].split('fn::')[1].split('::')[0] if 'fn::' in said[1] else path[-1]
+            goals.setdefault(name, said[2].lstrip(': ') or 'not proved')
+    return goals
+
+
+def tried_at_once(crate: Any, edits: list[Edit], kept: str) -> dict[str, str]:
+    """By its name, the goal that refused each edit that one check of many has refused."""
+    refused: dict[str, str] = {}
+    for members, texts in rounds_of([it for it in edits if it.function], crate.folder):
+        done = rt.checked(crate, texts, FLAGS, kept)
+        if done.returncode == 1 and done.stdout.rstrip('\n').split('\n')[-1].startswith('logic=not-proved'):
+            goals = goals_refused(done.stdout)
+            refused |= {it.name: goals[it.function] for it in members if it.function in goals}
+    return refused
+
+
+def try_crate(crate: Any) -> tuple[int, int]:
+    """How many wrong bodies of a crate were refused, and how many not."""
+    edits, began = edits_of(crate), time.monotonic()
+    lines, refused = [f'{crate.name}: {it.name}: {it.why}' for it in edits if it.why], 0
+    fit = [it for it in edits if not it.why]
+    with tempfile.TemporaryDirectory(prefix='wrong-bodies-') as kept:
+        goals = tried_at_once(crate, fit, kept)
+        # Over what these checks have kept the crate as it is has to be proved: else they show nothing.
+        if fit and rt.checked(crate, {}, FLAGS, kept).returncode:
+            goals = {}
+            lines.append(f'{crate.name} is not proved over what was kept, so each wrong body is tried by itself')
+        for edit in fit:
+            if edit.name in goals:
+                refused += 1
+                lines.append(f'refused {crate.name}: {edit.name}: {goals[edit.name][:120]}')
+            else:
+                is_refused, text = rt.must_fail(crate, edit.path, FLAGS)
+                refused += is_refused
+                lines.append(('alone ' if is_refused else 'FAILED: ') + text)
+    lines.append(f'{crate.name}: {len(goals)} in common checks, {len(fit) - len(goals)} alone, in {time.monotonic() - began:.0f} s')
+    print('\n'.join(lines), flush=True)
+    return refused, len(edits) - refused
+
+
+def main() -> int:
+    reader = argparse.ArgumentParser()
+    reader.add_argument('--lanes', type=int, default=len(os.sched_getaffinity(0)))
+    reader.add_argument('crates', nargs='*')
+    given = reader.parse_args()
+    crates = [it for it in rt.rtlib.crates_below(str(TOP)) if not given.crates or it.name in given.crates]
+    unbuilt = {low.name for crate in crates for low in crate.below() if not os.path.isdir(low.rlib)}
+    if unbuilt:
+        sys.exit(f'not built: {", ".join(sorted(unbuilt))}; make builds them')
+    rt.rtlib.guarded()
+    with ThreadPoolExecutor(given.lanes) as pool:
+        crates.sort(key=lambda crate: -len(rt.edits_of(crate)[0]))
+        counts = [*pool.map(try_crate, crates)]
+    passed, failed = map(sum, zip(*counts))
+    print(f'{passed} passed, {failed} failed')
+    return 1 if failed else 0
+
+
+if __name__ == '__main__':
+    sys.exit(main())
