@@ -209,18 +209,30 @@ def tools(edit: Edit, wrong: Edit | None, room: Path) -> bool | None:
         shutil.copytree(TOP / name, room / name, copy_function=linked)
     if wrong:
         change(room, wrong)
-    ran = subprocess.run(['bash', str(TESTS / 'tools/pack.sh')], stdout=subprocess.PIPE, stderr=subprocess.STDOUT, check=False,
-                         env={**os.environ, 'TREE': str(room), 'ONLY': edit.inside, 'CASE': edit.test, 'WRONG_VERSIONS': ''})
+    return judged('pack', edit.test, TREE=str(room), ONLY=edit.inside, CASE=edit.test)
+
+
+def judged(script: str, test: str, **more: str) -> bool:
+    """Whether a test of a script of tests/tools fails."""
+    ran = subprocess.run(['bash', str(TESTS / f'tools/{script}.sh')], stdout=subprocess.PIPE, stderr=subprocess.STDOUT, check=False,
+                         env={**os.environ, **more, 'WRONG_VERSIONS': ''})
     lines = ran.stdout.decode(errors='replace').splitlines()
-    if f'FAILED: {edit.test}' in lines:
+    if f'FAILED: {test}' in lines:
         return True
     if not re.fullmatch(r'[1-9]\d* passed, \d+ failed', lines[-1] if lines else ''):
         raise Unfit(f'its test did not run: {lines[-1:]}')
     return False
 
 
+def bodies(edit: Edit, wrong: Edit | None, room: Path) -> bool | None:
+    shutil.copy(WRONG / 'bodies.py', room)
+    if wrong:
+        change(room, wrong)
+    return judged('bodies', edit.test, BODIES=str(room / 'bodies.py'))
+
+
 SUITES: dict[str, Callable[[Edit, Edit | None, Path], bool | None]] = {
-    'core': core, 'cdscript': cdscript, 'page': page, 'python': python, 'tools': tools}
+    'core': core, 'cdscript': cdscript, 'page': page, 'python': python, 'tools': tools, 'bodies': bodies}
 
 
 def failed(suite: str, edit: Edit, wrong: Edit | None) -> bool | None:
