@@ -36,7 +36,7 @@ export const TABLES = {
         table: bytesOf(`${Array.from({ length: 8 }, (_, i) => `${'00'.repeat(i + 1)}=a\n`).join('')}01=b\n`), text: 'aaaab',
     },
     'one text of many bytes': {
-        table: bytesOf(`${Array.from({ length: 32000 }, (_, i) => `00${hex(i + 1, 2)}=a\n`).join('')}01=b\n`), text: 'ab',
+        table: bytesOf(`${Array.from({ length: 65000 }, (_, i) => `00${hex(i + 1, 2)}=a\n`).join('')}01=b\n`), text: 'ab',
     },
     'long bytes': { table: bytesOf(`00=b\n${'00'.repeat(4096)}=a\n`), text: 'b', fault: 'line 2 of the table has more than 8 bytes' },
     'very long bytes': { table: bytesOf(`00=b\n${'00'.repeat(200000)}=a\n`), text: 'b', fault: 'line 2 of the table has more than 8 bytes' },
