@@ -13,5 +13,5 @@ returns-in-Err-clause-line g c = (
     own = λ e is. let same = c.in-Err.ensures.refused e is in cc;
     other = c.in-Err.ensures.err;
   },
-  rw (← c.script_fault_line.ensures.line, ← c.as_slice.ensures) c.print_and_fail.ensures.line,
+  rw (← c.script_fault_line.ensures.line, ← c.as_slice.ensures.bytes) c.print_and_fail.ensures.line,
 )
