@@ -9,11 +9,12 @@ use crate::help::{
     APPLY_ABOUT, APPLY_MORE, AUDIT_ABOUT, AUDIT_MORE, CHECK_ABOUT, CHECK_MORE, LIST_ABOUT,
     LIST_MORE, PROGRAM_ABOUT, PROGRAM_MORE,
 };
+use cd_sector::MAX_BLOCK;
 use clap::{Arg, ArgAction, Command, value_parser};
 use std::alloc::{AllocError, Global};
 
 /// The largest number that the first block of an image may have: the last block with an address.
-pub const MAX_BASE: u32 = 449_849;
+pub const MAX_BASE: u32 = MAX_BLOCK;
 
 /// A text that a command needs.
 fn text_argument<'a>(alloc: Global, id: &'a str, name: &'a str, help: &'a str) -> Arg<'a>

@@ -10,8 +10,9 @@ ghost use Rattle.cd_sector.specs.Kind.{kind_of};
 ghost use Rattle.cd_delta.specs.Writing.{with_range};
 ghost use Rattle.cd_c.specs.Results.{carry_result, change_result, is_inside};
 
-use crate::results::{OK, carry_result, change_result, is_inside};
+use crate::results::{carry_result, change_result, is_inside};
 use cd_delta::{carry_header, carry_user, change_header, change_user};
+use cd_patch::result_numbers::OK;
 use cd_sector::{Sector, rebuild};
 
 /// Writes bytes into the user data of a sound sector, from `offset` on, as [`change_user`].

@@ -20,4 +20,3 @@ mod state;
 mod surveying;
 mod texts;
 mod version;
-mod writing;

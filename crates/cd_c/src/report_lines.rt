@@ -8,7 +8,6 @@ ghost use Rattle.cd_c.specs.Survey.{found_in};
 
 use crate::kinds::{MODE1, kind_numbered};
 use crate::surveying::SectorRecord;
-use crate::writing::write_line;
 use cd_line::LINE_SIZE;
 use cd_report::{
     AuditTally, Findings, ListTally, audit_end, finding_line, is_any, list_end, run_line,
@@ -50,7 +49,7 @@ pub extern "C" fn cdpatch_list_line(
     ensures none { result ≡ 0 ↔ (last < first) ⊎ (4 < kind) }
 {
     match kind_numbered(kind) {
-        Some(kind) if first <= last => write_line(&run_line(first, last, kind), text),
+        Some(kind) if first <= last => run_line(first, last, kind).write_to(text),
         _ => 0,
     }
 }
@@ -64,7 +63,7 @@ pub extern "C" fn cdpatch_list_end(sectors: u32, tail: u16, text: &mut [u8; LINE
     ensures within { result ≤ 96 }
     ensures some { 0 < result }
 {
-    write_line(&list_end(ListTally { sectors, tail }), text)
+    list_end(ListTally { sectors, tail }).write_to(text)
 }
 
 /// Writes the line of `audit` for the record of a block to the front of `text`, as
@@ -83,7 +82,7 @@ pub extern "C" fn cdpatch_audit_line(
     ensures none { result ≡ 0 ↔ is_any (found_in record.now) ≡ false }
 {
     match found_in(record) {
-        Some(found) if is_any(&found) => write_line(&finding_line(block, &found), text),
+        Some(found) if is_any(&found) => finding_line(block, &found).write_to(text),
         _ => 0,
     }
 }
@@ -116,5 +115,5 @@ pub extern "C" fn cdpatch_audit_end(
         findings: 0, // they are not in this line
         tail,
     };
-    write_line(&audit_end(tally), text)
+    audit_end(tally).write_to(text)
 }

@@ -1,32 +1,12 @@
-//! The numbers that calls of C return for changes and patches.
+//! What calls of C return for changes.
 
 ghost use Rattle.std.specs.Prelude.{◌≡◌, ◌+◌, ◌≤◌, length, true};
 ghost use Rattle.cd_sector.specs.Kind.{kind_of};
 ghost use Rattle.cd_sector.specs.declared.kinds.SectorKind.TheVariants.{Mode1};
 ghost use Rattle.cd_c.specs.Results.{carry_result, change_result, is_inside};
 
+use cd_patch::result_numbers::{DAMAGED, NOT_MODE1, OK, OUT_OF_RANGE};
 use cd_sector::{Sector, SectorKind, USER_SIZE, is_consistent, kind};
-
-/// The sector is changed.
-pub const OK: u32 = 0;
-
-/// The sector is not of Mode 1.
-pub const NOT_MODE1: u32 = 1;
-
-/// The sector is damaged, and the change carries no damage.
-pub const DAMAGED: u32 = 2;
-
-/// The bytes do not lie in the user data.
-pub const OUT_OF_RANGE: u32 = 3;
-
-/// The image does not have a block that the patch meets.
-pub const NO_BLOCK: u32 = 4;
-
-/// Old bytes that the patch names differ.
-pub const DIFFERS: u32 = 5;
-
-/// The record is not one of a patch.
-pub const NO_PATCH: u32 = 6;
 
 /// Whether as many bytes lie in the user data from `offset` on.
 pub(crate) fn is_inside(offset: usize, bytes: &[u8]) -> bool

@@ -3,8 +3,8 @@
 ghost use Rattle.std.specs.Prelude.{◌≡◌, ◌++◌, ◌≤◌, drop, length};
 ghost use Rattle.cd_c.specs.Texts.{result_text};
 
-use crate::results::{DAMAGED, DIFFERS, NO_BLOCK, NO_PATCH, NOT_MODE1, OK, OUT_OF_RANGE};
 use cd_line::LINE_SIZE;
+use cd_patch::result_numbers::{DAMAGED, DIFFERS, NO_BLOCK, NO_PATCH, NOT_MODE1, OK, OUT_OF_RANGE};
 
 /// The words for a result; none for any other number.
 #[tactic(auto, unfolding(crate::specs::Texts::result_text))]

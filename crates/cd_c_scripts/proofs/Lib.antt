@@ -4,6 +4,5 @@ mod GoingLemmas
 mod InOrderLemmas
 mod IndexLemmas
 mod MovedLemmas
-pub mod NumberLemmas
 mod OrderedLemmas
 mod TellingLemmas

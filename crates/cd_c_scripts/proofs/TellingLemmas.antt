@@ -15,7 +15,7 @@ use Rattle.cd_run.proofs.LeftLemmas.{copies_none}
 use Rattle.cd_run.proofs.UnderwayLemmas.{first_left}
 use Rattle.cd_c_scripts.specs.Flags.{carries, copies}
 use Rattle.cd_c_scripts.specs.InOrder.{EachComing, IsInOrder, MayCome, logged_by}
-use Rattle.cd_c_scripts.specs.Outcomes.{outcome_block, outcome_number, outcome_offset}
+use Rattle.cd_patch.specs.OutcomeNumbers.{outcome_block, outcome_number, outcome_offset}
 use Rattle.cd_c_scripts.specs.Runs.{About, Asks, Going, Goes, IsBeyond, IsDone, IsLineOf, IsLog, IsLookedAt, IsRunning, IsTooLong, MeetsMore, Steps, Tells, status_of}
 use Rattle.cd_c_scripts.specs.StepKinds.{copy_kind, end_kind, log_kind, read_kind, write_kind}
 use Rattle.cd_c_scripts.specs.declared.entries.Entry.{Entry}

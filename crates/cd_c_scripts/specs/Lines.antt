@@ -3,8 +3,8 @@ use Rattle.std.specs.Prelude.{ℕ, ◌==◌, List, Option, Some, None, option_ma
 use Rattle.cd_script.specs.declared.by_line.LineContent.{LineContent}
 use Rattle.cd_script.specs.declared.by_line.LineContent.TheVariants as content
 use Rattle.cd_script.specs.declared.fault.ScriptFault.{ScriptFault}
-use Rattle.cd_script.specs.declared.fault.ScriptFault.TheVariants as fault
 use Rattle.cd_script.specs.declared.version.Version.{Version}
+use Rattle.cd_script.specs.FaultNumbers.{fault_number}
 use Rattle.cd_script.specs.VersionNumbers.{numbered_version, version_number}
 use Rattle.cd_script.specs.ByLine.{meaning_at}
 use Rattle.cd_script.specs.PatchForm.{Patch}
@@ -18,19 +18,6 @@ version_of n =
 abbrev pub line_read : ℕ → ℕ → ℕ → List ℕ → Option (Result LineContent ScriptFault)
 line_read version number earlier line =
     option_map (λ v. meaning_at v number earlier line) (version_of version)
-
--- the number of a fault
-abbrev pub fault_number : ScriptFault → ℕ
-fault_number (fault.Head line) = 4
-fault_number (fault.Verb line) = 5
-fault_number (fault.Words line) = 6
-fault_number (fault.Number line) = 7
-fault_number (fault.Hex line) = 8
-fault_number (fault.Length line) = 9
-fault_number (fault.Offset line) = 10
-fault_number (fault.Address line) = 11
-fault_number (fault.TooMany line) = 12
-fault_number fault.NoMemory = 13
 
 -- the number of what a line says
 abbrev pub content_number : LineContent → ℕ

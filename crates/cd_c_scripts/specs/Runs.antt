@@ -23,7 +23,7 @@ use Rattle.cd_c_scripts.specs.Entries.{AreEntries}
 use Rattle.cd_c_scripts.specs.Flags.{carries, copies}
 use Rattle.cd_c_scripts.specs.InOrder.{Begins, IsInOrder, logged_by}
 use Rattle.cd_c_scripts.specs.Lines.{version_of}
-use Rattle.cd_c_scripts.specs.Outcomes.{outcome_block, outcome_number, outcome_offset}
+use Rattle.cd_patch.specs.OutcomeNumbers.{outcome_block, outcome_number, outcome_offset}
 use Rattle.cd_c_scripts.specs.StepKinds.{copy_kind, end_kind, log_kind, read_kind, write_kind}
 use Rattle.cd_c_scripts.specs.StepRooms.{line_room}
 use Rattle.cd_c_scripts.specs.declared.entries.Entry.{Entry}

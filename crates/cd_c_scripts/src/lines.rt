@@ -1,59 +1,17 @@
 //! The call of C that reads a line of a script.
 
 ghost use Rattle.std.specs.Prelude.{◌≡◌, ◌≢◌, ◌<◌, IfSome, Some};
-ghost use Rattle.cd_script.specs.FaultNumbers.{line_of};
 ghost use Rattle.cd_c_scripts.specs.FlatPatch.{IsSomePatch, flat_patch, new_of, old_of, record_of, with_front};
-ghost use Rattle.cd_c_scripts.specs.Lines.{answer_number, content_number, fault_number, line_read, patch_read, version_of};
+ghost use Rattle.cd_c_scripts.specs.Lines.{answer_number, content_number, line_read, patch_read, version_of};
 
 use crate::flat_patch::{FlatPatch, lend_patch};
-use cd_script::{LineContent, MAX_BYTES, ScriptFault, Version, read_line};
+use cd_script::{LineContent, MAX_BYTES, Version, read_line};
 
 /// The line has a patch.
 const PATCH: u32 = 3;
 
 /// The number means no version.
 const NO_VERSION: u32 = 14;
-
-/// A fault that no line has.
-const NO_LINE: u32 = 0;
-
-/// The number of a fault.
-pub(crate) fn fault_number(fault: ScriptFault) -> u32
-    ensures number { result ≡ fault_number fault }
-    ensures fault { result ≢ PATCH }
-    ensures few { result < 15 }
-{
-    match fault {
-        ScriptFault::Head(_) => 4,
-        ScriptFault::Verb(_) => 5,
-        ScriptFault::Words(_) => 6,
-        ScriptFault::Number(_) => 7,
-        ScriptFault::Hex(_) => 8,
-        ScriptFault::Length(_) => 9,
-        ScriptFault::Offset(_) => 10,
-        ScriptFault::Address(_) => 11,
-        ScriptFault::TooMany(_) => 12,
-        ScriptFault::NoMemory => 13,
-    }
-}
-
-/// The line of a fault.
-pub(crate) fn line_of(fault: ScriptFault) -> u32
-    ensures { result ≡ line_of fault }
-{
-    match fault {
-        ScriptFault::Head(line) => line,
-        ScriptFault::Verb(line) => line,
-        ScriptFault::Words(line) => line,
-        ScriptFault::Number(line) => line,
-        ScriptFault::Hex(line) => line,
-        ScriptFault::Length(line) => line,
-        ScriptFault::Offset(line) => line,
-        ScriptFault::Address(line) => line,
-        ScriptFault::TooMany(line) => line,
-        ScriptFault::NoMemory => NO_LINE,
-    }
-}
 
 /// The version that a number means, 0 that there was no head line.
 pub(crate) fn version_of(version: u32) -> Option<Option<Version>>
@@ -104,6 +62,6 @@ pub extern "C" fn cdpatch_read_line(
             *patch = lend_patch(&found, new_bytes, old_bytes);
             PATCH
         }
-        Err(fault) => fault_number(fault),
+        Err(fault) => fault.number(),
     }
 }

@@ -5,15 +5,14 @@ ghost use Rattle.cd_script.specs.Patch.{IsPatch};
 ghost use Rattle.cd_patch.specs.Deciding.{outcome};
 ghost use Rattle.cd_patch.specs.Effect.{Effect};
 ghost use Rattle.cd_c_scripts.specs.FlatPatch.{IsSomePatch, flat_patch};
-ghost use Rattle.cd_c_scripts.specs.Outcomes.{no_patch, outcome_number, place_after};
+ghost use Rattle.cd_patch.specs.OutcomeNumbers.{no_patch, outcome_number};
+ghost use Rattle.cd_c_scripts.specs.Outcomes.{place_after};
 
 use crate::flat_patch::{FlatPatch, patch_of};
+use cd_patch::result_numbers::NO_PATCH;
 use cd_patch::{Outcome, apply_lent};
 use cd_script::{MAX_BYTES, is_patch};
 use cd_sector::Sector;
-
-/// The record is that of no patch.
-const NO_PATCH: u32 = 6;
 
 /// Where a patch was refused, as C's `struct cdpatch_place`.
 #[derive(Clone, Copy)]
@@ -23,20 +22,6 @@ pub struct Place {
     pub block: u32,
     /// The user byte of that block that differs, else 0.
     pub offset: u16,
-}
-
-/// The number of an outcome.
-pub(crate) fn outcome_number(outcome: Outcome) -> u32
-    ensures number { result ≡ outcome_number outcome }
-    ensures patch { result ≢ no_patch }
-{
-    match outcome {
-        Outcome::Applied => 0,
-        Outcome::NotMode1(_) => 1,
-        Outcome::Damaged(_) => 2,
-        Outcome::NoBlock(_) => 4,
-        Outcome::Differs(..) => 5,
-    }
 }
 
 /// Writes where a patch was refused, if it was.
@@ -85,5 +70,5 @@ pub extern "C" fn cdpatch_apply_patch(
     }
     let outcome = apply_lent(sectors, &patch, carry);
     note_place(outcome, place);
-    outcome_number(outcome)
+    outcome.number()
 }

@@ -11,13 +11,10 @@ ghost use Rattle.cd_c_scripts.specs.Flags.{all_as_asked, flag_limit};
 ghost use Rattle.cd_c_scripts.specs.Runs.{IsBegun, IsFaulty, refusal};
 
 use crate::entries::{Entry, index_script, version_number};
-use crate::lines::{fault_number, line_of};
 use crate::run_state::{FAULTY, FLAGS, NOTHING, STOPPED, ScriptRun, TOO_LONG};
 use cd_run::PatchRun;
 use cd_script::MAX_TEXT;
-
-/// The largest number of an image's first block.
-const MAX_BASE: u32 = 449_849;
+use cd_sector::MAX_BLOCK;
 
 /// No run begins from such a block, or with such flags.
 const REFUSED: usize = 18_446_744_073_709_551_615;
@@ -63,7 +60,7 @@ pub extern "C" fn cdpatch_run_begin(
         size: 0,
         image_size,
     };
-    if base > MAX_BASE {
+    if base > MAX_BLOCK {
         return REFUSED;
     }
     if flags >= FLAGS {
@@ -77,8 +74,8 @@ pub extern "C" fn cdpatch_run_begin(
     match index_script(script, entries) {
         Err(fault) => {
             run.asked = FAULTY;
-            run.most = fault_number(fault);
-            run.line = line_of(fault);
+            run.most = fault.number();
+            run.line = fault.line();
             0
         }
         Ok(index) => {

@@ -7,10 +7,9 @@ ghost use Rattle.cd_run.specs.PatchLog.{outcome_line};
 ghost use Rattle.cd_run.specs.Running.{IsRun};
 ghost use Rattle.cd_run.specs.Steps.{IsReady};
 ghost use Rattle.cd_run.specs.declared.run.Step.TheVariants.{Copy};
-ghost use Rattle.cd_c_scripts.specs.Outcomes.{outcome_block, outcome_number, outcome_offset};
+ghost use Rattle.cd_patch.specs.OutcomeNumbers.{outcome_block, outcome_number, outcome_offset};
 ghost use Rattle.cd_c_scripts.specs.Runs.{error_line, status_of};
 
-use crate::patches::outcome_number;
 use crate::run_state::{
     COPY, COPYING, END, LOG, READ, READING, RunStep, STOPPED, ScriptRun, TOO_LONG, WRITE,
 };
@@ -19,18 +18,6 @@ use cd_patch::Outcome;
 use cd_run::{LONG_SCRIPT, outcome_line, script_fault_line};
 use cd_script::ScriptFault;
 use cd_sector::{MAX_SECTORS, SECTOR_SIZE};
-
-/// Writes a line to the front of `text`, and returns its size.
-fn write_line(line: &Line, text: &mut [u8; LINE_SIZE]) -> usize
-    requires { length line.now ≤ LINE_SIZE }
-    ensures size { result ≡ length line.now }
-    ensures few { result ≤ LINE_SIZE }
-    ensures line { take result text.new ≡ line.now }
-{
-    let bytes = line.as_slice();
-    text[..bytes.len()].copy_from_slice(bytes);
-    bytes.len()
-}
 
 /// Tells a step that moves bytes.
 fn tell(step: &mut RunStep, kind: u32, at: u64, place: usize, size: usize)
@@ -63,7 +50,7 @@ pub(crate) fn tell_line(step: &mut RunStep, line: &Line)
     ensures line { take step.new.size step.new.text ≡ line.now }
 {
     tell(step, LOG, 0, 0, line.as_slice().len());
-    write_line(line, &mut step.text);
+    line.write_to(&mut step.text);
 }
 
 /// Tells the end.
@@ -202,7 +189,7 @@ pub(crate) fn tell_outcome(step: &mut RunStep, number: u32, outcome: Outcome)
     tell_line(step, &outcome_line(number, outcome));
     let (block, offset) = place_of(outcome);
     step.number = number;
-    step.result = outcome_number(outcome);
+    step.result = outcome.number();
     step.block = block;
     step.offset = offset;
 }

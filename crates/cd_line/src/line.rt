@@ -1,6 +1,6 @@
 //! One line of a report, a log or a message, made in place.
 
-ghost use Rattle.std.specs.Prelude.{◌≡◌, ◌+◌, ◌≤◌, [], ◌++◌, decimal, length};
+ghost use Rattle.std.specs.Prelude.{◌≡◌, ◌+◌, ◌≤◌, [], ◌++◌, decimal, drop, length, take};
 
 use arrayvec::ArrayVec;
 use itoa::Buffer;
@@ -72,8 +72,32 @@ impl Line {
     ///
     /// See the example of [`Line::new`].
     pub fn as_slice(&self) -> &[u8]
-        ensures { result.now ≡ self.now }
+        ensures bytes { result.now ≡ self.now }
+        ensures few { length result.now ≤ LINE_SIZE }
     {
         self.bytes.as_slice()
+    }
+
+    /// Writes the line to the front of `text`, and returns its size in bytes. The rest of `text`
+    /// stays.
+    ///
+    /// # Examples
+    ///
+    /// ```
+    /// let mut line = Line::new();
+    /// line.push_number(8);
+    /// let mut text = [7; LINE_SIZE];
+    /// assert_eq!(rt; line.write_to(&mut text), 1);
+    /// assert_eq!(rt; &text[..2], &[b'8', 7]);
+    /// ```
+    pub fn write_to(&self, text: &mut [u8; LINE_SIZE]) -> usize
+        ensures size { result ≡ length self.now }
+        ensures few { result ≤ LINE_SIZE }
+        ensures line { take result text.new ≡ self.now }
+        ensures rest { drop result text.new ≡ drop result text.old }
+    {
+        let bytes = self.as_slice();
+        text[..bytes.len()].copy_from_slice(bytes);
+        bytes.len()
     }
 }

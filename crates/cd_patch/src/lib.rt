@@ -23,6 +23,7 @@ mod edits;
 mod effect;
 mod laws;
 mod outcome;
+pub mod result_numbers;
 
 pub use edits::{MAX_BLOCKS_MET, blocks_met, blocks_met_spelled};
 pub use effect::{apply_lent, apply_patch};

@@ -3,6 +3,19 @@ use Rattle.std.specs.Prelude.{ℕ, ◌==◌, Option, Some, None, if◌then◌els
 use Rattle.cd_script.specs.declared.fault.ScriptFault.{ScriptFault}
 use Rattle.cd_script.specs.declared.fault.ScriptFault.TheVariants as fault
 
+-- the number of a fault
+abbrev pub fault_number : ScriptFault → ℕ
+fault_number (fault.Head line) = 4
+fault_number (fault.Verb line) = 5
+fault_number (fault.Words line) = 6
+fault_number (fault.Number line) = 7
+fault_number (fault.Hex line) = 8
+fault_number (fault.Length line) = 9
+fault_number (fault.Offset line) = 10
+fault_number (fault.Address line) = 11
+fault_number (fault.TooMany line) = 12
+fault_number fault.NoMemory = 13
+
 -- the fault of a number, in this line: the ten in their order, from 4 on
 abbrev pub fault_of : ℕ → ℕ → Option ScriptFault
 fault_of number line =

@@ -1,6 +1,7 @@
 //! Why a script is refused.
 
-ghost use Rattle.std.specs.Prelude.{◌≡◌};
+ghost use Rattle.std.specs.Prelude.{◌≡◌, ◌<◌, IfSome, Some};
+ghost use Rattle.cd_script.specs.FaultNumbers.{fault_number, fault_of, line_of};
 ghost use Rattle.cd_script.specs.declared.fault.ScriptFault.TheVariants.{NoMemory};
 
 use crate::limits::MAX_PATCHES;
@@ -44,6 +45,83 @@ pub enum ScriptFault {
     /// Memory was refused.
     #[error("no memory")]
     NoMemory,
+}
+
+/// The line of a fault that is in none.
+const NO_LINE: u32 = 0;
+
+impl ScriptFault {
+    /// The number by which calls of C name it: 4 to 13, in the order of the variants.
+    ///
+    /// # Examples
+    ///
+    /// ```
+    /// assert_eq!(rt; ScriptFault::Hex(3).number(), 8);
+    /// assert_eq!(rt; ScriptFault::of_number(8, 3), Some(ScriptFault::Hex(3)));
+    /// assert_eq!(rt; ScriptFault::of_number(14, 3), None);
+    /// assert_eq!(rt; ScriptFault::Hex(3).line(), 3);
+    /// ```
+    pub fn number(self) -> u32
+        ensures number { result ≡ fault_number self }
+        ensures named { fault_of result (line_of self) ≡ Some self }
+        ensures least { 3 < result }
+        ensures most { result < 14 }
+    {
+        match self {
+            ScriptFault::Head(_) => 4,
+            ScriptFault::Verb(_) => 5,
+            ScriptFault::Words(_) => 6,
+            ScriptFault::Number(_) => 7,
+            ScriptFault::Hex(_) => 8,
+            ScriptFault::Length(_) => 9,
+            ScriptFault::Offset(_) => 10,
+            ScriptFault::Address(_) => 11,
+            ScriptFault::TooMany(_) => 12,
+            ScriptFault::NoMemory => 13,
+        }
+    }
+
+    /// The number of its line, counted from 1; 0 if memory was refused.
+    ///
+    /// See the example of [`ScriptFault::number`].
+    pub fn line(self) -> u32
+        ensures { result ≡ line_of self }
+    {
+        match self {
+            ScriptFault::Head(line) => line,
+            ScriptFault::Verb(line) => line,
+            ScriptFault::Words(line) => line,
+            ScriptFault::Number(line) => line,
+            ScriptFault::Hex(line) => line,
+            ScriptFault::Length(line) => line,
+            ScriptFault::Offset(line) => line,
+            ScriptFault::Address(line) => line,
+            ScriptFault::TooMany(line) => line,
+            ScriptFault::NoMemory => NO_LINE,
+        }
+    }
+
+    /// The fault that a number names, in this line.
+    ///
+    /// See the example of [`ScriptFault::number`].
+    pub fn of_number(number: u32, line: u32) -> Option<Self>
+        ensures fault { result ≡ fault_of number line }
+        ensures numbered { IfSome result (λ f. fault_number f ≡ number) }
+    {
+        match number {
+            4 => Some(ScriptFault::Head(line)),
+            5 => Some(ScriptFault::Verb(line)),
+            6 => Some(ScriptFault::Words(line)),
+            7 => Some(ScriptFault::Number(line)),
+            8 => Some(ScriptFault::Hex(line)),
+            9 => Some(ScriptFault::Length(line)),
+            10 => Some(ScriptFault::Offset(line)),
+            11 => Some(ScriptFault::Address(line)),
+            12 => Some(ScriptFault::TooMany(line)),
+            13 => Some(ScriptFault::NoMemory),
+            _ => None,
+        }
+    }
 }
 
 impl From<AllocError> for ScriptFault {

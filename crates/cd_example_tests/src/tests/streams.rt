@@ -1,6 +1,6 @@
 //! The examples of cd_stream and cd_line.
 
-use cd_line::Line;
+use cd_line::{LINE_SIZE, Line};
 use cd_stream::{
     Buffered, Count, FailAfter, FromRead, Short, Sink, SinkFailed, SliceSink, SliceSource, Source,
     ToWrite, ZeroSource, fill_buffer, write_all,
@@ -85,6 +85,15 @@ fn a_line(rt: HostRuntime) {
     line.push_text(b"sectors ");
     line.push_number(8);
     assert_eq!(rt; line.as_slice(), b"sectors 8".as_slice());
+}
+
+#[test]
+fn a_line_in_lent_memory(rt: HostRuntime) {
+    let mut line = Line::new();
+    line.push_number(8);
+    let mut text = [7; LINE_SIZE];
+    assert_eq!(rt; line.write_to(&mut text), 1);
+    assert_eq!(rt; &text[..2], &[b'8', 7]);
 }
 
 #[test]

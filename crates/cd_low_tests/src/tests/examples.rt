@@ -467,6 +467,14 @@ fn numbers_of_versions(rt: HostRuntime) {
 }
 
 #[test]
+fn numbers_of_faults(rt: HostRuntime) {
+    assert_eq!(rt; ScriptFault::Hex(3).number(), 8);
+    assert_eq!(rt; ScriptFault::of_number(8, 3), Some(ScriptFault::Hex(3)));
+    assert_eq!(rt; ScriptFault::of_number(14, 3), None);
+    assert_eq!(rt; ScriptFault::Hex(3).line(), 3);
+}
+
+#[test]
 fn a_record_of_no_patch(rt: HostRuntime) {
     let patch = Patch {
         line: 2,
@@ -524,4 +532,11 @@ fn an_applied_lent_patch(rt: HostRuntime) {
 fn outcomes(rt: HostRuntime) {
     assert!(rt; Outcome::Applied.is_applied());
     assert!(rt; !Outcome::NoBlock(5).is_applied());
+}
+
+#[test]
+fn numbers_of_outcomes(rt: HostRuntime) {
+    assert_eq!(rt; Outcome::NoBlock(5).number(), 4);
+    assert_eq!(rt; Outcome::of_number(4, 5, 0), Some(Outcome::NoBlock(5)));
+    assert_eq!(rt; Outcome::of_number(3, 5, 0), None);
 }
