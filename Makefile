@@ -86,8 +86,9 @@ fuzz:                       ## look for input that does harm, ten minutes of eac
 bench:                      ## build what counts instructions
 	bash bench/build '$(CPU)'
 
-# What the man pages and the README repeat of help, made anew of what was built.
-pages:                      ## make anew what the man pages and the README repeat of help
+# What the man pages and the README repeat of the header, and of help of what was built.
+pages:                      ## make anew what the man pages and the README repeat of cdpatch.h and of help
+	@python3 -B tools/header_pages.py make
 	@python3 -B tools/options.py pages ./cdpatch ./cdscript
 
 # What the sources say of themselves, as Markdown.

@@ -13,8 +13,6 @@
 #include <sys/stat.h>
 #include <unistd.h>
 
-enum { MOST_PATCHES = 65535 };
-
 /* The bytes of a file. Those of an empty one stand nowhere. */
 struct map { uint8_t *bytes; size_t size; };
 
@@ -61,14 +59,15 @@ static void see_old_bytes(struct map script) {
 /* A run that prints its log, or one that writes. Returns the status. */
 static int run(struct map script, struct map image, bool writes) {
     static uint8_t hand[CDPATCH_SECTORS_IN_HAND * CDPATCH_SECTOR_SIZE];
-    static struct cdpatch_entry entries[MOST_PATCHES];
+    static struct cdpatch_entry entries[CDPATCH_MOST_PATCHES];
     static struct cdpatch_rooms rooms;
     struct cdpatch_run run;
     struct cdpatch_step step;
     size_t done = 0;
-    cdpatch_run_begin(&run, script.bytes, script.size, 0, image.size, 0, entries, MOST_PATCHES);
+    cdpatch_run_begin(&run, script.bytes, script.size, 0, image.size, 0, entries, CDPATCH_MOST_PATCHES);
     for (;; done = step.size) {
-        cdpatch_run_next(&run, done, script.bytes, script.size, entries, MOST_PATCHES, hand, CDPATCH_SECTORS_IN_HAND, &rooms, &step);
+        cdpatch_run_next(&run, done, script.bytes, script.size, entries, CDPATCH_MOST_PATCHES, hand, CDPATCH_SECTORS_IN_HAND, &rooms,
+                         &step);
         if (step.kind == CDPATCH_END)
             return (int)step.status;
         if (step.kind == CDPATCH_READ)

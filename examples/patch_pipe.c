@@ -4,7 +4,7 @@
 #include <stdio.h>
 #include <stdlib.h>
 
-enum { PIECE = 65536, MOST_SCRIPT_BYTES = 67108864, MOST_PATCHES = 65535 };
+enum { PIECE = 65536 };
 
 /* Ends the program if a file failed. A failed read is not the end of the image, at which a run would go on to its own end. */
 static size_t checked(size_t moved, FILE *file) {
@@ -30,7 +30,7 @@ static uint8_t *read_script(const char *name, size_t *size) {
     FILE *file = fopen(name, "rb");
     uint8_t *text = NULL;
     *size = checked(0, file);
-    for (size_t room = PIECE; !feof(file) && *size <= MOST_SCRIPT_BYTES; room *= 2) {
+    for (size_t room = PIECE; !feof(file) && *size <= CDPATCH_MOST_SCRIPT_BYTES; room *= 2) {
         text = realloc(text, room);
         *size += take(text + *size, room - *size, text ? file : NULL);
     }
@@ -40,7 +40,7 @@ static uint8_t *read_script(const char *name, size_t *size) {
 
 int main(int count, char **arguments) {
     static uint8_t hand[CDPATCH_SECTORS_IN_HAND * CDPATCH_SECTOR_SIZE];
-    static struct cdpatch_entry entries[MOST_PATCHES];
+    static struct cdpatch_entry entries[CDPATCH_MOST_PATCHES];
     static struct cdpatch_rooms rooms;
     struct cdpatch_run run;
     struct cdpatch_step step;
@@ -50,9 +50,9 @@ int main(int count, char **arguments) {
         return CDPATCH_FAILED;
     }
     uint8_t *script = read_script(arguments[1], &size);
-    cdpatch_run_begin(&run, script, size, 0, CDPATCH_UNKNOWN_SIZE, 0, entries, MOST_PATCHES);
+    cdpatch_run_begin(&run, script, size, 0, CDPATCH_UNKNOWN_SIZE, 0, entries, CDPATCH_MOST_PATCHES);
     for (;;) {
-        cdpatch_run_next(&run, done, script, size, entries, MOST_PATCHES, hand, CDPATCH_SECTORS_IN_HAND, &rooms, &step);
+        cdpatch_run_next(&run, done, script, size, entries, CDPATCH_MOST_PATCHES, hand, CDPATCH_SECTORS_IN_HAND, &rooms, &step);
         if (step.kind == CDPATCH_READ)
             done = take(hand + step.place, step.size, stdin);
         if (step.kind == CDPATCH_COPY)

@@ -18,6 +18,6 @@ else
 fi
 echo "made: ${made[*]}"
 [ ${#missing[@]} = 0 ] || printf 'not made: %s\n' "${missing[@]}"
-echo 'try:  ./cdpatch audit crates/cd_vectors/data/cdrkit-8.bin'
+echo 'try:  ./cdpatch audit crates/cd_low_tests/data/cdrkit-8.bin'
 [ "${2-}" != web ] || echo '      or open cdpatch.html in a browser'
 echo 'then: make check, sudo make install'

@@ -2,7 +2,7 @@
 """Makes what repeats the help of cdpatch and cdscript: `python3 tools/options.py completions DIRECTORY PROGRAM..` the completions of three
 shells, `pages PROGRAM..` the made parts of the man pages and of the README, and `check PROGRAM..` prints which of these pages differ.
 
-In a page a part stands between marks, as `made: synopsis` and `end of synopsis`. In the lists of commands and options only the heads are
+In a page a part stands between marks, as `made: synopsis` and `end of synopsis`; tools/header_pages.py makes others. In the lists of commands and options only the heads are
 made: the prose below each is by hand, and a new one begins with what help says.
 """
 
@@ -325,7 +325,7 @@ def remade(text: str, program: Program) -> str:
         begin, name, lines, end = found.group(1), found.group(2), found.group(3).splitlines(), found.group(4)
         return begin + ''.join(f'{line}\n' for line in part(program, name, lines)) + end
 
-    return re.sub(r'(?ms)(^(?:\.\\" |<!-- )made: (\w+)(?: -->)?\n)(.*?)(^(?:\.\\" |<!-- )end of \2(?: -->)?$)', make, text)
+    return re.sub(r'(?ms)(^(?:\.\\" |<!-- )made: (synopsis|table|commands|options)(?: -->)?\n)(.*?)(^(?:\.\\" |<!-- )end of \2(?: -->)?$)', make, text)
 
 
 def pages_of(program: Program) -> list[Path]:

@@ -99,8 +99,8 @@ def apply(image: ReadableBuffer, script: ReadableBuffer, base: int = 0, carry: b
     With `out`, such as the map of a new file, the new image is written to its first bytes, and the others stay; then the result has
     no image. Beside it, a call takes the memory of the log, at most 5243080 bytes, twice, and 20 bytes for each patch.
 
-    Raises Failed if the base is another number, the script is invalid or has more than 67108864 bytes, or the image has more than
-    2352000000; ValueError if the script changes meanwhile: `out` then begins with a prefix of the new image, perhaps an empty one.
+    Raises Failed if the base is another number, the script is invalid or too long, or the image has more than
+    2352000000 bytes; ValueError if the script changes meanwhile: `out` then begins with a prefix of the new image, perhaps an empty one.
     Raises ValueError, and writes nothing, if `out` is smaller than the image, or shares a byte with the image or the script; and if it
     is read-only what its type raises then, which is BufferError, or ValueError for an array of numpy."""
     if out is not None:

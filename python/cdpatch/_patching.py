@@ -81,7 +81,7 @@ def patch(reader: Reader, script: ReadableBuffer, writer: Writer, base: int = 0,
     write take less; `write` returns how many bytes it took, as that of Python's files does. Nothing is read after the end, and nothing
     is flushed or closed.
 
-    Raises Failed if the base is another number, or the script is invalid or has more than 67108864 bytes: then nothing is read. Raises
+    Raises Failed if the base is another number, or the script is invalid or too long: then nothing is read. Raises
     Failed, with the log so far, if the image has more than 2352000000 bytes, OSError if the writer takes nothing, BlockingIOError if the
     reader has nothing yet, ValueError if it gives more than it is asked for, or if the script changes meanwhile, and what the two raise:
     then a prefix of the new image was written."""

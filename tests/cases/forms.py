@@ -11,7 +11,7 @@ sys.path.insert(0, str(HERE.parent / 'model'))
 
 from sector import NO_DEFECT, SIZE, SYNC, address_of, sector_with  # noqa: E402
 
-SECTORS = (HERE.parent.parent / 'crates/cd_vectors/data/cdrkit-8.bin').read_bytes()
+SECTORS = (HERE.parent.parent / 'crates/cd_low_tests/data/cdrkit-8.bin').read_bytes()
 COMMANDS = ('list', 'audit', 'check', 'apply')
 
 

@@ -10,7 +10,7 @@ import { fileURLToPath } from 'node:url';
 
 export const top = fileURLToPath(new URL('../..', import.meta.url));
 export const command = process.env.COMMAND ?? join(top, 'cdscript');
-export const vectors = readFileSync(join(top, 'crates/cd_vectors/data/cdrkit-8.bin'));
+export const vectors = readFileSync(join(top, 'crates/cd_low_tests/data/cdrkit-8.bin'));
 const { main } = createRequire(import.meta.url)(command);
 
 /** What is known of each encoding from elsewhere, in the order in which they are listed; tests/core/common.mjs says what that is. */

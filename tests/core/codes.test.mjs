@@ -10,7 +10,7 @@ const records = await core('module/records.js');
 const { MOST_SECTORS, SECTOR_SIZE, addressIn, addressText, blockAt, imageTooLong, sectorOf, userOf } = await core('sectors/sector.js');
 
 const header = readFileSync(join(top, 'include/cdpatch.h'), 'utf8');
-const vectors = new Uint8Array(readFileSync(join(top, 'crates/cd_vectors/data/cdrkit-8.bin')));
+const vectors = new Uint8Array(readFileSync(join(top, 'crates/cd_low_tests/data/cdrkit-8.bin')));
 
 test('the limits are those of the man page', () => {
     const limit = name => Number(readFileSync(join(top, 'man/cdpatch.1'), 'utf8').match(new RegExp(`\\.It ${name}\n(\\d+)`))[1]);

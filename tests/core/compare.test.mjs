@@ -8,7 +8,7 @@ import { CHANGES, RAW, blocksOf, changedImage, countOf, patchedBy, sectorAt, sou
 
 const { SECOND_STATE, compareImages, diffRange, differRange } = await core('images/compare.js');
 const { ScriptParts } = await core('script/script_writer.js');
-const { RESULT, STATUS, STEP } = await core('module/records.js');
+const { MOST_SCRIPT_BYTES, RESULT, STATUS, STEP } = await core('module/records.js');
 const { blocksText } = await core('sectors/runs.js');
 
 const BASE = 33;
@@ -217,8 +217,8 @@ test('a script of more bytes than cdpatch takes needs --long', () => {
         parts.push({ text: new Uint8Array(size - 'cdpatch 1\n'.length), patches: 1, ...PLAIN });
         return parts.script(calls);
     };
-    assert.equal(sizedScript(67108864).size, 67108864);
-    assert.deepEqual([67108863, 67108864, 67108865].map(size => sizedScript(size).long), [false, false, true]);
+    assert.equal(sizedScript(MOST_SCRIPT_BYTES).size, MOST_SCRIPT_BYTES);
+    assert.deepEqual([-1, 0, 1].map(more => sizedScript(MOST_SCRIPT_BYTES + more).long), [false, false, true]);
 });
 
 test('a script that would not fit in memory is refused', () => {

@@ -2,6 +2,7 @@
 
 import assert from 'node:assert/strict';
 import { test } from 'node:test';
+import { MESSAGES } from '../lib/messages.mjs';
 import { calls, core, cutAt, cutBy, decoded, encoded, newCalls } from './common.mjs';
 
 const { Refusal, readScript } = await core('script/script.js');
@@ -53,8 +54,8 @@ test('a script is refused by the same line whether it may be long or not', async
         const [due, came] = [await read([encoded(script)]), await read([encoded(script)], true)];
         assert.equal(came.refused, due.refused, script);
     }
-    assert.deepEqual(await read([encoded(SCRIPTS[6])]), { refused: 'script line 2: bad hex\n', tooLong: false });
-    assert.deepEqual(await read([encoded(SCRIPTS[4])]), { refused: 'script line 3: no cdpatch 1 line\n', tooLong: false });
+    assert.deepEqual(await read([encoded(SCRIPTS[6])]), { refused: `script line 2: ${MESSAGES.bad_hex}\n`, tooLong: false });
+    assert.deepEqual(await read([encoded(SCRIPTS[4])]), { refused: `script line 3: ${MESSAGES.no_head}\n`, tooLong: false });
 });
 
 test('lines of a long script end in LF or CR LF', async () => {
@@ -63,7 +64,7 @@ test('lines of a long script end in LF or CR LF', async () => {
     for (const script of ['cdpatch 1\r\n\r\nrebuild 1\r\nset 0 0 41\r\n', 'cdpatch 1\r\n\nrebuild 1\r\nset 0 0 41']) {
         assert.deepEqual(await read([encoded(script)], true), plain);
     }
-    assert.equal((await read([encoded('cdpatch 1\nset 0 0 41\r')], true)).refused, 'script line 2: bad hex\n');
+    assert.equal((await read([encoded('cdpatch 1\nset 0 0 41\r')], true)).refused, `script line 2: ${MESSAGES.bad_hex}\n`);
 });
 
 test('a later version of the language is no fault', async () => {
@@ -160,7 +161,7 @@ function scriptOf(size, first) {
 
 test('no more bytes than the program takes, but for a long script', async () => {
     const right = 'cdpatch 1\nrebuild 4\n';
-    const tooLong = { refused: 'cdpatch: the script is longer than 67108864 bytes\n', tooLong: true };
+    const tooLong = { refused: `cdpatch: the script is longer than ${MOST_SCRIPT_BYTES} bytes\n`, tooLong: true };
     assert.equal((await read(scriptOf(MOST_SCRIPT_BYTES, `${right}#`).pieces)).refused, undefined);
     const { asked, pieces } = scriptOf(2 * MOST_SCRIPT_BYTES, right);
     assert.deepEqual(await read(pieces), tooLong);

@@ -2,6 +2,7 @@
 
 import assert from 'node:assert/strict';
 import { test } from 'node:test';
+import { MESSAGES } from '../lib/messages.mjs';
 import { calls, core, decoded, diceOf, encoded, joinedPieces, readerOf, sameBytes, someImage } from './common.mjs';
 import { localCrew } from './crews.mjs';
 import { RAW, blocksOf, changedImage, countOf, patchedBy, sectorAt, sound, soundImage, textOf } from './pairs.mjs';
@@ -140,7 +141,7 @@ test('undo of diff gives OLD', async () => {
 test('a script with a fault, a long one, and a read that fails', async () => {
     const image = soundImage(diceOf(5), 4, BASE);
     const refusal = await undone(image, 'cdpatch 1\nput 1\n');
-    assert.ok(refusal instanceof Refusal && decoded(refusal.text) === 'script line 2: unknown verb\n', decoded(refusal.text));
+    assert.ok(refusal instanceof Refusal && decoded(refusal.text) === `script line 2: ${MESSAGES.unknown_verb}\n`, decoded(refusal.text));
     const long = `cdpatch 1\n${`rebuild ${BASE}\n`.repeat(65536)}`;
     assert.ok(await undone(image, long) instanceof Refusal);
     const short = `cdpatch 1\nset ${BASE} 0 ${Buffer.of(~image[16]).toString('hex')}\n`;

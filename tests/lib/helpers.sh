@@ -5,7 +5,7 @@ set -u
 tests=$(cd "$(dirname "${BASH_SOURCE[0]}")/.." && pwd)
 top=$(dirname "$tests")
 program=$(realpath "${1:-$top/cdpatch}")
-vectors=$top/crates/cd_vectors/data/cdrkit-8.bin
+vectors=$top/crates/cd_low_tests/data/cdrkit-8.bin
 . "$tests/lib/judging.sh"
 cd "$scratch" || exit 1
 

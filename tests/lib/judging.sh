@@ -1,6 +1,5 @@
 # What all tests that run as processes share: a scratch directory, which is gone afterwards, and the counts.
 
-. "$top/tests/lib/messages.sh"
 scratch=$(mktemp -d)
 trap 'rm -rf "$scratch"' EXIT
 passed=0
@@ -11,6 +10,8 @@ skipped=()
 limit() {
     sed -n "/^\.Sh LIMITS/,/^\.El/{/^\.It $1\$/{n;s/.* //;p}}" "$top/man/cdpatch.1"
 }
+
+. "$top/tests/lib/messages.sh"
 
 # judge NAME CONDITION..: counts whether a condition holds. `held` has the names of those that do.
 judge() {

@@ -8,7 +8,17 @@ no_root='cdpatch: cannot open the root directory'
 no_memory='cdpatch: no memory'
 no_text='cdpatch: the words are not text'
 no_script_memory='script: no memory'
-long_script='cdpatch: the script is longer than 67108864 bytes'
+long_script="cdpatch: the script is longer than $(limit 'bytes of a script') bytes"
 long_image='cdpatch: the image has more than 1000000 sectors'
 read_failed='cdpatch: reading the image failed'
 write_failed='cdpatch: writing the output failed'
+
+# What is wrong with a line of a script, after its number.
+no_head='no cdpatch 1 line'
+unknown_verb='unknown verb'
+word_count='wrong number of words'
+bad_number='bad number'
+bad_hex='bad hex'
+bad_length='bad length'
+bad_offset='offset over 2047'
+bad_address='bad address'

@@ -87,7 +87,7 @@ pipes_a_directory() { ./patch_pipe script < .; }
 
 log_of_a_long_script() {
     local status=0
-    truncate -s 67108865 too_long
+    truncate -s $(($(limit 'bytes of a script') + 1)) too_long
     "$program" check "$vectors" too_long > wanted
     ./patch_pipe too_long < "$vectors" 2> log || status=$?
     cmp -s log wanted && [ "$status" = 2 ]
@@ -126,7 +126,7 @@ test_pipe_example() {
             pipes_in_memory 2000
         judge 'one is refused that holds a whole script of its own size' wrong_example patch_pipe.c 's/PIECE = 65536/PIECE = 16777216/' patch_pipe \
             pipes_in_memory 2000
-        judge 'one is refused that cuts a script short' wrong_example patch_pipe.c 's/!feof(file) && //;s/<= MOST_SCRIPT_BYTES/< PIECE/' \
+        judge 'one is refused that cuts a script short' wrong_example patch_pipe.c 's/!feof(file) && //;s/<= CDPATCH_MOST_SCRIPT_BYTES/< PIECE/' \
             patch_pipe log_of_a_long_script
     fi
     missing valgrind valgrind 'patch_pipe.c under valgrind' || judge 'valgrind has no complaint about it' eval \

@@ -232,7 +232,7 @@ static void check_nulls(void) {
  * of nearly the most bytes, most of which are line feeds. */
 static void check_room(void) {
     static const char first[] = "cdpatch 1\n", patch[] = "set 999999999 0 41\n";
-    const size_t room = 5243080, size = 67108864, patches = 65535;
+    const size_t room = 5243080, size = CDPATCH_MOST_SCRIPT_BYTES, patches = CDPATCH_MOST_PATCHES;
     uint8_t *script = (uint8_t *)malloc(size), *log = (uint8_t *)malloc(room), *last;
     size_t length = 0;
     if (!script || !log)
@@ -251,10 +251,11 @@ static void check_room(void) {
 
 /* A script of more bytes than one may have, and an image of more sectors: 2.4 GB of addresses that are never written. */
 static void check_limits(const uint8_t *image, size_t size) {
-    const size_t script_size = 67108865, image_size = (size_t)1000001 * SECTOR;
-    const char *long_script = "cdpatch: the script is longer than 67108864 bytes\n";
+    const size_t script_size = CDPATCH_MOST_SCRIPT_BYTES + 1, image_size = (size_t)1000001 * SECTOR;
+    char long_script[CDPATCH_LINE_SIZE];
     uint8_t *zeros = (uint8_t *)mmap(NULL, image_size, PROT_READ, MAP_PRIVATE | MAP_ANONYMOUS | MAP_NORESERVE, -1, 0);
     struct asked it = {CHECK, image, size, NULL, 0, false, size, MOST, 0, 0, blank(size, true), blank(MOST, true)};
+    snprintf(long_script, sizeof long_script, "cdpatch: the script is longer than %d bytes\n", CDPATCH_MOST_SCRIPT_BYTES);
     it.status = cdpatch_check(image, size, zeros, script_size, 0, false, it.log, MOST, &it.length);
     judge(it.status == CDPATCH_FAILED && printed(&it, long_script), "check of a long script", 0);
     it.status = cdpatch_apply(image, size, zeros, script_size, 0, false, it.out, size, it.log, MOST, &it.length);

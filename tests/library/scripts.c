@@ -1,11 +1,11 @@
 /* The calls of libcdpatch on lines, patches and sectors in hand, from C: `scripts SAMPLES [long]`, a file of consistent sectors of
- * the blocks from 0; with `long` also on a line of 67108864 bytes. Prints what fails, and returns whether nothing does. What a
+ * the blocks from 0; with `long` also on a line as long as a script. Prints what fails, and returns whether nothing does. What a
  * call reads and writes lies in memory that ends, and in memory that begins, where no byte may be read or written. What it must not write
  * is filled before, and compared after. */
 #define _DEFAULT_SOURCE
 #include "fenced.h"
 
-enum { KEPT = 0xA5, SECTOR = CDPATCH_SECTOR_SIZE, SAMPLES = 3, LONGEST = 67108864 };
+enum { KEPT = 0xA5, SECTOR = CDPATCH_SECTOR_SIZE, SAMPLES = 3, LONGEST = CDPATCH_MOST_SCRIPT_BYTES };
 
 /* What the calls on scripts are lent. */
 struct room {
@@ -47,6 +47,15 @@ static bool has_text(const uint8_t *room, size_t count, const char *text) {
     return count == strlen(text) && !memcmp(room, text, count) && all_kept(room + count, CDPATCH_LINE_SIZE - count);
 }
 
+/* What tests/lib/messages.sh calls by this name; tests/library/run puts all of them into the environment. */
+static const char *message(const char *name) {
+    const char *text = getenv(name);
+    if (text)
+        return text;
+    fprintf(stderr, "no message %s in the environment\n", name);
+    exit(2);
+}
+
 static void check_texts(const struct room *it) {
     static const char *const results[] = {"done", "the sector is not a Mode 1 sector", "the sector is damaged",
         "the bytes are not within the user data", "the image has no such block", "the old bytes differ",
@@ -56,8 +65,8 @@ static void check_texts(const struct room *it) {
         "line 4294967295: refused: block 4294967294 is damaged\n", "",
         "line 4294967295: refused: no block 4294967294\n",
         "line 4294967295: refused: old bytes differ at block 4294967294 offset 65535\n", "", ""};
-    static const char *const faults[] = {"no cdpatch 1 line", "unknown verb", "wrong number of words", "bad number", "bad hex",
-        "bad length", "offset over 2047", "bad address", "more than 65535 patches"};
+    const char *const faults[] = {message("no_head"), message("unknown_verb"), message("word_count"), message("bad_number"),
+        message("bad_hex"), message("bad_length"), message("bad_offset"), message("bad_address"), "more than 65535 patches"};
     char wanted[CDPATCH_LINE_SIZE];
     judge(cdpatch_version() == CDPATCH_VERSION_NUMBER, "version", 0);
     for (uint32_t number = 0; number < 20; number++) {

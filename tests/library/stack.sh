@@ -62,7 +62,7 @@ test_stack_of_program() {
     printf '%s\n' 'cdpatch 2' 'set 7 0 41' 'set 1 2000 4142 was 0000' "fill 4 2047 2050 FF" 'address 4 00:00:01' 'rebuild 1' \
         'set 99 0 41' > script
     { echo 'cdpatch 1'; seq -f 'set %.0f 2047 41424344' 0 65534; } > large_script
-    head -c 67108864 /dev/zero > long_script
+    head -c "$(limit 'bytes of a script')" /dev/zero > long_script
     printf 'cdpatch 1\nset 0 0 4\n' > invalid
     for command in "1 audit damaged" "0 list damaged" "1 check damaged script" "1 apply damaged script out" "2 check damaged invalid" \
         "1 apply --carry damaged large_script out" "2 check damaged long_script" "2 apply damaged nothing out" "0 --help" "2 --nothing"; do

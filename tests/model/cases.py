@@ -2,12 +2,18 @@
 
 import random
 import re
+import sys
+from pathlib import Path
 from typing import NamedTuple
 
 from image import answer, cut, effect, findings, met, outcome, run
 from script import MOST_BYTES, MOST_PATCHES, TOO_MANY, Patch, ScriptFault, ordered, script
 from sector import NO_DEFECT, SIZE, SYNC, WORDS, address_of, consistent, damage, defect, kind, sector_with
 
+sys.path.append(str(Path(__file__).resolve().parent.parent / 'lib'))
+from messages import MESSAGES  # noqa: E402
+
+NAMES = {text: name for name, text in MESSAGES.items()}
 LAST_BASE = 449849
 MOST_BLOCKS = (2047 + MOST_BYTES - 1) // 2048 + 1  # that a patch meets
 
@@ -294,7 +300,7 @@ def kinds_of(case):
             found.add(f'version {2 if b"cdpatch 2" in b" ".join(case.script.split()) else 1}')
         except ScriptFault as fault:
             text = str(fault).split(': ')[1]
-            found.add('fault: ' + ('too many patches' if text == TOO_MANY else text))
+            found.add('fault: ' + ('too_many' if text == TOO_MANY else NAMES[text]))
         for name, part in [('CR LF', b'\r\n'), ('tab', b'\t'), ('comment', b'#')]:
             found.add(name * (part in case.script))
         found.add('no LF at the end' * (not case.script.endswith(b'\n')))

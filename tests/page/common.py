@@ -17,7 +17,7 @@ from pathlib import Path
 from typing import Any, TypeVar
 
 TOP = Path(__file__).resolve().parent.parent.parent
-sys.path.insert(0, str(TOP / 'tests' / 'model'))
+sys.path[:0] = [str(TOP / 'tests' / name) for name in ('model', 'lib')]
 from sector import SYNC, address_of, sector_with, NO_DEFECT  # noqa: E402
 
 PAGE = Path(os.environ.get('PAGE', TOP / 'cdpatch.html'))

@@ -3,6 +3,7 @@
 import assert from 'node:assert/strict';
 import { createHash } from 'node:crypto';
 import { beforeEach, test } from 'node:test';
+import { MESSAGES } from '../lib/messages.mjs';
 import { calls, imageOf, page, parts, writtenBy } from './page.mjs';
 
 const { checkWork, saveWork } = await page('save/patch_job.js');
@@ -116,7 +117,7 @@ test('the file is asked for before the script is read, and is not kept if the sc
     globalThis.window.showSaveFilePicker = async () => { asked.push('file'); return chosen; };
     const saving = saveWork(app, work({ script: 'cdpatch 1\nset\n' }), 'out.bin', '', watch);
     assert.deepEqual(asked, ['file']);
-    await assert.rejects(saving, { message: /wrong number of words/ });
+    await assert.rejects(saving, { message: new RegExp(MESSAGES.word_count) });
     assert.deepEqual([chosen.state, chosen.removed], ['none', true]);
 });
 

@@ -2,6 +2,7 @@
 
 import assert from 'node:assert/strict';
 import { test } from 'node:test';
+import { MESSAGES } from '../lib/messages.mjs';
 import { calls, page } from './page.mjs';
 
 const { ScriptLines } = await page('app/script_lines.js');
@@ -14,14 +15,14 @@ const words = lines => lines.lines.map((_, i) => lines.wordsAt(i));
 
 test('each line has the fault that the program would name if it were the first', () => {
     const lines = linesOf('# a\ncdpatch 1\nset 7 8 4\nset 7 2048 41\nSET 1 2 41\nrebuild\nfill 0 0 0 00\naddress 0 00:02:00\nset 1 2 41');
-    assert.deepEqual(words(lines), ['', '', 'bad hex', 'offset over 2047', 'unknown verb', 'wrong number of words', 'bad length',
-        'unknown verb', '']);
+    const { bad_hex: hex, bad_offset: offset, unknown_verb: verb, word_count: count, bad_length: length } = MESSAGES;
+    assert.deepEqual(words(lines), ['', '', hex, offset, verb, count, length, verb, '']);
     assert.deepEqual([lines.faults, lines.patches, lines.head, lines.version], [6, 1, 1, 1]);
 });
 
 test('only the first line is faulty for want of a head line', () => {
     const lines = linesOf('\nset 7 8 41\nrebuild 4');
-    assert.deepEqual(words(lines), ['', 'no cdpatch 1 line', '']);
+    assert.deepEqual(words(lines), ['', MESSAGES.no_head, '']);
     lines.edit(1, 1, ['cdpatch 2', 'set 7 8 41']);
     assert.deepEqual(words(lines), ['', '', '', '']);
     assert.equal(lines.version, 2);
@@ -31,9 +32,9 @@ test('an edit reads its own lines anew, and all lines if the head line changes',
     const lines = linesOf('cdpatch 2\naddress 0 00:02:00\nrebuild 1\n');
     assert.equal(lines.faults, 0);
     lines.edit(0, 1, ['cdpatch 1']);
-    assert.deepEqual(words(lines), ['', 'unknown verb', '', '']);
+    assert.deepEqual(words(lines), ['', MESSAGES.unknown_verb, '', '']);
     lines.edit(2, 1, ['rebuild x', 'rebuild 5']);
-    assert.deepEqual(words(lines), ['', 'unknown verb', 'bad number', '', '']);
+    assert.deepEqual(words(lines), ['', MESSAGES.unknown_verb, MESSAGES.bad_number, '', '']);
     lines.edit(1, 2, []);
     assert.deepEqual([lines.text(), lines.faults, lines.patches], ['cdpatch 1\nrebuild 5\n', 0, 1]);
 });

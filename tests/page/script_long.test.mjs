@@ -2,6 +2,7 @@
 
 import assert from 'node:assert/strict';
 import { test } from 'node:test';
+import { MESSAGES } from '../lib/messages.mjs';
 import { calls, page } from './page.mjs';
 
 const { ScriptLines } = await page('app/script_lines.js');
@@ -40,7 +41,7 @@ test('the words of a fault are made once, however many lines have it', () => {
     calls.faultLine = (number, fault) => { made += 1; return faultLine(number, fault); };
     try {
         const words = lines.lines.map((_, i) => lines.wordsAt(i));
-        assert.deepEqual([words[0], words[1], words[999], words[1001]], ['', 'unknown verb', 'unknown verb', '']);
+        assert.deepEqual([words[0], words[1], words[999], words[1001]], ['', MESSAGES.unknown_verb, MESSAGES.unknown_verb, '']);
         assert.equal(words[2], words[1000]);
         assert.notEqual(words[2], '');
     } finally {

@@ -5,6 +5,7 @@ from pathlib import Path
 
 import common
 import discs
+from messages import MESSAGES
 from pages import BUTTON, GATE, PICKER, PageTest, applied
 from selenium.webdriver.common.keys import Keys
 
@@ -139,9 +140,10 @@ class Script(PageTest):
         files = discs.written(game=discs.game(), faulty=script)
         self.open_image(files['game'])
         self.open_script(files['faulty'])
-        self.assertEqual([row.split('|')[2] for row in self.rows()], ['', 'bad hex', 'offset over 2047', 'unknown verb', ''])
+        faults = [MESSAGES[name] for name in ('bad_hex', 'bad_offset', 'unknown_verb')]
+        self.assertEqual([row.split('|')[2] for row in self.rows()], ['', *faults, ''])
         _, text = common.run_program('check', files['game'], files['faulty'])
-        self.assertIn('bad hex', text)
+        self.assertIn(faults[0], text)
         self.assertIn('An odd number of digits: 3. Two digits make one byte.', self.browser.text('.editor'))
         self.assertIn('3 lines have a fault', self.browser.text('#panel-script .side'))
         self.assertIn('The lines are 2, 3 and 4.', self.browser.text('#panel-script .side'))

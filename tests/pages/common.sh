@@ -39,7 +39,7 @@ same() {
 enter() {
     mkdir "$scratch/$1"
     cd "$scratch/$1" || exit 1
-    cp "$top/crates/cd_vectors/data/cdrkit-8.bin" disc.bin
+    cp "$top/crates/cd_low_tests/data/cdrkit-8.bin" disc.bin
     ln -s "$top/crates" crates
     ln -s "$program" cdpatch
 }

@@ -163,14 +163,14 @@ if ! missing make make 'the pages of the tarball'; then
     cd "$scratch/tarball-readme" || exit 1
     made='../sources-TRANSLATE/Game (Track 1).bin'
     [ ! -e "$made" ] || judge 'the patch of the README is right for a disc of genisoimage' cdpatch check "$made" changes > log
-    cdpatch check "$top/crates/cd_vectors/data/cdrkit-8.bin" changes > log
+    cdpatch check "$top/crates/cd_low_tests/data/cdrkit-8.bin" changes > log
     judge 'and refused on a short image' test "$(head -n 1 log)" = 'line 2: refused: no block 16'
     cdpatch check new.bin changes > log
     judge 'and where it was applied' test "$(head -n 1 log)" = 'line 2: refused: old bytes differ at block 16 offset 1395'
     PATH=$path
     # Its pages name no command and no file that is only in the sources.
     cd "$installed/share/doc/cdpatch" || exit 1
-    grep -nE 'crates/cd_vectors/data|make (check|test|dist|quick)|^ *make( |$)|sources -->' README.md docs/{SCRIPTS,TRANSLATE,REPAIR,INSTALL}.md > only
+    grep -nE 'crates/cd_low_tests/data|make (check|test|dist|quick)|^ *make( |$)|sources -->' README.md docs/{SCRIPTS,TRANSLATE,REPAIR,INSTALL}.md > only
     judge "the installed pages have only what works there: $(head -n 1 only)" test ! -s only
     rm only
     while IFS=: read -r page link <&3; do

@@ -62,30 +62,29 @@ for ((n = 0; n < 8; n++)); do tail -c +$((2352 * n + 17)) disc.bin | head -c 233
 cdpatch audit short_sectors > log
 judge 'sectors of 2336 bytes: none is of Mode 1' grep -q ' mode1 0 ' log
 
-head='no cdpatch 1 line'
-produces "script line 1: $head" 2 cdpatch check disc.bin disc.bin
-produces "script line 1: $head" 2 cdpatch check disc.bin byte_order_mark
-produces "script line 1: $head" 2 cdpatch check disc.bin carriage_returns
-produces "script line 1: $head" 2 cdpatch check disc.bin utf_16
+produces "script line 1: $no_head" 2 cdpatch check disc.bin disc.bin
+produces "script line 1: $no_head" 2 cdpatch check disc.bin byte_order_mark
+produces "script line 1: $no_head" 2 cdpatch check disc.bin carriage_returns
+produces "script line 1: $no_head" 2 cdpatch check disc.bin utf_16
 for line in 'cdpatch 9' 'CDPATCH 1' 'cdpatch 1.0' '// comment'; do
     echo "$line" > wrong
-    produces "script line 1: $head" 2 cdpatch check disc.bin wrong
+    produces "script line 1: $no_head" 2 cdpatch check disc.bin wrong
 done
-decides 'script line 3: unknown verb' 2 'SET 1 0 41'
-decides 'script line 3: unknown verb' 2 'address 1 00:02:00'
-decides 'script line 3: wrong number of words' 2 'set 1 0 41 42 43'
-decides 'script line 3: wrong number of words' 2 'set 1 0 41 # a comment'
-decides 'script line 3: wrong number of words' 2 'set 1 0 41 WAS 00'
-decides 'script line 3: bad number' 2 'set 0x1A 0 41'
-decides 'script line 3: bad number' 2 'set 1A 0 41'
-decides 'script line 3: bad hex' 2 'set 1 0 0x41'
-decides 'script line 3: bad hex' 2 'set 1 0 "HELLO"'
-decides 'script line 3: offset over 2047' 2 'set 1 2352 41'
-decides 'script line 3: bad length' 2 'set 1 0 41 was 4142'
-decides 'script line 3: bad length' 2 "fill 1 0 $(($(limit 'bytes of a patch') + 1)) 00"
+decides "script line 3: $unknown_verb" 2 'SET 1 0 41'
+decides "script line 3: $unknown_verb" 2 'address 1 00:02:00'
+decides "script line 3: $word_count" 2 'set 1 0 41 42 43'
+decides "script line 3: $word_count" 2 'set 1 0 41 # a comment'
+decides "script line 3: $word_count" 2 'set 1 0 41 WAS 00'
+decides "script line 3: $bad_number" 2 'set 0x1A 0 41'
+decides "script line 3: $bad_number" 2 'set 1A 0 41'
+decides "script line 3: $bad_hex" 2 'set 1 0 0x41'
+decides "script line 3: $bad_hex" 2 'set 1 0 "HELLO"'
+decides "script line 3: $bad_offset" 2 'set 1 2352 41'
+decides "script line 3: $bad_length" 2 'set 1 0 41 was 4142'
+decides "script line 3: $bad_length" 2 "fill 1 0 $(($(limit 'bytes of a patch') + 1)) 00"
 patch 'address 1 00:60:00'
 sed -i '1s/1/2/' patch
-produces 'script line 3: bad address' 2 cdpatch check disc.bin patch
+produces "script line 3: $bad_address" 2 cdpatch check disc.bin patch
 patches=$(limit 'patches of a script')
 { echo 'cdpatch 1'; yes 'rebuild 0' | head -n $((patches + 1)); } > many
 produces "script line $((patches + 2)): more than $patches patches" 2 cdpatch check disc.bin many
@@ -93,7 +92,7 @@ produces "script line $((patches + 2)): more than $patches patches" 2 cdpatch ch
 produces "$no_image" 2 cdpatch list nothing
 produces "$no_script" 2 cdpatch check disc.bin nothing
 produces "$no_script" 2 cdpatch check disc.bin "$PWD"
-truncate -s 67108865 longest
+truncate -s $(($(limit 'bytes of a script') + 1)) longest
 produces "$long_script" 2 cdpatch check disc.bin longest
 produces "$no_output" 2 cdpatch apply disc.bin script disc.bin
 produces "$no_output" 2 cdpatch apply disc.bin script nowhere/out

@@ -11,7 +11,7 @@ mkdir directory
 printf 'cdpatch 1\nset 1 0 4\n' > wrong
 : > empty
 { echo 'cdpatch 1'; yes 'rebuild 0' | head -n "$(($(limit 'patches of a script') + 1))"; } > many
-truncate -s 67108865 long
+truncate -s $(($(limit 'bytes of a script') + 1)) long
 
 # says LINE WORD..: with these arguments the program prints just this line, with status 2, and makes no file.
 says() {
@@ -30,10 +30,10 @@ says "$no_script" apply missing directory out
 says "$no_script" apply missing - out
 says "$long_script" check image long
 says "$long_script" apply missing long out
-says 'script line 2: bad hex' check image wrong
-says 'script line 2: bad hex' apply missing wrong out
-says 'script line 1: no cdpatch 1 line' check image empty
-says 'script line 1: no cdpatch 1 line' apply missing empty out
+says "script line 2: $bad_hex" check image wrong
+says "script line 2: $bad_hex" apply missing wrong out
+says "script line 1: $no_head" check image empty
+says "script line 1: $no_head" apply missing empty out
 patches=$(limit 'patches of a script')
 says "script line $((patches + 2)): more than $patches patches" check image many
 says "script line $((patches + 2)): more than $patches patches" apply missing many out

@@ -118,7 +118,7 @@ commands() {
 }
 
 { cat large.script; echo 'set 0 0 4'; } > faulty
-echo 'script line 150: bad hex' > faulty.log
+echo "script line 150: $bad_hex" > faulty.log
 commands falling
 
 # A large script. Its text of blank lines finds no memory to be read into, or its patches none to be kept.

@@ -182,16 +182,16 @@ fi
 
 printf 'cdpatch 1\nset 1 0 4\n' > wrong
 run apply image wrong out
-judge 'a fault of the script' ended_without_output 2 'script line 2: bad hex\n'
+judge 'a fault of the script' ended_without_output 2 "script line 2: $bad_hex\n"
 run apply missing wrong out
-judge 'a fault of the script comes before the image' ended_without_output 2 'script line 2: bad hex\n'
+judge 'a fault of the script comes before the image' ended_without_output 2 "script line 2: $bad_hex\n"
 
 patches=$(limit 'patches of a script')
 { echo 'cdpatch 1'; yes 'rebuild 0' | head -n $((patches + 1)); } > many
 run apply image many out
 judge 'a patch too many' ended_without_output 2 "script line $((patches + 2)): more than $patches patches\n"
 
-truncate -s 67108865 long
+truncate -s $(($(limit 'bytes of a script') + 1)) long
 run apply image long out
 judge 'a script that is too long' ended_without_output 2 "$long_script\n"
 rm long

@@ -12,9 +12,11 @@ import errno
 import functools
 import os
 import random
-import re
 import subprocess
 import sys
+
+sys.path.append(os.path.join(os.path.dirname(os.path.abspath(__file__)), "..", "lib"))
+import messages  # noqa: E402
 
 SECTOR = 2352
 SIZES = [1, 2, 3, 4, 5, 8, 27, 28, 29, 41, 56, 57, 84, 120, 233, 400]
@@ -22,8 +24,7 @@ TAILS = [0, 1, 2351]
 BLANK = range(40, 50)
 ERRORS = [errno.EIO, errno.ENOSPC, errno.EINTR, errno.EAGAIN, errno.EACCES, errno.EPERM, errno.EINVAL, errno.ENXIO, errno.EDQUOT,
           errno.EOPNOTSUPP, errno.ENOSYS, errno.ETIMEDOUT]
-with open(os.path.join(os.path.dirname(__file__), "..", "lib", "messages.sh"), encoding="ascii") as messages:
-    MESSAGES = {name: text.encode() + b"\n" for name, text in re.findall(r"^(\w+)='(.*)'$", messages.read(), re.M)}
+MESSAGES = {name: text.encode() + b"\n" for name, text in messages.MESSAGES.items()}
 LINES = {
     ("open", "script"): MESSAGES["no_script"],
     ("read", "script"): MESSAGES["no_script"],

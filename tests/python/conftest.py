@@ -1,4 +1,4 @@
-"""What the tests of the Python package share: the model of tests/model, and that random cases are always the same ones. For a wrong
+"""What the tests of the Python package share: the model of tests/model, the messages of tests/lib, and that random cases are always the same ones. For a wrong
 package the first case that refuses it is enough (`--hypothesis-profile=first`)."""
 
 import sys
@@ -7,7 +7,7 @@ from pathlib import Path
 from hypothesis import Phase, settings
 
 TESTS = Path(__file__).resolve().parent.parent
-sys.path[:0] = [str(TESTS / 'model'), str(TESTS / 'library'), str(TESTS / 'python')]
+sys.path[:0] = [str(TESTS / name) for name in ('model', 'library', 'python', 'lib')]
 settings.register_profile('same', max_examples=40, deadline=None, derandomize=True, database=None)
 settings.register_profile('first', settings.get_profile('same'), phases=[Phase.explicit, Phase.generate], report_multiple_bugs=False)
 settings.load_profile('same')

@@ -9,6 +9,7 @@ from cases import some_case, wanted
 from forms import in_each_form
 from hypothesis import given
 from hypothesis import strategies as st
+from messages import MESSAGES
 
 SECTOR = cdpatch.encode(cdpatch.address(0), bytes(2048))
 SCRIPT = b'cdpatch 1\nset 0 0 41\n'
@@ -107,7 +108,7 @@ def test_the_longest_log_is_whole():
 
 
 def test_the_message_of_a_failure_is_one_line():
-    for script, text in [(b'', 'script line 1: no cdpatch 1 line'), (b'cdpatch 1\nput\n', 'script line 2: unknown verb')]:
+    for script, text in [(b'', f'script line 1: {MESSAGES["no_head"]}'), (b'cdpatch 1\nput\n', f'script line 2: {MESSAGES["unknown_verb"]}')]:
         for call in (cdpatch.check, cdpatch.apply):
             with pytest.raises(cdpatch.Failed) as failed:
                 call(SECTOR, script)

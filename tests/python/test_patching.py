@@ -10,8 +10,10 @@ import threading
 import cdpatch
 import pytest
 from cases import some_case, wanted
+from cdpatch._numbers import MOST_SCRIPT_BYTES
 from hypothesis import given
 from hypothesis import strategies as st
+from messages import MESSAGES
 
 SECTOR = cdpatch.encode(cdpatch.address(0), bytes(2048))
 IMAGE = SECTOR * 9 + b'tail'
@@ -154,8 +156,8 @@ def test_blocks_before_and_after_the_image_are_refused():
 
 
 @pytest.mark.parametrize('script, text', [
-    (b'', 'script line 1: no cdpatch 1 line'), (b'# none\n\n', 'script line 3: no cdpatch 1 line'),
-    (b'# none', 'script line 2: no cdpatch 1 line'), (b'cdpatch 1\nset 0 0 4\n', 'script line 2: bad hex')])
+    (b'', f'script line 1: {MESSAGES["no_head"]}'), (b'# none\n\n', f'script line 3: {MESSAGES["no_head"]}'),
+    (b'# none', f'script line 2: {MESSAGES["no_head"]}'), (b'cdpatch 1\nset 0 0 4\n', f'script line 2: {MESSAGES["bad_hex"]}')])
 def test_an_invalid_script_is_refused_before_a_byte_is_read(script, text):
     nothing = Answering(b'', 0, raising(AssertionError('read or written')))
     with pytest.raises(cdpatch.Failed) as failed:
@@ -164,11 +166,11 @@ def test_an_invalid_script_is_refused_before_a_byte_is_read(script, text):
 
 
 def test_a_script_that_is_too_long_is_refused():
-    script = b'#' * 67108865
+    script = b'#' * (MOST_SCRIPT_BYTES + 1)
     for call in (cdpatch.check, cdpatch.apply, patched):
-        with pytest.raises(cdpatch.Failed, match='^cdpatch: the script is longer than 67108864 bytes$'):
+        with pytest.raises(cdpatch.Failed, match=f'^cdpatch: the script is longer than {MOST_SCRIPT_BYTES} bytes$'):
             call(b'', script)
-    with pytest.raises(cdpatch.Failed, match='line 2: no cdpatch 1 line'):
+    with pytest.raises(cdpatch.Failed, match=f'line 2: {MESSAGES["no_head"]}'):
         patched(b'', script[1:])
 
 

@@ -118,7 +118,7 @@ def checked(crate, texts, flags, kept):
 
 
 def must_fail(crate, path, flags, kept=None):
-    log(f"alone {os.path.basename(path)}")
+    log(f"alone {os.path.basename(path)}{' over what was kept' * bool(kept)}")
     texts, why = read_edit(path, crate.folder)
     done = checked(crate, texts, flags, None)
     return bool(done.returncode), f"{os.path.basename(path)} {'refused' if done.returncode else 'NOT REFUSED'}"
@@ -136,7 +136,7 @@ tries() {
     status=$?
 }
 last() { [ "$(tail -n 1 log)" = "$1" ]; }
-alone() { grep -qxF "alone $1.edit" calls; }
+alone() { grep -qxF "alone $1.edit over what was kept" calls; }
 
 edit lib.two.one_more '    1 + 1' '    1 + 2'
 edit lib.three.two_more 'two() + 1' 'two() + 2'
@@ -156,6 +156,7 @@ edit lib.three.by_number 'two() + 1' '2 + 1'
 tries
 judge 'a right body is not refused' last '4 passed, 1 failed'
 judge 'by itself' alone lib.three.by_number
+judge 'and after that from nothing' grep -qxF 'alone lib.three.by_number.edit' calls
 judge 'and ends badly' test "$status" = 1
 judge 'and is named' grep -qF 'FAILED: lib.three.by_number.edit NOT REFUSED' log
 rm crates/sums/must-fail/lib.three.by_number.edit
@@ -205,7 +206,7 @@ judge 'what can not be applied has failed' last '4 passed, 2 failed'
 rm crates/sums/must-fail/{another,lib.two.no_text.edit}
 
 UNSOUND=1 tries
-judge 'if the crate as it is is refused, each is tried by itself' test "$(grep -c ^alone calls)" = 4
+judge 'if the crate as it is is refused, each is tried by itself' test "$(grep -c '^alone .*edit$' calls)" = 4
 
 rm -r crates/low/out
 tries

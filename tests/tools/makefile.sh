@@ -99,7 +99,7 @@ if ! missing make make 'what the Makefile does'; then
         'made: cdpatch library/libcdpatch.a library/libcdpatch.so.1' \
         "not made: library/cdpatch.wasm, which wants wasm-opt (Debian's package binaryen)" \
         "not made: cdscript and cdpatch.html, which want library/cdpatch.wasm and esbuild (Debian's package esbuild)" \
-        'try:  ./cdpatch audit crates/cd_vectors/data/cdrkit-8.bin' 'then: make check, sudo make install'
+        'try:  ./cdpatch audit crates/cd_low_tests/data/cdrkit-8.bin' 'then: make check, sudo make install'
     makes wasm
     judge 'make wasm without wasm-opt' test "$status" = 2 -a ! -s called
     judge 'names the package too' grep -q 'package binaryen' log
@@ -108,7 +108,7 @@ if ! missing make make 'what the Makefile does'; then
     judge 'and its package is named' ended \
         'made: cdpatch library/libcdpatch.a library/libcdpatch.so.1 library/cdpatch.wasm' \
         "not made: cdscript and cdpatch.html, which want esbuild (Debian's package esbuild)" \
-        'try:  ./cdpatch audit crates/cd_vectors/data/cdrkit-8.bin' 'then: make check, sudo make install'
+        'try:  ./cdpatch audit crates/cd_low_tests/data/cdrkit-8.bin' 'then: make check, sudo make install'
     MODULES=wasm makes web
     judge 'make web without esbuild' test "$status" = 2
     judge 'names the package too' grep -q 'package esbuild' log
@@ -117,7 +117,7 @@ if ! missing make make 'what the Makefile does'; then
         'web.sh: library .'
     judge 'which are then made too' ended \
         'made: cdpatch library/libcdpatch.a library/libcdpatch.so.1 library/cdpatch.wasm cdscript cdpatch.html' \
-        'try:  ./cdpatch audit crates/cd_vectors/data/cdrkit-8.bin' '      or open cdpatch.html in a browser' 'then: make check, sudo make install'
+        'try:  ./cdpatch audit crates/cd_low_tests/data/cdrkit-8.bin' '      or open cdpatch.html in a browser' 'then: make check, sudo make install'
     MODULES=wasm DOORS=web makes SIMPLE=1
     judge 'with SIMPLE they come after the libraries' called 'rt in cdpatch: run' "${libraries[@]:0:4}" 'wasm.sh: library' \
         'library.sh: library' 'web.sh: library .'

@@ -253,7 +253,10 @@ test_pairs() {
     wanted 'the pairs of bytes of other languages are what three decoders make of them' made_pairs
 }
 
-typed_tools() { mypy --strict --cache-dir=types "$tree"/tools/{contracts,frequencies,header_numbers,options,pack,pages,pairs}.py "$tests/wrong/bodies.py" > log || { cat log; false; }; }
+typed_tools() {
+    mypy --strict --cache-dir=types "$tree"/tools/{contracts,frequencies,header_{numbers,pages},options,pack,pages,pairs}.py \
+        "$tests/wrong/bodies.py" > log || { cat log; false; }
+}
 
 # lint DIRECTORY WORD..: runs eslint there. Debian's eslint finds its parts by NODE_PATH, if node is another than Debian's.
 lint() { (cd "$1" && NODE_PATH=/usr/share/nodejs eslint -f unix --rulesdir "$tree/tools/eslint" --rule 'import-cycle: error' "${@:2}"); }
@@ -268,10 +271,16 @@ is_refused_form() {
     ! lint other "$2" > log && grep -qF "$1" log
 }
 
+# of_header NAME: the number CDPATCH_NAME of the header.
+of_header() { sed -nE "s/.*\bCDPATCH_$1 = ([0-9]+).*/\1/p" "$top/include/cdpatch.h"; }
+
 # lacks_numbers WEB: whether no code there has a number of cdpatch.h that nothing else is likely to be.
 lacks_numbers() {
-    local number rule='error'
-    for number in 2352 67108864 449849 449850 999999999 2352000000; do
+    local number rule='error' sector base
+    sector=$(of_header SECTOR_SIZE)
+    base=$(of_header LAST_BASE)
+    for number in "$sector" "$(of_header MOST_SCRIPT_BYTES)" "$base" $((base + 1)) "$(of_header LAST_BLOCK)" \
+        $(($(of_header MOST_SECTORS) * sector)); do
         rule+=",\"Literal[value=$number]\""
     done
     (cd "$1" && NODE_PATH=/usr/share/nodejs eslint -f unix --no-eslintrc --parser-options=ecmaVersion:2020,sourceType:module \

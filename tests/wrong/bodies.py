@@ -143,25 +143,33 @@ def tried_at_once(crate: Any, edits: list[Edit], kept: str) -> dict[str, str]:
     return refused
 
 
+def tried_alone(crate: Any, edit: Edit, kept: str | None) -> tuple[bool, str]:
+    """Whether a wrong body is refused by itself, and what to print of it. What was not refused over what was kept is tried from nothing."""
+    refused, text = rt.must_fail(crate, edit.path, FLAGS, kept)
+    if not refused and kept:
+        refused, text = rt.must_fail(crate, edit.path, FLAGS)
+    return refused, f'{"alone" if refused else "FAILED:"} {text}'
+
+
 def try_crate(crate: Any) -> tuple[int, int]:
     """How many wrong bodies of a crate were refused, and how many not."""
     edits, began = edits_of(crate), time.monotonic()
-    lines, refused = [f'{crate.name}: {it.name}: {it.why}' for it in edits if it.why], 0
+    lines, refused = [f'FAILED: {crate.name}: {it.name}: {it.why}' for it in edits if it.why], 0
     fit = [it for it in edits if not it.why]
     with tempfile.TemporaryDirectory(prefix='wrong-bodies-') as kept:
         goals = tried_at_once(crate, fit, kept)
+        over: str | None = kept
         # Over what these checks have kept the crate as it is has to be proved: else they show nothing.
         if fit and rt.checked(crate, {}, FLAGS, kept).returncode:
-            goals = {}
-            lines.append(f'{crate.name} is not proved over what was kept, so each wrong body is tried by itself')
+            goals, over = {}, None
+            lines.append(f'{crate.name} is not proved over what was kept, so each wrong body is tried from nothing')
         for edit in fit:
             if edit.name in goals:
-                refused += 1
-                lines.append(f'refused {crate.name}: {edit.name}: {goals[edit.name][:120]}')
+                is_refused, text = True, f'refused {crate.name}: {edit.name}: {goals[edit.name][:120]}'
             else:
-                is_refused, text = rt.must_fail(crate, edit.path, FLAGS)
-                refused += is_refused
-                lines.append(('alone ' if is_refused else 'FAILED: ') + text)
+                is_refused, text = tried_alone(crate, edit, over)
+            refused += is_refused
+            lines.append(text)
     lines.append(f'{crate.name}: {len(goals)} in common checks, {len(fit) - len(goals)} alone, in {time.monotonic() - began:.0f} s')
     print('\n'.join(lines), flush=True)
     return refused, len(edits) - refused

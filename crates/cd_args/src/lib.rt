@@ -17,7 +17,7 @@
 //! and makes the help. The parser takes memory; if there is none, the line is
 //! `cdpatch: no memory`.
 //!
-//! Tests: `crates/cd_program_tests`.
+//! Tests: `crates/cd_image_tests`.
 #![tactic(auto)]
 
 mod cli;

@@ -25,7 +25,7 @@
 //! [`times`], [`alpha_power`], [`syndromes`], [`pair_from`], [`parity_pair`] and [`row_sums`] are
 //! for other users of the codes: cdpatch calls them only in tests and benchmarks.
 //!
-//! Tests: `crates/cd_low_tests/src/tests/codes`.
+//! Tests: `crates/cd_low_tests/src/tests/codes.rt`.
 #![tactic(auto)]
 
 mod columns;

@@ -14,7 +14,7 @@
 //! (ECMA-130, 14). [`carry_user`] and [`carry_header`] keep the EDC's error.
 //! All four keep the 276 syndromes as they were. No call takes memory.
 //!
-//! Tests: `crates/cd_low_tests/src/tests/changes/`.
+//! Tests: `crates/cd_low_tests/src/tests/changes.rt`.
 #![tactic(auto)]
 
 mod byte_by_byte;

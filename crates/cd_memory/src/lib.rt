@@ -24,8 +24,7 @@
 //! that a caller lends for a text: a room. They take none. What the caller finds there afterwards
 //! stands in `specs/Rooms.antt`: its front is the text, and the rest is as it was.
 //!
-//! Tests: `crates/cd_program_tests/src/tests/in_memory.rt`; of [`list_image`] and [`audit_image`]
-//! `examples.rt` there, and `tests/library` over the calls of C.
+//! Tests: `crates/cd_example_tests`, and `tests/library` over the calls of C.
 #![tactic(auto)]
 
 mod file;

@@ -20,7 +20,7 @@
 //! streams. A script has at most 67,108,864 bytes, and is read whole; images (ECMA-130, 14) are
 //! not.
 //!
-//! Tests: `crates/cd_program_tests`.
+//! Tests: `crates/cd_image_tests`.
 #![tactic(auto)]
 
 mod commands;

@@ -31,7 +31,7 @@
 //! A reader that has no memory, or one line in hand at a time, cuts a text by [`first_line`] and reads
 //! each line by [`read_line`]; the law [`reads_by_line`] says that this gives the same.
 //!
-//! Tests: `crates/cd_low_tests/src/tests/scripts`.
+//! Tests: `crates/cd_low_tests/src/tests/scripts.rt`.
 #![tactic(auto)]
 
 mod address;

@@ -23,7 +23,7 @@
 //! ECMA-130. Blocks have an address up to [`MAX_BLOCK`], and an image has at most [`MAX_SECTORS`] whole
 //! sectors, then a tail that is shorter. No call takes memory.
 //!
-//! Tests: `crates/cd_low_tests/src/tests/sectors`.
+//! Tests: `crates/cd_low_tests/src/tests/sectors.rt`.
 #![tactic(auto)]
 
 mod addresses;

@@ -3,6 +3,7 @@
 
 import { ByteList } from '../../core/bytes.js';
 import { FAULT, Fault, failedBy } from '../../core/faults.js';
+import { MOST_SCRIPT_BYTES } from '../../core/module/records.js';
 import { Sha1, bytesOfBase64 } from '../app/index.js';
 import { hexOf } from '../ui/index.js';
 import { headFault, isImageName, takenHead } from './patcher_head.js';
@@ -16,7 +17,6 @@ import { headFault, isImageName, takenHead } from './patcher_head.js';
  *     image: { size: number, sha1: string }, result: string, script: string }} PatcherData
  */
 
-const LARGEST_SCRIPT = 1 << 26;
 const LARGEST_HEAD = 1 << 20;
 /** Bytes that are inflated at a time: what they become has room, however they were made. */
 const INFLATE_STEP = 1 << 12;
@@ -93,7 +93,7 @@ export async function patcherText(calls, { script, ...head }) {
     const fault = headFault(head) || (isImageName(head.name) ? '' : 'the name of the image is none of an image');
     if (fault) throw patcherFault(fault);
     const stream = new Blob([`${JSON.stringify(head)}\n`, script]).stream().pipeThrough(new CompressionStream('deflate'));
-    const packed = await streamBytes(stream, LARGEST_SCRIPT + LARGEST_HEAD);
+    const packed = await streamBytes(stream, MOST_SCRIPT_BYTES + LARGEST_HEAD);
     return `cdpatch-data 1 ${packed.length} ${checksum(calls, packed)}\n${base64Of(packed)}\n`;
 }
 
@@ -111,7 +111,7 @@ export async function readPatcherText(calls, text) {
     if (packed.length !== Number(found[1])) throw patcherFault('the data are cut');
     if (checksum(calls, packed) !== found[2]) throw patcherFault('the data were changed on their way: their checksum is another one');
     const inflating = inSmallPieces(packed).pipeThrough(new DecompressionStream('deflate'));
-    const bytes = await streamBytes(inflating, LARGEST_SCRIPT + LARGEST_HEAD).catch(error => {
+    const bytes = await streamBytes(inflating, MOST_SCRIPT_BYTES + LARGEST_HEAD).catch(error => {
         throw failedBy(error, FAULT.PATCHER) ? error : patcherFault('the data cannot be unpacked');
     });
     const end = bytes.indexOf(10);

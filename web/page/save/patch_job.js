@@ -1,13 +1,15 @@
 // What is done with a script and an image: checking, and saving the patched image.
 
 import { Fault, cancelled } from '../../core/faults.js';
+import { MOST_SCRIPT_BYTES } from '../../core/module/records.js';
 import { baseFault } from '../../core/script/base_said.js';
 import { NEAR_WRITTEN } from '../../core/script/patch_run.js';
 import { applyPatches, passPatched } from '../../core/script/patches.js';
 import { Refusal, readScript } from '../../core/script/script.js';
-import { imageTooLong } from '../../core/sectors/sector.js';
+import { MOST_SECTORS, imageTooLong } from '../../core/sectors/sector.js';
 import { RunningHash, sha1Of } from '../app/index.js';
 import { fileOf, fileReader } from '../open/index.js';
+import { counted } from '../ui/index.js';
 import { chosenOther } from './chosen_file.js';
 import { canStream, download } from './files_out.js';
 import { workRefused } from './refused.js';
@@ -39,13 +41,13 @@ export async function scriptFor({ calls }, script, base) {
         if (fault === '') return read;
         throw workRefused(`${fault[0].toUpperCase()}${fault.slice(1)}.`, 'Set the base that the script says, or take that line out.');
     }
-    if (read.tooLong) throw workRefused('The script is too long.', 'A script has at most 67,108,864 bytes. Cut it into two.');
+    if (read.tooLong) throw workRefused('The script is too long.', `A script has at most ${counted(MOST_SCRIPT_BYTES)} bytes. Cut it into two.`);
     throw workRefused(new TextDecoder().decode(read.text).trimEnd(), 'Nothing was done. Mend the line first.');
 }
 
 /** @param {Reader} reader of an image */
 export function assertNotTooLong({ size }) {
-    if (imageTooLong(size)) throw workRefused('The image is too long.', 'An image has at most 1,000,000 sectors.');
+    if (imageTooLong(size)) throw workRefused('The image is too long.', `An image has at most ${counted(MOST_SECTORS)} sectors.`);
 }
 
 /**

@@ -3,6 +3,7 @@
 ghost use Rattle.std.specs.Prelude.{◌≤◌};
 ghost use Rattle.cd_stream.specs.Stream.{CanCountFailure};
 
+use super::images::{UNTOUCHED, Written, written_in};
 use cd_image::{
     AuditTally, FailAfter, Fault, ListTally, Short, Sink, SliceSink, SliceSource, Source, Tally,
     apply, audit, check, list,
@@ -10,7 +11,6 @@ use cd_image::{
 use cd_report::MAX_BASE;
 use cd_script::Script;
 use cd_stream::fill_buffer;
-use cd_test_images::{UNTOUCHED, Written, written_in};
 use std::alloc::{AllocError, Global};
 use std::process::Abort;
 

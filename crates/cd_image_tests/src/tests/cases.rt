@@ -3,10 +3,10 @@
 ghost use Rattle.std.specs.Prelude.{◌≤◌};
 
 use super::calls::{Call, by_parts, expect_done};
+use super::images::{Sample, cut_image, joined, script_of};
 use cd_image::Tally;
 use cd_report::MAX_BASE;
 use cd_sector::{SECTOR_SIZE, Sector};
-use cd_test_images::{Sample, cut_image, joined, script_of};
 use std::alloc::Global;
 use std::process::Abort;
 use std::test::Fail;

@@ -6,12 +6,12 @@ use super::calls::{
     ALL, Answer, Call, Ending, Got, Limits, apply_within, by_parts, check_within, expect_done,
     expect_ending, passing,
 };
+use super::images::Sample::{self, Filled, Zeros};
+use super::images::{Full, Written, image_of, script_of};
 use Count::{All, AtMost, Just};
 use cd_image::Fault::{self, Log, Read, Write};
 use cd_image::{Sink, SliceSource, Tally, ToWrite, apply, check};
 use cd_script::Script;
-use cd_test_images::Sample::{self, Filled, Zeros};
-use cd_test_images::{Full, Written, image_of, script_of};
 use std::alloc::{AllocError, Global};
 use std::io;
 use std::process::Abort;

@@ -1,8 +1,8 @@
 //! The largest images, and one without an end. A pass over more than 60,000,000 bytes is a test of its own.
 
 use super::calls::{Answer, NO_LIMIT, Report, check_of, expect_reported, report_of, report_with};
+use super::images::{repeated, script_of};
 use cd_image::{Fault, FromRead, ListTally, Source, Tally, ZeroSource};
-use cd_test_images::{repeated, script_of};
 use std::alloc::Global;
 use std::io;
 use std::process::Abort;

@@ -1,10 +1,10 @@
 //! Sectors of noise with a sync field and a mode byte.
 
 use super::cases::{PLAIN, expect_sectors};
+use super::images::Sample::Mode;
+use super::images::{encoded_again, joined, sector_of};
 use super::reports::audits_as;
 use cd_sector::Sector;
-use cd_test_images::Sample::Mode;
-use cd_test_images::{encoded_again, joined, sector_of};
 use std::alloc::AllocError;
 use std::test::Fail;
 

@@ -3,10 +3,10 @@
 ghost use Rattle.std.specs.Prelude.{◌≤◌};
 
 use super::cases::{CARRYING, PLAIN, Row, Way, expect_row, expect_sectors};
+use super::images::Sample::{self, Blank, Damaged, Filled, Mode, Zeros};
+use super::images::{carried, flipped, repeated, sector_of, with_added, with_bytes};
 use super::reports::audits_as;
 use cd_report::MAX_BASE;
-use cd_test_images::Sample::{self, Blank, Damaged, Filled, Mode, Zeros};
-use cd_test_images::{carried, flipped, repeated, sector_of, with_added, with_bytes};
 use std::alloc::Global;
 use std::ops::Range;
 use std::process::Abort;

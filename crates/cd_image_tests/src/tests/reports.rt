@@ -4,10 +4,10 @@ use super::calls::{
     ALL, Answer, Got, Limits, Report, Reported, by_parts, expect_reported, passing, report_within,
 };
 use super::cases::PARTS;
+use super::images::Sample::{self, Blank, Damaged, Mode, Zeros};
+use super::images::{Written, cut_image, flipped, image_of, sector_of};
 use cd_image::Fault;
 use cd_report::MAX_BASE;
-use cd_test_images::Sample::{self, Blank, Damaged, Mode, Zeros};
-use cd_test_images::{Written, cut_image, flipped, image_of, sector_of};
 use std::alloc::AllocError;
 use std::process::Abort;
 

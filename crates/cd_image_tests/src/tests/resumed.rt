@@ -5,10 +5,10 @@ use super::calls::{
     Answer, NO_LIMIT, Report, check_of, expect_reported, patched, report_of, report_with,
 };
 use super::holds;
+use super::images::{Resuming, script_of};
 use cd_image::{AuditTally, FromRead, ListTally, Sink, Source, Tally, ToWrite, apply};
 use cd_script::Script;
 use cd_stream::fill_buffer;
-use cd_test_images::{Resuming, script_of};
 use std::io;
 use std::process::Abort;
 use std::test::Fail;

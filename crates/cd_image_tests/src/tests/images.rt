@@ -1,6 +1,4 @@
-//! What the crates of tests share: sectors and images in short form, scripts and texts, and readers and writers. It promises
-//! nothing.
-#![tactic(auto)]
+//! What the tests share: sectors and images in short form, scripts and texts, and readers and writers. It promises nothing.
 
 mod readers;
 mod samples;

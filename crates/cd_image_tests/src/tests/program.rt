@@ -1,4 +1,5 @@
-//! The program's calls, at concrete sources and sinks. The worked cases of `tests/cases` show what images and scripts come to.
+//! The program's calls, at concrete sources and sinks: arguments (`command_line`), the statuses and the lines of the commands (`commands`,
+//! `streams`), scripts and their files (`script`), and what a host is asked for (`hosts`).
 
 use std::process::Abort;
 

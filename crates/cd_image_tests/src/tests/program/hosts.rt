@@ -7,10 +7,10 @@ use super::commands::{ALL, expect_ended};
 use super::holds;
 use super::messages::{APPLIED, COUNTED_WRITE_FAILED, NO_IMAGE, NO_MEMORY, NO_OUTPUT, NO_SCRIPT};
 use super::streams::Unflushed;
+use crate::tests::images::Sample::Zeros;
+use crate::tests::images::image_of;
 use cd_image::{SliceSink, SliceSource, ToWrite};
 use cd_program::{Host, OpenFault, run_args};
-use cd_test_images::Sample::Zeros;
-use cd_test_images::image_of;
 use std::alloc::{AllocError, Global};
 use std::process::Abort;
 

@@ -1,6 +1,6 @@
 //! Sectors in short form, and images of them.
 
-use crate::sectors::{encoded_at, with_added};
+use super::sectors::{encoded_at, with_added};
 use cd_sector::{Sector, USER_SIZE};
 use std::alloc::{AllocError, Global};
 

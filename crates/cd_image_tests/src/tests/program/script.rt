@@ -3,10 +3,10 @@
 use super::commands::ALL;
 use super::messages::{LONG_SCRIPT, NO_SCRIPT};
 use super::{holds, holds_at};
+use crate::tests::images::{Resuming, repeated};
 use cd_image::{FailAfter, FromRead, Short, Sink, SliceSink, SliceSource, Source, ZeroSource};
 use cd_program::{load_script, read_script};
 use cd_script::MAX_TEXT;
-use cd_test_images::{Resuming, repeated};
 use std::alloc::{AllocError, Global};
 use std::process::Abort;
 

@@ -1,6 +1,12 @@
-//! Encodes the sectors of `cdrkit-8.bin` again from their headers and user data, and prints of each
-//! whether it is byte for byte the sector that independent encoders wrote.
+//! Tests of cd_code (`tests::codes`), cd_sector (`tests::sectors`), cd_delta (`tests::changes`) and cd_script (`tests::scripts`), and of
+//! these and cd_patch the examples of the rustdoc (`tests::examples`) and the laws (`tests::laws`).
+//!
+//! The program is a test too, since a program can read a file and a test can't: it encodes the sectors of `data/cdrkit-8.bin` again from
+//! their headers and user data, and prints of each whether it is byte for byte the sector that independent encoders wrote.
 #![tactic(auto)]
+
+#[cfg(test)]
+mod tests;
 
 use cd_sector::{SECTOR_SIZE, Sector, encode};
 use std::{fs, io};

@@ -5,12 +5,12 @@ use super::messages::{
     APPLIED, APPLIED_READ_FAILED, APPLIED_WRITE_FAILED, COUNTED_WRITE_FAILED, LONG_IMAGE,
     READ_FAILED, WRITE_FAILED,
 };
+use crate::tests::images::Sample::{self, Damaged, Filled, Zeros};
+use crate::tests::images::image_of;
 use cd_args::MAX_BASE;
 use cd_image::{FailAfter, SliceSink, SliceSource, ZeroSource};
 use cd_program::{run_apply, run_audit, run_check, run_list};
 use cd_script::{Script, parse};
-use cd_test_images::Sample::{self, Damaged, Filled, Zeros};
-use cd_test_images::image_of;
 use std::alloc::{AllocError, Global};
 use std::process::Abort;
 use std::test::Fail;
