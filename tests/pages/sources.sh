@@ -24,16 +24,22 @@ judge 'no file of C in the crates' test -z "$(find "$top/crates" -name out -prun
 judge 'no check that lets holes pass' test -z "$(grep -rn --include='run' --include='*.sh' --include=Makefile allow-holes "$top/.ci" "$top/tests" \
     "$top/Makefile" | grep -v sources.sh)"
 
-# The README names each crate, and no page names one that is not there.
+# The README names each crate, and no page and no comment of a crate names one that is not there, or a file that is not.
 named() { grep -ohwE 'cdpatch|cd_[a-z_]*[a-z]' "$@" | sort -u; }
 gone() { named "$@" | comm -13 <(echo cd_bench | sort - all_crates) - | paste -sd ' '; }
 sed -nE 's/^([a-z_]+)( staticlib)?:.*/\1/p' "$top/crates.txt" | sort > all_crates
 named "$top/README.md" | comm -12 - all_crates > got
 same 'the README names each crate' all_crates got
-mapfile -d '' -t texts < <(find "$top" \( -name out -o -name .git \) -prune -o -name '*.md' -print0)
-judge "no page names a crate that is not there: $(gone "${texts[@]}")" test -z "$(gone "${texts[@]}")"
+mapfile -d '' -t texts < <(find "$top" \( -name out -o -name .git \) -prune -o \( -name '*.md' -o -name '*.rt' \) -print0)
+judge "no page and no crate names a crate that is not there: $(gone "${texts[@]}")" test -z "$(gone "${texts[@]}")"
 echo 'cd_code and cd_gone' > wrong.md
 judge 'one that does is found' test "$(gone wrong.md)" = cd_gone
+files_named() { grep -ohE 'crates/[A-Za-z0-9_./-]*[A-Za-z0-9_]' "$@" | sort -u; }
+files_gone() { files_named "$@" | while IFS= read -r path; do [ -e "$top/$path" ] || echo "$path"; done | paste -sd ' '; }
+mapfile -d '' -t texts < <(find "$top/crates" -name out -prune -o -name '*.rt' -print0)
+judge "no crate names a file that is not there: $(files_gone "${texts[@]}")" test -z "$(files_gone "${texts[@]}")"
+echo '// Tests: `crates/cd_code/src/lib.rt` and `crates/cd_code/src/gone`.' > wrong.rt
+judge 'a file that is gone is found' test "$(files_gone wrong.rt)" = crates/cd_code/src/gone
 
 # Each script of the sources, by its name or by its first line; those without one are sourced by bash.
 while IFS= read -r -d '' file; do

@@ -185,8 +185,11 @@ class Seen:
 
 
 def python(edit: Edit, wrong: Edit | None, room: Path) -> bool | None:
-    """In a process of its own, which has loaded pytest, and no package yet."""
+    """In a process of its own, which has loaded pytest. What it has loaded for the right package is loaded anew."""
     import pytest
+    for name, module in list(sys.modules.items()):
+        if name.partition('.')[0] == 'cdpatch' or (getattr(module, '__file__', None) or '').startswith(str(TESTS / 'python')):
+            del sys.modules[name]
     package = room / 'package'
     copied(TOP / 'python/cdpatch', wrong, package / 'cdpatch')
     file = file_of(edit.test, 'python/test_*.py', 'def {}(')

@@ -41,7 +41,9 @@ export async function scriptFor({ calls }, script, base) {
         if (fault === '') return read;
         throw workRefused(`${fault[0].toUpperCase()}${fault.slice(1)}.`, 'Set the base that the script says, or take that line out.');
     }
-    if (read.tooLong) throw workRefused('The script is too long.', `A script has at most ${counted(MOST_SCRIPT_BYTES)} bytes. Cut it into two.`);
+    if (read.tooLong) {
+        throw workRefused('The script is too long.', `A script has at most ${counted(MOST_SCRIPT_BYTES)} bytes. Cut it into two.`);
+    }
     throw workRefused(new TextDecoder().decode(read.text).trimEnd(), 'Nothing was done. Mend the line first.');
 }
 
