@@ -35,9 +35,14 @@ import { Store } from './store.js';
  */
 
 /**
- * What parts of the page do for all: `open` opens files, as if they were dropped; `takeBackBytes` takes back the bytes that were typed last
- * in a sector, if it can.
- * @typedef {{ open: (files: File[]) => Promise<void>, takeBackBytes: () => boolean }} Services
+ * What files are opened for: a job of the start, or '' for nothing that was said.
+ * @typedef {'' | 'play' | 'translate' | 'repair'} Aim
+ */
+
+/**
+ * What parts of the page do for all: `open` opens files, as if they were dropped; `choose` lets the user choose them; `takeBackBytes` takes
+ * back the bytes that were typed last in a sector, if it can.
+ * @typedef {{ open: (files: File[], aim: Aim) => Promise<void>, choose: (aim: Aim) => void, takeBackBytes: () => boolean }} Services
  */
 
 /** @typedef {'disc' | 'text' | 'script' | 'publish'} PanelName */

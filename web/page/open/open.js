@@ -1,4 +1,4 @@
-// Opening files: by the button, or dropped on the page. What each file is decides what becomes of it.
+// Opening files. What each file is decides what becomes of it.
 
 import { readBytes } from '../../core/bytes.js';
 import { dataTrack, discFault, openDisc } from '../../core/disc/disc.js';
@@ -10,11 +10,13 @@ import { MOST_SECTORS, SECTOR_SIZE, imageTooLong, sectorCount } from '../../core
 import { textOfFile } from '../../core/texts/encodings.js';
 import { byId, clearNotices, copyable, counted, element, messageParts, nameOf, namesOf, refuseWhileSaving } from '../ui/index.js';
 import { showFailure, showNotice } from '../ui/index.js';
+import { mountChoosing } from './choosing.js';
 import { exampleFile } from './example.js';
 import { fileReader } from './file_reader.js';
 import { readImage } from './survey_image.js';
 
 /** @typedef {import('../../core/disc/disc.js').Disc} Disc */
+/** @typedef {import('../app/state.js').Aim} Aim */
 /** @typedef {import('../app/state.js').App} App */
 /** @typedef {import('../app/state.js').Image} Image */
 
@@ -22,48 +24,28 @@ const SCRIPT_START = 1 << 16;
 
 /** @param {App} app */
 export function mountOpening(app) {
-    app.serve({ open: files => openFiles(app, files) });
-    const input = /** @type {HTMLInputElement} */ (byId('files'));
-    const choose = () => input.click();
-    byId('open-files').addEventListener('click', choose);
-    byId('open-other').addEventListener('click', choose);
+    app.serve({ open: (files, aim) => openFiles(app, files, aim) });
+    mountChoosing(app);
     byId('open-example').addEventListener('click', () => app.open([exampleFile(app.calls)]));
-    input.addEventListener('change', () => {
-        const files = [...input.files || []];
-        input.value = '';
-        app.open(files);
-    });
-    listenForDrops(app);
-}
-
-/** @param {App} app */
-function listenForDrops(app) {
-    const over = (/** @type {boolean} */ is) => { document.body.classList.toggle('over', is); };
-    document.addEventListener('dragover', event => {
-        event.preventDefault();
-        over(true);
-    });
-    document.addEventListener('dragleave', event => over(event.relatedTarget !== null));
-    document.addEventListener('drop', event => {
-        event.preventDefault();
-        over(false);
-        app.open([...(event.dataTransfer && event.dataTransfer.files) || []]);
-    });
 }
 
 /**
  * @param {App} app
  * @param {File[]} files
+ * @param {Aim} aim
  */
-async function openFiles(app, files) {
+async function openFiles(app, files, aim) {
     if (files.length === 0) return;
     clearNotices();
+    const { services } = app;
     try {
         const others = [];
         for (const file of files) {
             if (!await isTaken(app, file)) others.push(file);
         }
-        if (others.length > 0) await openImages(app, others);
+        // A patcher among them is shown in place of the panels now, and takes the image.
+        if (app.services !== services) await app.open(others);
+        else if (others.length > 0) await openImages(app, others, aim);
     } catch (error) {
         await showOpeningFailure(app, files, error);
     }
@@ -100,8 +82,9 @@ const MARKS = [{ name: 'UTF-8 with a mark', bytes: [0xEF, 0xBB, 0xBF] }, { name:
  * Opens an image, or two; as the second image if one is open.
  * @param {App} app
  * @param {File[]} files
+ * @param {Aim} aim
  */
-async function openImages(app, files) {
+async function openImages(app, files, aim) {
     const names = files.map(file => file.name);
     if (refuseWhileSaving(app, names)) return;
     const different = new Set(names.map(name => name.toLowerCase())).size;
@@ -114,14 +97,23 @@ async function openImages(app, files) {
     for (const group of two ? [[files[0]], [files[1]]] : [files]) images.push(await openedImage(app, group));
     if (app.image === null) {
         readImage(app, images.shift() || null);
-        app.showPanel('disc');
-        byId('map').focus();
+        showAim(app, aim);
     }
     if (images.length > 0) {
         app.setSecond(images[0]);
         app.showPanel('disc');
     }
     sayLeftOut(files, two ? null : images[0] || app.image);
+}
+
+/**
+ * Shows the panel of a job, and what it begins with.
+ * @param {App} app
+ * @param {Aim} aim
+ */
+function showAim(app, aim) {
+    app.showPanel(aim === 'play' ? 'script' : aim === 'translate' ? 'text' : 'disc');
+    if (aim !== 'play') byId(aim === 'translate' ? 'find-text' : 'map').focus();
 }
 
 /**

@@ -64,7 +64,7 @@ function isNoteOpen() {
  * @param {number} step
  */
 function focusNextCard(step) {
-    const cards = /** @type {HTMLElement[]} */ ([...document.querySelectorAll('#bar, main .card, main .drop, footer')])
+    const cards = /** @type {HTMLElement[]} */ ([...document.querySelectorAll('#bar, main .jobs, main .card, main .drop, footer')])
         .filter(card => card.offsetParent !== null && firstStop(card) !== null);
     const at = cards.findIndex(card => card.contains(document.activeElement));
     const next = cards[(at + step + cards.length) % cards.length];
