@@ -28,9 +28,9 @@ import { Store } from './store.js';
  * What happens: an image was opened or closed (`image`); more of it was surveyed (`survey`), or all (`surveyed`); more of it was hashed
  * (`hash`, with how many bytes, or -1 if nobody goes on with it); its files are known (`files`); there is a second image, or none any more
  * (`second`); a place was chosen (`place`); the script has changed (`script`, with what brings the last one back if that is in no file,
- * or null if it was typed in the panel Script); one of its lines was chosen (`line`, from 0); the encoding was chosen, or a table is new
- * (`encoding`); another panel is shown (`panel`); the data of a patcher are to be worked on (`patcher`).
- * @typedef {'image' | 'survey' | 'surveyed' | 'hash' | 'files' | 'second' | 'place' | 'script' | 'line' | 'encoding' | 'panel' |
+ * or null if it was typed in the panel Script), or is to be checked (`check`); one of its lines was chosen (`line`, from 0); the encoding
+ * was chosen, or a table is new (`encoding`); another panel is shown (`panel`); the data of a patcher are to be worked on (`patcher`).
+ * @typedef {'image' | 'survey' | 'surveyed' | 'hash' | 'files' | 'second' | 'place' | 'script' | 'check' | 'line' | 'encoding' | 'panel' |
  *     'patcher'} Happening
  */
 

@@ -277,6 +277,12 @@ export class Store {
         this.tell('line', line);
     }
 
+    /** Shows the script, and has it checked on the open image. */
+    checkScript() {
+        this.showPanel('script');
+        this.tell('check');
+    }
+
     /** @param {PanelName} name */
     showPanel(name) {
         this.panel = name;

@@ -37,32 +37,56 @@ export function mountOpening(app) {
 async function openFiles(app, files, aim) {
     if (files.length === 0) return;
     clearNotices();
-    const { services } = app;
+    const { services, image } = app;
     try {
-        const others = [];
-        for (const file of files) {
-            if (!await isTaken(app, file)) others.push(file);
-        }
+        /** @type {string[]} */
+        const kinds = [];
+        for (const file of files) kinds.push(await takenAs(app, file));
+        const others = files.filter((_, i) => kinds[i] === '');
         // A patcher among them is shown in place of the panels now, and takes the image.
-        if (app.services !== services) await app.open(others);
-        else if (others.length > 0) await openImages(app, others, aim);
+        if (app.services !== services) return await app.open(others);
+        const opened = others.length === 0 ? null : await openImages(app, others);
+        showNext(app, aim, kinds.includes('script'), image === null);
+        sayLeftOut(others, opened);
     } catch (error) {
         await showOpeningFailure(app, files, error);
+    }
+    return undefined;
+}
+
+/**
+ * Shows the panel with the next step: of a script and its image that it is checked, else that of a job.
+ * @param {App} app
+ * @param {Aim} aim
+ * @param {boolean} script whether a script was opened
+ * @param {boolean} image whether an image was, if there is one
+ */
+function showNext(app, aim, script, image) {
+    if (app.image === null || !(script || image)) return;
+    if (aim === 'translate') {
+        app.showPanel('text');
+        byId('find-text').focus();
+    } else if (aim !== 'repair' && (script || !app.script.isNew())) app.checkScript();
+    else if (aim === 'play') app.showPanel('script');
+    else {
+        app.showPanel('disc');
+        byId('map').focus();
     }
 }
 
 /**
- * Whether a file is a script, or something else than an image that a panel takes.
+ * As what a file is taken: a script, something else than an image, or '' if it may be an image.
  * @param {App} app
  * @param {File} file
+ * @returns {Promise<'script' | 'other' | ''>}
  */
-async function isTaken(app, file) {
+async function takenAs(app, file) {
     for (const take of app.takers) {
-        if (await take(file)) return true;
+        if (await take(file)) return 'other';
     }
     const start = file.size > MOST_SCRIPT_BYTES ? new Uint8Array(0) : await fileReader(file).read(0, SCRIPT_START);
     const text = new TextEncoder().encode(textOfFile(start));
-    if (!isScript(app.calls, text) && !isMeantAsScript(app.calls, text)) return false;
+    if (!isScript(app.calls, text) && !isMeantAsScript(app.calls, text)) return '';
     // The program reads no text with a mark of its encoding: what stands in the editor is in no file then.
     const marked = MARKS.find(({ bytes }) => bytes.every((byte, i) => byte === start[i]));
     app.setScript(textOfFile(await readBytes(fileReader(file), 0, file.size)), file.name, !marked);
@@ -71,7 +95,7 @@ async function isTaken(app, file) {
         showNotice('warn', ['This file is ', marked.name, ', which cdpatch does not read: ', nameOf(file.name)],
             'It was read here all the same. Save the script: then it is in plain UTF-8.');
     }
-    return true;
+    return 'script';
 }
 
 /** How editors mark the encoding of a text. */
@@ -79,14 +103,13 @@ const MARKS = [{ name: 'UTF-8 with a mark', bytes: [0xEF, 0xBB, 0xBF] }, { name:
     { name: 'UTF-16', bytes: [0xFE, 0xFF] }];
 
 /**
- * Opens an image, or two; as the second image if one is open.
+ * Opens an image, or two; as the second image if one is open. Returns the one of a cue sheet, if there is one.
  * @param {App} app
  * @param {File[]} files
- * @param {Aim} aim
  */
-async function openImages(app, files, aim) {
+async function openImages(app, files) {
     const names = files.map(file => file.name);
-    if (refuseWhileSaving(app, names)) return;
+    if (refuseWhileSaving(app, names)) return null;
     const different = new Set(names.map(name => name.toLowerCase())).size;
     if (different < names.length) throw discFault('Two of these files have one name. Open one of them.');
     const two = files.length === 2 && (await Promise.all(files.map(file => isRawImage(app, file)))).every(it => it);
@@ -95,25 +118,13 @@ async function openImages(app, files, aim) {
     }
     const images = [];
     for (const group of two ? [[files[0]], [files[1]]] : [files]) images.push(await openedImage(app, group));
-    if (app.image === null) {
-        readImage(app, images.shift() || null);
-        showAim(app, aim);
-    }
+    const [first] = images;
+    if (app.image === null) readImage(app, images.shift() || null);
     if (images.length > 0) {
         app.setSecond(images[0]);
         app.showPanel('disc');
     }
-    sayLeftOut(files, two ? null : images[0] || app.image);
-}
-
-/**
- * Shows the panel of a job, and what it begins with.
- * @param {App} app
- * @param {Aim} aim
- */
-function showAim(app, aim) {
-    app.showPanel(aim === 'play' ? 'script' : aim === 'translate' ? 'text' : 'disc');
-    if (aim !== 'play') byId(aim === 'translate' ? 'find-text' : 'map').focus();
+    return two ? null : first;
 }
 
 /**

@@ -50,7 +50,7 @@ class ScriptPanel {
         this.opening = element('input', { type: 'file', class: 'hide', tabindex: -1, 'aria-label': 'A script to open',
             change: () => this.open() });
         listenToEditor(this.editor);
-        panel.append(element('div', { class: 'two' }, element('section', { class: 'card', 'aria-label': 'Script' }, this.head,
+        panel.append(element('div', { class: 'two script' }, element('section', { class: 'card', 'aria-label': 'Script' }, this.head,
             this.undoing, this.unshown, this.editor.box, this.strip),
             this.side), this.opening);
         panel.addEventListener('keydown', event => this.pressed(event));
@@ -63,6 +63,7 @@ class ScriptPanel {
         askBeforeLeaving(() => this.isLost());
         app.serve({ takeBackBytes: () => takeBackBytes(this.editor) });
         app.on('line', line => this.goTo(line));
+        app.on('check', () => void this.check.checkAtOnce());
         app.on('script', change => change && this.load(change.back));
         app.on('image', () => {
             this.check.forget();
