@@ -226,7 +226,7 @@ class Disc(unittest.TestCase):
     def test_two_files_of_one_name_are_refused(self) -> None:
         browser = self.browser
         browser.give('#files', [file_of(discs.game()), file_of(scratched())])
-        browser.wait('.say.bad', 'Two of these files have one name')
+        browser.wait('.say.bad', 'Two of these files have the same name')
 
     def test_a_file_that_is_gone_is_said(self) -> None:
         path = file_of(discs.game())
@@ -273,7 +273,7 @@ class Disc(unittest.TestCase):
         browser.run("document.querySelector('#disc-line .lead button').focus()")
         browser.wait(VERDICT, 'Reading the disc')
         browser.press(Keys.ESCAPE)
-        browser.wait(VERDICT, 'and no further')
+        browser.wait(VERDICT, 'Stopped at')
         browser.run('letGo()')
         browser.wait('#disc-line .sha-wait', 'not\u00a0known')
         browser.click('#tab-publish')

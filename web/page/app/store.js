@@ -13,6 +13,7 @@ import { ScriptLines } from './script_lines.js';
 /** @typedef {import('./state.js').Aim} Aim */
 /** @typedef {import('./state.js').Happening} Happening */
 /** @typedef {import('./state.js').Image} Image */
+/** @typedef {import('./state.js').PairJob} PairJob */
 /** @typedef {import('./state.js').PanelName} PanelName */
 /** @typedef {import('./state.js').Parts} Parts */
 /** @typedef {import('./state.js').Services} Services */
@@ -54,7 +55,7 @@ export class Store {
         /** Ends what is done with the second image. */
         this.pairing = new AbortController();
         /** @type {Services} */
-        this.services = { open: async () => {}, choose: () => {}, takeBackBytes: () => false };
+        this.services = { open: async () => {}, choose: () => {}, dropSays: () => [], takeBackBytes: () => false };
         /** @type {((file: File) => Promise<boolean>)[]} */
         this.takers = [];
         /** When the survey was last told of. */
@@ -125,10 +126,13 @@ export class Store {
         return this.reading.signal;
     }
 
-    /** @param {Image | null} second */
-    setSecond(second) {
+    /**
+     * @param {Image | null} second
+     * @param {PairJob} [job] what is done with it first
+     */
+    setSecond(second, job = 'compare') {
         this.second = second;
-        this.tell('second');
+        this.tell('second', job);
     }
 
     /**
@@ -275,12 +279,6 @@ export class Store {
     goToLine(line) {
         this.showPanel('script');
         this.tell('line', line);
-    }
-
-    /** Shows the script, and has it checked on the open image. */
-    checkScript() {
-        this.showPanel('script');
-        this.tell('check');
     }
 
     /** @param {PanelName} name */

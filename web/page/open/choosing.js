@@ -1,9 +1,10 @@
 // Choosing files: by a button, for a job of the start, or by dropping them on the page.
 
-import { announce, byId, fill, setAttribute } from '../ui/index.js';
+import { announce, byId, element, fill, nameOf, setAttribute } from '../ui/index.js';
 
 /** @typedef {import('../app/state.js').Aim} Aim */
 /** @typedef {import('../app/state.js').App} App */
+/** @typedef {import('../ui/fill.js').Child} Child */
 
 /** What is to be chosen for each job, as the start says it. */
 const WANTED = {
@@ -11,6 +12,9 @@ const WANTED = {
     translate: 'Choose the disc image, or its cue sheet with all BINs',
     repair: 'Choose the damaged image, and the second dump with it',
 };
+
+/** No browser says of each drag that it has ended: one of which nothing was heard for so many milliseconds has. */
+const DRAG_ENDS = 1000;
 
 /** The picker, and what is aimed at by what is chosen next. */
 class Chooser {
@@ -69,15 +73,43 @@ export function mountChoosing(app) {
         input.value = '';
         chooser.take(files);
     });
-    listenForDrops(files => chooser.take(files));
+    app.serve({ dropSays: () => dropSays(app) });
+    listenForDrops(app, files => {
+        chooser.cancelled();
+        chooser.take(files);
+    });
 }
 
-/** @param {(files: File[]) => void} take */
-function listenForDrops(take) {
-    const over = (/** @type {boolean} */ is) => { document.body.classList.toggle('over', is); };
+/**
+ * What becomes of files that are dropped now.
+ * @param {App} app
+ * @returns {Child[]}
+ */
+function dropSays({ image, saves, script }) {
+    if (saves > 0) return ['An image is being saved: nothing is opened before that has ended.'];
+    if (image === null) return ['Drop it to open it: a disc image, its patch, or both.'];
+    const own = script.isNew() ? '' : 'in place of the one that is open, ';
+    return [element('span', {}, 'An image: you choose whether ', nameOf(image.name), ' is repaired from it, compared, or closed for it.'),
+        element('span', {}, `A script: it is opened ${own}and checked.`)];
+}
+
+/**
+ * @param {App} app
+ * @param {(files: File[]) => void} take
+ */
+function listenForDrops(app, take) {
+    const says = byId('drop-says');
+    let ends = 0;
+    const over = (/** @type {boolean} */ is) => {
+        clearTimeout(ends);
+        if (is) ends = window.setTimeout(over, DRAG_ENDS, false);
+        document.body.classList.toggle('over', is);
+        if (is && says.hidden) fill(says, ...app.services.dropSays());
+        says.hidden = !is;
+    };
     document.addEventListener('dragover', event => {
         event.preventDefault();
-        over(true);
+        over(event.dataTransfer !== null && event.dataTransfer.types.includes('Files'));
     });
     document.addEventListener('dragleave', event => over(event.relatedTarget !== null));
     document.addEventListener('drop', event => {

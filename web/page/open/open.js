@@ -13,6 +13,7 @@ import { showFailure, showNotice } from '../ui/index.js';
 import { mountChoosing } from './choosing.js';
 import { exampleFile } from './example.js';
 import { fileReader } from './file_reader.js';
+import { takeSecond } from './second_sheet.js';
 import { readImage } from './survey_image.js';
 
 /** @typedef {import('../../core/disc/disc.js').Disc} Disc */
@@ -45,9 +46,10 @@ async function openFiles(app, files, aim) {
         const others = files.filter((_, i) => kinds[i] === '');
         // A patcher among them is shown in place of the panels now, and takes the image.
         if (app.services !== services) return await app.open(others);
-        const opened = others.length === 0 ? null : await openImages(app, others);
+        const { sheet, second } = others.length === 0 ? NOTHING : await openImages(app, others);
         showNext(app, aim, kinds.includes('script'), image === null);
-        sayLeftOut(others, opened);
+        sayLeftOut(others, sheet);
+        if (second !== null) await takeSecond(app, second, aim);
     } catch (error) {
         await showOpeningFailure(app, files, error);
     }
@@ -66,7 +68,7 @@ function showNext(app, aim, script, image) {
     if (aim === 'translate') {
         app.showPanel('text');
         byId('find-text').focus();
-    } else if (aim !== 'repair' && (script || !app.script.isNew())) app.checkScript();
+    } else if (['', 'play'].includes(aim) && (script || !app.script.isNew())) app.checkScript();
     else if (aim === 'play') app.showPanel('script');
     else {
         app.showPanel('disc');
@@ -102,29 +104,28 @@ async function takenAs(app, file) {
 const MARKS = [{ name: 'UTF-8 with a mark', bytes: [0xEF, 0xBB, 0xBF] }, { name: 'UTF-16', bytes: [0xFF, 0xFE] },
     { name: 'UTF-16', bytes: [0xFE, 0xFF] }];
 
+/** That no image was opened of a cue sheet, and none as a second one. */
+const NOTHING = { sheet: /** @type {Image | null} */ (null), second: /** @type {Image | null} */ (null) };
+
 /**
- * Opens an image, or two; as the second image if one is open. Returns the one of a cue sheet, if there is one.
+ * Opens an image, or two. Returns the one that was opened of a cue sheet, and the one that is a second image, since one is open.
  * @param {App} app
  * @param {File[]} files
  */
 async function openImages(app, files) {
     const names = files.map(file => file.name);
-    if (refuseWhileSaving(app, names)) return null;
+    if (refuseWhileSaving(app, names)) return NOTHING;
     const different = new Set(names.map(name => name.toLowerCase())).size;
-    if (different < names.length) throw discFault('Two of these files have one name. Open one of them.');
+    if (different < names.length) throw discFault('Two of these files have the same name. Open only one.');
     const two = files.length === 2 && (await Promise.all(files.map(file => isRawImage(app, file)))).every(it => it);
     if (two && app.image !== null) {
         throw discFault(`An image is open already: ${app.image.name}. Open one more, ${names.join(' or ')}, to compare it.`);
     }
     const images = [];
     for (const group of two ? [[files[0]], [files[1]]] : [files]) images.push(await openedImage(app, group));
-    const [first] = images;
+    const sheet = two ? null : images[0];
     if (app.image === null) readImage(app, images.shift() || null);
-    if (images.length > 0) {
-        app.setSecond(images[0]);
-        app.showPanel('disc');
-    }
-    return two ? null : first;
+    return { sheet, second: images[0] || null };
 }
 
 /**

@@ -20,7 +20,8 @@ export function showPlayer(app, data, how) {
     document.body.classList.add('player');
     home.data = 'A patcher made with cdpatch';
     const player = new Player(app, data, how, place);
-    const giveBack = app.serve({ open: files => player.open(files) });
+    const dropSays = () => ['Drop your disc image: it is checked, and not changed.'];
+    const giveBack = app.serve({ open: files => player.open(files), dropSays });
     const leave = async (/** @type {boolean} */ full) => {
         if (refuseWhileSaving(app)) return undefined;
         player.stop();

@@ -46,9 +46,10 @@ class PublishPanel {
         this.save = button('main', () => this.publish(true), 'Save as a patcher…');
         this.see = button('', () => this.publish(false), 'See it as a player');
         panel.append(element('div', { class: 'two even' }, this.form(), element('div', { class: 'side' }, this.savingCard())));
-        askBeforeLeaving(() => this.edited);
+        askBeforeLeaving(() => this.edited, 'What you wrote under Publish is in no patcher yet.');
         app.on('panel', () => this.shown());
         app.on('patcher', data => this.take(data));
+        app.on('closed', () => this.take({ title: '', author: '', note: '', name: '', cue: 'offered', carry: false }));
         for (const name of /** @type {const} */ (['image', 'script'])) app.on(name, () => this.forget());
         for (const name of /** @type {const} */ (['hash', 'surveyed'])) app.on(name, () => this.shown());
     }
@@ -89,7 +90,7 @@ class PublishPanel {
 
     /**
      * Takes over what a patcher says of itself, so that the next one can be made of it.
-     * @param {PatcherData} data
+     * @param {Pick<PatcherData, 'title' | 'author' | 'note' | 'name' | 'cue' | 'carry'>} data
      */
     take({ title, author, note, name, cue, carry }) {
         [this.title.value, this.author.value, this.note.value, this.name.value] = [title, author, note, name];

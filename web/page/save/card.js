@@ -144,7 +144,7 @@ export class SaveCard {
     openNew({ blob, file, name }) {
         this.close();
         readImage(this.app, null);
-        this.app.open([file || new File([/** @type {Blob} */ (blob)], name)]);
+        this.app.open([file || new File([/** @type {Blob} */ (blob)], name)], 'look');
     }
 
     /**

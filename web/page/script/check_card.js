@@ -118,7 +118,8 @@ export class CheckCard {
         return [notice(tone, head, rest, element('div', { class: 'row' }, apply)),
             element('div', { class: 'tally' }, tally('good-ink', applied, 'would apply'),
                 tally('bad-ink', refused, 'refused')),
-            first < 0 ? null : element('div', { class: 'row next' }, button('slim', () => this.owner.goTo(first), `Go to line ${first + 1}`))];
+            first >= 0 && element('div', { class: 'row next' },
+                button('slim', () => this.owner.goTo(first), `Go to line ${first + 1}`))];
     }
 
     /**

@@ -60,7 +60,7 @@ class ScriptPanel {
 
     listen() {
         const { app } = this;
-        askBeforeLeaving(() => this.isLost());
+        askBeforeLeaving(() => this.isLost(), 'Your script is in no file yet.');
         app.serve({ takeBackBytes: () => takeBackBytes(this.editor) });
         app.on('line', line => this.goTo(line));
         app.on('check', () => void this.check.checkAtOnce());

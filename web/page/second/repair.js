@@ -176,7 +176,7 @@ export class SecondRepair {
             error => { sum.textContent = messageOf(error); });
         const open = button('', () => {
             readImage(app, null);
-            app.open([file]);
+            app.open([file], 'look');
         }, 'Open the new image');
         return [said, element('dl', { class: 'hashes' }, element('dt', {}, 'SHA-1'), sum), element('div', { class: 'row' }, open)];
     }

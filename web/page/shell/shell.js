@@ -11,6 +11,7 @@ export function mountFrame(app) {
     oneStop(byId('tabs'), '[role=tab]', tab => app.showPanel(panelOfTab(tab)));
     for (const name of PANELS) byId(`tab-${name}`).addEventListener('click', () => app.showPanel(name));
     const frame = { started: false };
+    app.on('closed', () => { frame.started = false; });
     for (const name of /** @type {const} */ (['panel', 'image'])) app.on(name, () => showPanels(app, frame));
     byId('home').addEventListener('click', () => app.showPanel('disc'));
     document.addEventListener('keydown', pressed);
