@@ -69,9 +69,9 @@ class Kept(PageTest):
 
     def test_no_button_ends_the_saving_of_a_repaired_image_but_its_own(self) -> None:
         self.repairs()
-        for card in ('disc-line', 'panel-disc'):
+        for card, place in (('disc-line', '#messages'), ('panel-disc', '#panel-disc .said')):
             self.browser.run(CLOSE, card)
-            self.browser.wait('#messages .say.warn', 'An image is being saved.')
+            self.browser.wait(f'{place} .say.warn', 'An image is being saved.')
         self.press('Open it instead')
         self.press('Change')
         self.press('Set')
@@ -187,7 +187,7 @@ class Kept(PageTest):
         self.browser.wait('#verdict', 'right disc')
         self.begins('Patch and save')
         self.press('Open this in the full cdpatch')
-        self.browser.wait('#messages .say.warn', 'An image is being saved.')
+        self.browser.wait('#player .say.warn', 'An image is being saved.')
         self.ends_well(made)
         self.browser.wait('#saved', 'Saved:')
 
@@ -232,7 +232,7 @@ class Kept(PageTest):
         self.assertEqual(self.browser.run('return document.querySelectorAll("#messages .progress").length'), 0)
         self.browser.run('openGate()')
         undo = self.browser.downloaded('english (undo).txt')
-        self.browser.wait('#messages .say.good', 'Saved: english (undo).txt')
+        self.browser.wait('#panel-script .said .say.good', 'Saved: english (undo).txt')
         _, _, patched = applied(files['game'], files['english'])
         self.assertEqual(applied(discs.written(patched=patched)['patched'], undo)[2], discs.game())
         self.assertEqual(self.browser.run('return document.querySelectorAll("#panel-script .progress").length'), 0)

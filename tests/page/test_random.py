@@ -303,14 +303,14 @@ class Random(PageTest):
     def close_second(self) -> None:
         self.browser.run('document.querySelector("[aria-labelledby=second-title] header button:last-child").click()')
         if self.model.saving:
-            self.browser.wait('#messages .say.warn', 'An image is being saved.')
+            self.browser.wait('#panel-disc .said .say.warn', 'An image is being saved.')
         else:
             self.model.second = ''
 
     def open_instead(self) -> None:
         self.press('Open it instead')
         if self.model.saving:
-            self.browser.wait('#messages .say.warn', 'An image is being saved.')
+            self.browser.wait('#panel-disc .said .say.warn', 'An image is being saved.')
             return
         self.model.image, self.model.second = self.model.second, ''
         self.browser.wait('#disc-line .name', self.model.image)
@@ -341,7 +341,7 @@ class Random(PageTest):
     def leave_player(self) -> None:
         self.press('Open this in the full cdpatch')
         if self.model.saving:
-            self.browser.wait('#messages .say.warn', 'An image is being saved.')
+            self.browser.wait('#player .say.warn', 'An image is being saved.')
         else:
             self.model.panel = 'script'
 

@@ -194,7 +194,7 @@ class Second(unittest.TestCase):
         first = b''.join(sector(block, b'%d' % block) for block in range(40))
         second = b''.join(sector(1000 + block, b'%d' % block) for block in range(40))
         self.pair(damaged(first, 5), second)
-        self.browser.wait('#messages .say.bad', 'they are not the same part of a disc')
+        self.browser.wait('#second-body .say.bad', 'they are not the same part of a disc')
         self.browser.wait('#second-body', 'Nothing was found out.')
 
     def test_every_control_has_a_name_and_nothing_is_sent(self) -> None:

@@ -8,7 +8,7 @@ import { MOST_SCRIPT_BYTES } from '../../core/module/records.js';
 import { isMeantAsScript, isScript } from '../../core/script/script_start.js';
 import { MOST_SECTORS, SECTOR_SIZE, imageTooLong, sectorCount } from '../../core/sectors/sector.js';
 import { textOfFile } from '../../core/texts/encodings.js';
-import { byId, clearNotices, copyable, counted, element, messageParts, nameOf, namesOf, refuseWhileSaving } from '../ui/index.js';
+import { byId, copyable, counted, element, endMessages, messageParts, nameOf, namesOf, refuseWhileSaving } from '../ui/index.js';
 import { showFailure, showNotice } from '../ui/index.js';
 import { mountChoosing } from './choosing.js';
 import { exampleFile } from './example.js';
@@ -37,7 +37,7 @@ export function mountOpening(app) {
  */
 async function openFiles(app, files, aim) {
     if (files.length === 0) return;
-    clearNotices();
+    endMessages();
     const { services, image } = app;
     try {
         /** @type {string[]} */

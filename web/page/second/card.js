@@ -1,7 +1,7 @@
 // The card of a second image: repair from it, or compare with it.
 
 import { readImage } from '../open/index.js';
-import { button, element, fill, isCancelled, keyed, nameOf, oneStop, refuseWhileSaving, showFailure } from '../ui/index.js';
+import { button, element, fill, isCancelled, keyed, nameOf, notice, oneStop, refuseWhileSaving, said, sentence } from '../ui/index.js';
 import { SecondCompare } from './compare.js';
 import { SecondRepair } from './repair.js';
 
@@ -25,6 +25,7 @@ export class SecondCard {
         this.tab = /** @type {Job} */ ('repair');
         this.title = element('h2', { id: 'second-title' });
         this.tabs = element('div', { class: 'seg', role: 'tablist', 'aria-label': 'What to do with the second image' });
+        this.said = said();
         this.body = element('div', { class: 'stack', role: 'tabpanel', id: 'second-body' });
         this.table = element('div');
         this.jobs = { repair: new SecondRepair(app, changed), compare: new SecondCompare(app, changed) };
@@ -32,7 +33,7 @@ export class SecondCard {
         const card = element('section', { class: 'card', 'aria-labelledby': 'second-title' },
             element('header', {}, this.title, button('slim bare', () => this.openInstead(), 'Open it instead'),
                 button('slim bare', () => this.close(), 'Close')),
-            element('div', { class: 'pad stack' }, this.tabs, this.body));
+            element('div', { class: 'pad stack' }, this.said, this.tabs, this.body));
         this.part = element('div', { class: 'side', hidden: true }, card, this.table);
     }
 
@@ -42,14 +43,14 @@ export class SecondCard {
     }
 
     close() {
-        if (refuseWhileSaving(this.app)) return;
+        if (refuseWhileSaving(this.app, [], this.said)) return;
         this.app.setSecond(null);
     }
 
     /** It takes the place of the open image. The script stays. */
     openInstead() {
         const { second } = this.app;
-        if (second !== null) readImage(this.app, second);
+        if (second !== null && !refuseWhileSaving(this.app, [], this.said)) readImage(this.app, second);
     }
 
     /**
@@ -87,8 +88,7 @@ export class SecondCard {
      */
     failed(error, body) {
         const again = element('div', { class: 'row' }, button('', () => this.choose(this.tab), 'Begin again'));
-        fill(body, element('p', {}, isCancelled(error) ? 'Cancelled.' : 'Nothing was found out.'), again);
-        if (!isCancelled(error)) showFailure(error);
+        fill(body, isCancelled(error) ? element('p', {}, 'Cancelled.') : notice('bad', sentence(error), 'Nothing was found out.'), again);
     }
 
     drawTabs() {

@@ -4,7 +4,7 @@ import { LAST_BASE, SECTOR_SIZE } from '../../core/sectors/sector.js';
 import { MARK } from '../app/index.js';
 import { modeOneSectors, otherBase, placesOf } from '../disc/index.js';
 import { changeBase, imageOfTrack, readImage } from '../open/index.js';
-import { button, byId, copyText, countOf, counted, element, fill, jobEnd, keyed, nameOf, seen, shownName, term } from '../ui/index.js';
+import { button, byId, copyButton, countOf, counted, element, fill, jobEnd, keyed, nameOf, seen, shownName, term } from '../ui/index.js';
 import { closeImage } from './close_image.js';
 
 /** @typedef {import('../app/state.js').App} App */
@@ -144,7 +144,7 @@ function shaOf(image, drawn, length) {
         : ['sha1', length < sha1.length ? `${sha1.slice(0, length)}…` : sha1, ''];
     const all = `${seen(image.name)}\nsize ${image.reader.size}\nCRC-32 ${crc32}\nSHA-1 ${sha1}\n`;
     return [element('span', { class: `mono ${looks}` }, shown), ' ',
-        button(`slim bare tiny${copies}`, () => copyText(all), 'Copy all hashes')];
+        copyButton(`slim bare tiny${copies}`, () => all, 'Copy all hashes')];
 }
 
 /**

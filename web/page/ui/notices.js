@@ -1,6 +1,7 @@
 // What the page says of files and failures: first what it is, then what to do.
 
 import { FAULT, failedBy } from '../../core/faults.js';
+import { copyButton } from './copying.js';
 import { button, byId, element } from './dom.js';
 import { fill } from './fill.js';
 import { namesOf, seen, withNames } from './names.js';
@@ -41,11 +42,14 @@ export function showNotice(tone, head, ...rest) {
  * Whether an image is being saved, which is said then: no other one is opened until it has ended, and none is closed.
  * @param {App} app
  * @param {string[]} [names] of the files that were to be opened
+ * @param {HTMLElement | null} [place] beside what was pressed
  */
-export function refuseWhileSaving({ saves }, names = []) {
+export function refuseWhileSaving({ saves }, names = [], place = null) {
     if (saves === 0) return false;
-    showNotice('warn', names.length > 0 ? ['Not opened: ', ...namesOf(names), '.'] : 'An image is being saved.',
-        `${names.length > 0 ? 'An image is being saved. ' : ''}Do it again when that has ended, or press Cancel there first.`);
+    const head = names.length > 0 ? ['Not opened: ', ...namesOf(names), '.'] : ['An image is being saved.'];
+    const rest = `${names.length > 0 ? 'An image is being saved. ' : ''}Do it again when that has ended, or press Cancel there first.`;
+    if (place === null) showNotice('warn', head, rest);
+    else sayAt(place, notice('warn', head, rest));
     return true;
 }
 
@@ -55,6 +59,30 @@ export function clearNotices() {
         place.hidden = true;
         fill(place);
     }
+}
+
+/**
+ * A place for what is said beside a control that was pressed.
+ * @param {string} [looks] classes
+ */
+export function said(looks = '') {
+    return element('div', { class: `said stack ${looks}`.trim(), role: 'status' });
+}
+
+/**
+ * Says something at such a place, and has it seen.
+ * @param {HTMLElement} place
+ * @param {HTMLElement} words
+ */
+export function sayAt(place, words) {
+    fill(place, words);
+    words.scrollIntoView({ block: 'nearest' });
+}
+
+/** Ends all that was said of what was done before. */
+export function endMessages() {
+    clearNotices();
+    document.querySelectorAll('.said').forEach(place => fill(place));
 }
 
 /**
@@ -118,32 +146,10 @@ export function isCancelled(error) {
 }
 
 /**
- * A command or another text to copy.
+ * A command to copy.
  * @param {string} text
  */
 export function copyable(text) {
-    const label = 'Copy the command';
-    const copy = button('slim', async () => {
-        await copyText(text);
-        copy.textContent = 'Copied';
-        setTimeout(() => { copy.textContent = label; }, 2000);
-    }, label);
+    const copy = copyButton('slim', () => text, 'Copy the command');
     return [element('p', { class: 'line-out' }, text), element('div', { class: 'row' }, copy)];
-}
-
-/**
- * Puts a text on the clipboard.
- * @param {string} text
- */
-export async function copyText(text) {
-    try {
-        await navigator.clipboard.writeText(text);
-    } catch {
-        const area = element('textarea', { class: 'hide', 'aria-hidden': 'true' });
-        area.value = text;
-        document.body.append(area);
-        area.select();
-        document.execCommand('copy');
-        area.remove();
-    }
 }
