@@ -136,7 +136,7 @@ class Disc(unittest.TestCase):
         sheet.write_text(''.join(f'FILE "game (Track {i}).bin" BINARY\n  TRACK 0{i} {kind}\n    INDEX 01 00:00:00\n'
                                  for i, kind in ((1, 'MODE1/2352'), (2, 'AUDIO'))))
         self.browser.give('#files', [sheet])
-        self.browser.wait('.say.bad', 'Select or drop the cue sheet and these together:')
+        self.browser.wait('.say.bad', 'game.cue also needs game (Track 1).bin, game (Track 2).bin.')
         self.assertIn('game (Track 1).bin, game (Track 2).bin', self.browser.text('.say.bad'))
 
     def test_what_is_no_raw_image_is_named_with_what_to_do(self) -> None:

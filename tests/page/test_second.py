@@ -108,7 +108,7 @@ class Second(unittest.TestCase):
     def test_another_disc_is_not_taken_for_a_dump_of_the_same(self) -> None:
         other = b''.join(sector(block, b'%d other' % block) for block in range(SECTORS - 30)) + AUDIO
         self.pair(with_faults((40, 9)), other)
-        self.browser.wait('#second-body .say.bad', 'no dump of the same disc')
+        self.browser.wait('#second-body .say.bad', 'not dumps of the same disc')
         self.assertFalse(self.browser.run(f'return Boolean({BUTTON})', 'Save repaired image'))
 
     def sees_what_differs(self, first: bytes, second: bytes, block: int) -> None:

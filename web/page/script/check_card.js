@@ -75,7 +75,8 @@ export class CheckCard {
             element('div', { class: 'row' }, button('main', () => this.app.choose('play'), 'Open the image…')));
         const ready = lines.faults === 0 && lines.head >= 0;
         const check = button(this.patched ? '' : 'main', () => this.check(), this.patched ? 'Check again' : 'Check');
-        const apply = button(this.patched ? 'main' : '', () => this.apply(), 'Apply and save…');
+        const fits = this.patched !== null && this.patched.outcomes.some(it => it.result === RESULT.OK);
+        const apply = button(fits ? 'main' : '', () => this.apply(), 'Apply and save…');
         for (const it of [check, apply]) setDisabled(it, !ready);
         const said = lines.faults > 0 ? [this.faults()] : this.outcomes(apply);
         const row = element('div', { class: 'row' }, check, !this.patched && apply);

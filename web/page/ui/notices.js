@@ -4,7 +4,7 @@ import { FAULT, failedBy } from '../../core/faults.js';
 import { copyButton } from './copying.js';
 import { button, byId, element } from './dom.js';
 import { fill } from './fill.js';
-import { namesOf, seen, withNames } from './names.js';
+import { nameOf, namesOf, seen, withNames } from './names.js';
 
 /** @typedef {import('./fill.js').Child} Child */
 /** @typedef {import('../app/state.js').App} App */
@@ -91,14 +91,17 @@ export function endMessages() {
  * @param {string} [rest]
  */
 export function showFailure(error, rest = '') {
-    if (failedBy(error, FAULT.MISSING_FILES)) return showNotice('bad', TOGETHER, ...namesOf(error.facts.names || []));
+    if (failedBy(error, FAULT.MISSING_FILES)) {
+        const { sheet = '', names = [] } = error.facts;
+        return showNotice('bad', [nameOf(sheet), ' also needs ', ...namesOf(names), '.'], TOGETHER);
+    }
     const text = messageOf(error);
     const [, first, after] = /^(.*?[.!?])\s+(.*)$/s.exec(text) || ['', text, ''];
     return showNotice('bad', first, [after, rest].filter(it => it !== '').join(' '));
 }
 
 /** A page does not see what lies beside a file. */
-const TOGETHER = 'Select or drop the cue sheet and these together:';
+const TOGETHER = 'Open them all together.';
 
 /** Most characters of a message that are shown: the lines of a stranger's cue sheet stand in some of them. */
 const MOST_MESSAGE = 1000;
@@ -106,7 +109,7 @@ const MOST_MESSAGE = 1000;
 /** @param {unknown} error */
 function wordsOf(error) {
     const message = error instanceof Error ? error.message : String(error);
-    if (failedBy(error, FAULT.MISSING_FILES)) return `${TOGETHER} ${(error.facts.names || []).join(', ')}`;
+    if (failedBy(error, FAULT.MISSING_FILES)) return `${error.facts.sheet} also needs ${(error.facts.names || []).join(', ')}. ${TOGETHER}`;
     if (failedBy(error, FAULT.IMAGE_ENDED)) return 'The file is shorter than it was when it was opened.';
     if (failedBy(error, FAULT.NO_MEMORY)) return 'This browser has not enough memory left. Close other tabs, then try again.';
     return message.length > MOST_MESSAGE ? `${message.slice(0, MOST_MESSAGE)}…` : message;
