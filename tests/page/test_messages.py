@@ -15,7 +15,7 @@ UNSEEN = '''const { top, bottom, left, right } = document.querySelector(argument
 WORDS = '''return [...document.querySelectorAll('.term')].flatMap((it, i) => it.checkVisibility() && !it.closest('[popover]') ? i : [])'''
 # Opens the note of a word, and says how far it is from the word and how far out of the window.
 OPENED = '''const [number, done] = arguments, word = document.querySelectorAll('.term')[number];
-    word.scrollIntoView({ block: 'center' });
+    word.scrollIntoView({ block: 'end' });
     word.click();
     requestAnimationFrame(() => {
         const [note, box] = [document.querySelector(':popover-open').getBoundingClientRect(), word.getBoundingClientRect()];

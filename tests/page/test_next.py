@@ -69,7 +69,7 @@ class Next(PageTest):
             self.assertLessEqual(self.browser.run(UNSEEN, '#panel-script .side .say'), 0, width)
             self.browser.downloaded('game (patched).bin').unlink()
 
-    def test_a_script_does_not_wait_for_the_check_of_another(self) -> None:
+    def test_a_script_is_checked_after_the_check_of_another(self) -> None:
         files = self.files()
         self.open_image(files['game'])
         self.browser.run(f'{GATE} held = 0')

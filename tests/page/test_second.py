@@ -183,7 +183,8 @@ class Second(unittest.TestCase):
         for file, words in zip(files[1:], ('It has 2 sectors more than game.bin.', 'It has another tail than game.bin.')):
             self.browser.give('#files', [file])
             self.browser.wait('#sheet', f'{words} Repair and Compare need the same length.')
-            self.assertEqual(self.browser.text('#sheet').split('\n')[-2:], ['Open it instead', 'Cancel'])
+            buttons = self.browser.run('return [...document.querySelectorAll("#sheet button")].map(it => it.innerText)')
+            self.assertEqual(buttons, ['Open it instead', 'Cancel'])
             self.browser.answer('Cancel')
         self.browser.give('#files', files[1:2])
         self.browser.answer('Open it instead')
