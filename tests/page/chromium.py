@@ -134,6 +134,12 @@ class Chromium:
         for kind in ('dragEnter', 'dragOver', 'drop'):
             self.cdp('Input.dispatchDragEvent', type=kind, x=x, y=y, data=data)
 
+    def answer(self, text: str = '') -> None:
+        """Presses a button of the sheet that asks: the one that begins with this text, or the main one."""
+        found = """return [...document.querySelectorAll("#sheet[open] button")].find(it =>
+            arguments[0] ? it.innerText.startsWith(arguments[0]) : it.classList.contains("main"))"""
+        waited(lambda: self.run(found, text), f'the sheet has no button {text}').click()
+
     def downloaded(self, name: str, seconds: float = PATIENCE) -> Path:
         """A file that was downloaded under this name, as soon as it is whole: an empty one keeps its place until then."""
         path = self.downloads / name

@@ -116,9 +116,10 @@ class Model:
             return False
         if self.image:
             self.second = name
+            self.panel = 'disc'
         else:
             self.image = name
-        self.panel = 'disc'
+            self.panel = 'disc' if self.text() == NEW else 'script'
         return True
 
     def begin(self, card: str, due: bytes) -> None:

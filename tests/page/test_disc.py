@@ -136,7 +136,7 @@ class Disc(unittest.TestCase):
         sheet.write_text(''.join(f'FILE "game (Track {i}).bin" BINARY\n  TRACK 0{i} {kind}\n    INDEX 01 00:00:00\n'
                                  for i, kind in ((1, 'MODE1/2352'), (2, 'AUDIO'))))
         self.browser.give('#files', [sheet])
-        self.browser.wait('.say.bad', 'Select or drop the cue sheet and these together:')
+        self.browser.wait('.say.bad', 'game.cue also needs game (Track 1).bin, game (Track 2).bin.')
         self.assertIn('game (Track 1).bin, game (Track 2).bin', self.browser.text('.say.bad'))
 
     def test_what_is_no_raw_image_is_named_with_what_to_do(self) -> None:
@@ -226,7 +226,7 @@ class Disc(unittest.TestCase):
     def test_two_files_of_one_name_are_refused(self) -> None:
         browser = self.browser
         browser.give('#files', [file_of(discs.game()), file_of(scratched())])
-        browser.wait('.say.bad', 'Two of these files have one name')
+        browser.wait('.say.bad', 'Two of these files have the same name')
 
     def test_a_file_that_is_gone_is_said(self) -> None:
         path = file_of(discs.game())
@@ -273,7 +273,7 @@ class Disc(unittest.TestCase):
         browser.run("document.querySelector('#disc-line .lead button').focus()")
         browser.wait(VERDICT, 'Reading the disc')
         browser.press(Keys.ESCAPE)
-        browser.wait(VERDICT, 'and no further')
+        browser.wait(VERDICT, 'Stopped at')
         browser.run('letGo()')
         browser.wait('#disc-line .sha-wait', 'not\u00a0known')
         browser.click('#tab-publish')

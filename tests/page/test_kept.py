@@ -8,10 +8,13 @@ from pages import GATE, PICKER, PageTest, applied, patcher
 from selenium.webdriver.common.keys import Keys
 
 
-
 def repairable() -> tuple[bytes, bytes]:
     """A dump with two damaged sectors, and a sound one."""
     return common.damaged(common.damaged(discs.game(), 40), 60), discs.game()
+
+
+# Presses the button that closes the open image or the second one, in the part of the page with this name.
+CLOSE = 'document.getElementById(arguments[0]).querySelectorAll("button").forEach(it => { if (it.textContent.startsWith("Close")) it.click(); })'
 
 
 class Kept(PageTest):
@@ -32,6 +35,7 @@ class Kept(PageTest):
         files = discs.written(first=first, second=second, third=common.damaged(second, 90))
         self.open_image(files['first'])
         self.open_files(files['second'])
+        self.browser.answer('Repair first.bin from it')
         self.browser.wait('.tally', 'can be repaired')
         self.begins('Save repaired image')
         return files
@@ -65,11 +69,10 @@ class Kept(PageTest):
 
     def test_no_button_ends_the_saving_of_a_repaired_image_but_its_own(self) -> None:
         self.repairs()
-        self.press('Close it')
-        self.browser.wait('#messages .say.warn', 'An image is being saved.')
+        for card, place in (('disc-line', '#messages'), ('panel-disc', '#panel-disc .said')):
+            self.browser.run(CLOSE, card)
+            self.browser.wait(f'{place} .say.warn', 'An image is being saved.')
         self.press('Open it instead')
-        self.browser.run("document.querySelector('#second-body .btn.main').click()")
-        self.press('Repair from it')
         self.press('Change')
         self.press('Set')
         self.assertEqual(self.browser.text('#disc-line .name'), 'first.bin')
@@ -85,6 +88,7 @@ class Kept(PageTest):
         self.open_files(cue, files['first'], files['later'])
         self.wait_for_hash()
         self.open_files(files['second'])
+        self.browser.answer('Repair first.bin from it')
         self.browser.wait('.tally', 'can be repaired')
         self.begins('Save repaired image')
         self.browser.run('const it = document.querySelector("#disc-line select"); it.value = "2"; it.dispatchEvent(new Event("change"))')
@@ -183,7 +187,7 @@ class Kept(PageTest):
         self.browser.wait('#verdict', 'right disc')
         self.begins('Patch and save')
         self.press('Open this in the full cdpatch')
-        self.browser.wait('#messages .say.warn', 'An image is being saved.')
+        self.browser.wait('#player .say.warn', 'An image is being saved.')
         self.ends_well(made)
         self.browser.wait('#saved', 'Saved:')
 
@@ -228,7 +232,7 @@ class Kept(PageTest):
         self.assertEqual(self.browser.run('return document.querySelectorAll("#messages .progress").length'), 0)
         self.browser.run('openGate()')
         undo = self.browser.downloaded('english (undo).txt')
-        self.browser.wait('#messages .say.good', 'Saved: english (undo).txt')
+        self.browser.wait('#panel-script .said .say.good', 'Saved: english (undo).txt')
         _, _, patched = applied(files['game'], files['english'])
         self.assertEqual(applied(discs.written(patched=patched)['patched'], undo)[2], discs.game())
         self.assertEqual(self.browser.run('return document.querySelectorAll("#panel-script .progress").length'), 0)
@@ -274,6 +278,7 @@ class Kept(PageTest):
         files = discs.written(game=discs.game(), other=discs.scratched())
         self.open_image(files['game'])
         self.open_files(files['other'])
+        self.browser.answer('Compare')
         self.browser.wait('#second-title', 'other.bin')
         self.browser.click('#tab-text')
         self.browser.run('''const post = Worker.prototype.postMessage; globalThis.late = [];
@@ -283,7 +288,6 @@ class Kept(PageTest):
         self.browser.wait('#panel-text .progress')
         self.browser.click('#tab-disc')
         self.press('Open it instead')
-        self.browser.run("document.querySelector('#second-body .btn.main').click()")
         self.browser.wait('#disc-line .name', 'other.bin')
         self.browser.click('#tab-text')
         self.browser.run('late.forEach(it => it())')

@@ -87,6 +87,9 @@ class Layout(PageTest):
             image[block * 2352 + 400] ^= 1
         other.write_bytes(image)
         self.open_files(other)
+        self.browser.wait('#sheet', 'Compare')
+        self.judge('asked')
+        self.browser.answer('Repair')
         self.browser.wait('.tally', 'cannot be repaired')
         self.browser.wait('[aria-label^="Cannot be repaired"]')
         self.judge('repair')

@@ -179,7 +179,7 @@ class Player(PageTest):
         self.press('Patch and save')
         self.assertEqual(self.browser.downloaded('Starlit (English).bin').read_bytes(), result())
         self.browser.wait('#player', 'the SHA-1 is the same')
-        self.browser.wait('#player', f'It must have {len(discs.game()):,} bytes.')
+        self.browser.wait('#player', '1 MB. Keep this page open until the download is complete.')
 
     def test_another_dump_that_the_patch_fits(self) -> None:
         other = common.damaged(discs.game(), 150)

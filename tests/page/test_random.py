@@ -129,6 +129,7 @@ class Random(PageTest):
         elif fresh:
             self.wait_for_hash()
         else:
+            self.browser.answer('Repair')
             self.browser.wait('#second-body .tally, #second-body .say.good')
 
     def give_script(self) -> None:
@@ -300,18 +301,16 @@ class Random(PageTest):
     # ---- two images
 
     def close_second(self) -> None:
-        self.press('Close it')
+        self.browser.run('document.querySelector("[aria-labelledby=second-title] header button:last-child").click()')
         if self.model.saving:
-            self.browser.wait('#messages .say.warn', 'An image is being saved.')
+            self.browser.wait('#panel-disc .said .say.warn', 'An image is being saved.')
         else:
             self.model.second = ''
 
     def open_instead(self) -> None:
         self.press('Open it instead')
-        self.browser.run('document.querySelector("#second-body .btn.main").click()')
         if self.model.saving:
-            self.browser.wait('#messages .say.warn', 'An image is being saved.')
-            self.press('Repair from it')
+            self.browser.wait('#panel-disc .said .say.warn', 'An image is being saved.')
             return
         self.model.image, self.model.second = self.model.second, ''
         self.browser.wait('#disc-line .name', self.model.image)
@@ -342,7 +341,7 @@ class Random(PageTest):
     def leave_player(self) -> None:
         self.press('Open this in the full cdpatch')
         if self.model.saving:
-            self.browser.wait('#messages .say.warn', 'An image is being saved.')
+            self.browser.wait('#player .say.warn', 'An image is being saved.')
         else:
             self.model.panel = 'script'
 

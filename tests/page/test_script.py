@@ -37,7 +37,7 @@ class Script(PageTest):
         said = {line.split(': ', 1)[0]: line.split(': ', 1)[1] for line in text.split('\n')[:-2]}
         shown = {f"line {row.split('|')[0]}": row.split('|')[2] for row in self.rows() if row.split('|')[2]}
         self.assertEqual(shown, said)
-        self.assertIn('5 of 8 patches fit this image. The 3 others would be left out.', self.browser.text('#panel-script .side'))
+        self.assertIn('english.txt: 5 of 8 changes fit game.bin, 3 do not.', self.browser.text('#panel-script .side'))
 
     def test_apply_saves_what_the_program_writes(self) -> None:
         files = discs.written(game=discs.scratched() + b'tail', english=discs.refused())
@@ -107,6 +107,7 @@ class Script(PageTest):
         saved.write_bytes(applied(files['game'], files['english'])[2])
         self.browser.drop('#panel-script', [saved])
         self.press('Open it')
+        self.browser.answer('Compare')
         self.browser.wait('#second-title', 'game (patched).bin')
 
     def test_what_was_saved_makes_way_for_check_if_the_script_changes(self) -> None:

@@ -40,8 +40,8 @@ class Second(unittest.TestCase):
         self.browser.wait('#open-files')
         self.browser.attempts()
 
-    def pair(self, first: bytes, second: bytes) -> tuple[Path, Path]:
-        """Two files, which are opened one after the other."""
+    def pair(self, first: bytes, second: bytes, shown: tuple[str, str] = ('#second-title', 'other.bin')) -> tuple[Path, Path]:
+        """Two files, which are opened one after the other, and what the main button of the sheet does with them."""
         place = folder('pair')
         paths = place / 'game.bin', place / 'other.bin'
         for path, data in zip(paths, (first, second)):
@@ -50,7 +50,8 @@ class Second(unittest.TestCase):
         browser.give('#files', paths[:1])
         browser.wait('#disc-line .lead', 'Mode 1')
         browser.give('#files', paths[1:])
-        browser.wait('#second-title', 'other.bin')
+        browser.answer()
+        browser.wait(*shown)
         return paths
 
     def press(self, label: str) -> None:
@@ -107,7 +108,7 @@ class Second(unittest.TestCase):
     def test_another_disc_is_not_taken_for_a_dump_of_the_same(self) -> None:
         other = b''.join(sector(block, b'%d other' % block) for block in range(SECTORS - 30)) + AUDIO
         self.pair(with_faults((40, 9)), other)
-        self.browser.wait('#second-body .say.bad', 'no dump of the same disc')
+        self.browser.wait('#second-body .say.bad', 'not dumps of the same disc')
         self.assertFalse(self.browser.run(f'return Boolean({BUTTON})', 'Save repaired image'))
 
     def sees_what_differs(self, first: bytes, second: bytes, block: int) -> None:
@@ -135,26 +136,25 @@ class Second(unittest.TestCase):
         self.sees_what_differs(first, bytes(second), 70)
         self.assertEqual(self.legend('differ'), 3)
         self.browser.wait('[aria-label="Bytes that differ, by field"]', '70')
-        self.press('Write the script')
         self.press('Save the script')
         script = self.browser.downloaded('other (changes).txt')
+        self.browser.wait('#second-body .say.good', 'The script has 3 patches.')
         out = path.parent / 'new.bin'
         self.assertEqual(run_program('apply', path, script, out)[0], 0)
         self.assertEqual(out.read_bytes(), bytes(second))
-        self.press('Put it into the panel Script')
-        self.browser.wait('#panel-script', 'other (changes).txt')
+        self.press('Open in Script')
+        self.browser.wait('#panel-script .say.good', 'other (changes).txt: 3 changes, all fit game.bin.')
         script.unlink()
 
     def test_damage_of_the_second_is_named_and_left_out_only_if_asked(self) -> None:
         first = with_faults()
         path, _ = self.pair(first, with_faults((33, 5), (44, 5)))
         self.assertEqual(self.tally(), [2, 0, 2])
-        self.press('Write the script')
+        self.press('Save the script')
         self.browser.wait('#second-body .say.bad', 'the second image is damaged in blocks 33 and 44')
-        self.assertFalse(self.browser.run(f'return Boolean({BUTTON})', 'Save the script'))
+        self.assertEqual([*self.browser.downloads.iterdir()], [])
         self.press('Leave these 2 out')
         self.browser.wait('#second-body .say.warn', 'gives this image but for blocks 33 and 44, which it leaves as they are.')
-        self.press('Save the script')
         script = self.browser.downloaded('other (changes).txt')
         self.assertEqual(script.read_text(), 'cdpatch 1\n')
         script.unlink()
@@ -170,24 +170,32 @@ class Second(unittest.TestCase):
     def test_audio_that_differs_is_no_script(self) -> None:
         self.pair(with_faults(), discs.game() + AUDIO[:-1] + bytes([AUDIO[-1] ^ 1]))
         self.assertEqual(self.tally(), [1, 1, 0])
-        self.press('Write the script')
+        self.press('Save the script')
         self.browser.wait('#second-body .say.bad', f'nosync in block {SECTORS - 1}, and a script changes only mode1')
 
     def test_another_length_can_only_be_opened_instead(self) -> None:
-        _, other = self.pair(with_faults(), with_faults() + AUDIO[:2 * SECTOR_SIZE])
-        self.browser.wait('#second-body .say', 'The second image has 2 sectors more')
-        self.press('Repair from it')
-        self.browser.wait('#second-body .say', 'Repair and Compare need the same length')
-        self.press('Open it instead')
-        self.browser.run("document.querySelector('#second-body .btn.main').click()")
-        self.browser.wait('#disc-line .name', other.name)
+        place = folder('lengths')
+        files = [place / 'game.bin', place / 'more.bin', place / 'tail.bin']
+        for file, more in zip(files, (b'', AUDIO[:2 * SECTOR_SIZE], b'tail')):
+            file.write_bytes(with_faults() + more)
+        self.browser.give('#files', files[:1])
+        self.browser.wait('#disc-line .lead', 'Mode 1')
+        for file, words in zip(files[1:], ('It has 2 sectors more than game.bin.', 'It has another tail than game.bin.')):
+            self.browser.give('#files', [file])
+            self.browser.wait('#sheet', f'{words} Repair and Compare need the same length.')
+            buttons = self.browser.run('return [...document.querySelectorAll("#sheet button")].map(it => it.innerText)')
+            self.assertEqual(buttons, ['Open it instead', 'Cancel'])
+            self.browser.answer('Cancel')
+        self.browser.give('#files', files[1:2])
+        self.browser.answer('Open it instead')
+        self.browser.wait('#disc-line .name', 'more.bin')
         self.assertFalse(self.browser.run("return document.querySelector('#second-title').checkVisibility()"))
 
     def test_an_image_of_another_part_of_the_disc_is_said_to_be_that(self) -> None:
         first = b''.join(sector(block, b'%d' % block) for block in range(40))
         second = b''.join(sector(1000 + block, b'%d' % block) for block in range(40))
         self.pair(damaged(first, 5), second)
-        self.browser.wait('#messages .say.bad', 'they are not the same part of a disc')
+        self.browser.wait('#second-body .say.bad', 'they are not the same part of a disc')
         self.browser.wait('#second-body', 'Nothing was found out.')
 
     def test_every_control_has_a_name_and_nothing_is_sent(self) -> None:
@@ -212,9 +220,10 @@ class Second(unittest.TestCase):
                 else post.apply(this, given);
             }''')
         browser.give('#files', [place / 'other.bin'])
+        browser.answer('Compare')
         browser.wait('#second-body .progress')
         waited(lambda: browser.run('return ranges > 0'), 'nothing is compared')
-        self.press('Close it')
+        self.browser.run('document.querySelector("[aria-labelledby=second-title] header button:last-child").click()')
         begun = browser.run('const [first] = [late]; late = null; first.forEach(it => it()); return first.length')
         browser.click('#tab-text')
         browser.type('#find-text', 'no such text')

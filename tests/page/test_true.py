@@ -34,6 +34,7 @@ class Sayings(PageTest):
         files = discs.written(first=first, second=second)
         self.open_image(files['first'])
         self.open_files(files['second'])
+        self.browser.answer()
         self.browser.wait('#second-title', 'second.bin')
         return files
 
@@ -70,13 +71,14 @@ class Sayings(PageTest):
         file = discs.written(game=common.damaged(discs.game(), 40))['game']
         self.open_image(file)
         self.open_files(file)
-        self.browser.wait('[aria-labelledby=second-title] .say.warn', 'This is the open image itself.')
+        self.browser.wait('#sheet', 'This is the open image itself.')
 
     def test_a_file_that_is_listed_late_is_named_all_the_same(self) -> None:
         image = common.damaged(discs.game(), discs.first_block())
         files = discs.written(first=image, second=image)
         self.browser.run(LATE_FILES)
         self.open_files(files['first'], files['second'])
+        self.browser.answer('Repair first.bin from it')
         self.browser.wait('[aria-label="Cannot be repaired: 1"] td', str(discs.first_block()))
         self.assertNotIn('in no file', self.browser.text('[aria-label="Cannot be repaired: 1"]'))
         self.browser.run('openFiles()')

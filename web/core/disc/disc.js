@@ -47,7 +47,7 @@ export function discFault(message) {
  */
 function missingFiles(sheet, file, names) {
     const found = `${sheet} names ${file}.`;
-    return new Fault(`${found} Put it beside the cue sheet, or open both together.`, FAULT.MISSING_FILES, { found, names });
+    return new Fault(`${found} Put it beside the cue sheet, or open both together.`, FAULT.MISSING_FILES, { found, names, sheet });
 }
 
 /**

@@ -75,6 +75,12 @@ export class ScriptLines extends ScriptModel {
         return isLost ? bringBack : null;
     }
 
+    /** Begins anew, with nothing to take back. */
+    clear() {
+        this.replace(`${HEAD}\n`, '');
+        Object.assign(this, { done: [], undone: [] });
+    }
+
     /**
      * Takes a text of which no line is shown, in place of all lines. They come back by `leaveLong`, or when another text is taken.
      * @param {string} text

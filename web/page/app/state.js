@@ -5,6 +5,7 @@ import { Store } from './store.js';
 /** @typedef {import('../../core/disc/disc.js').Disc} Disc */
 /** @typedef {import('../../core/disc/disc.js').DiscImage} DiscImage */
 /** @typedef {import('./marks.js').SurveyMarks} SurveyMarks */
+/** @typedef {import('../ui/fill.js').Child} Child */
 
 /** What the page is made of, which the joined page and a served one get in different ways. */
 /** @typedef {{ module: WebAssembly.Module, newWorker: () => Worker, made: string[] }} Parts */
@@ -25,22 +26,32 @@ import { Store } from './store.js';
  */
 
 /**
- * What happens: an image was opened or closed (`image`); more of it was surveyed (`survey`), or all (`surveyed`); more of it was hashed
- * (`hash`, with how many bytes, or -1 if nobody goes on with it); its files are known (`files`); there is a second image, or none any more
- * (`second`); a place was chosen (`place`); the script has changed (`script`, with what brings the last one back if that is in no file,
- * or null if it was typed in the panel Script); one of its lines was chosen (`line`, from 0); the encoding was chosen, or a table is new
+ * What happens: an image was opened or closed (`image`), or closed with all that was done with it (`closed`); more of it was surveyed
+ * (`survey`), or all (`surveyed`); more of it was hashed (`hash`, with how many bytes, or -1 if nobody goes on with it); its files are
+ * known (`files`); there is a second image, or none any more (`second`, with what is done with it first); a place was chosen (`place`);
+ * the script has changed (`script`, with what brings the last one back if that is in no file, or null if it was typed in the panel
+ * Script), or is to be checked (`check`); one of its lines was chosen (`line`, from 0); the encoding was chosen, or a table is new
  * (`encoding`); another panel is shown (`panel`); the data of a patcher are to be worked on (`patcher`).
- * @typedef {'image' | 'survey' | 'surveyed' | 'hash' | 'files' | 'second' | 'place' | 'script' | 'line' | 'encoding' | 'panel' |
- *     'patcher'} Happening
+ * @typedef {'image' | 'closed' | 'survey' | 'surveyed' | 'hash' | 'files' | 'second' | 'place' | 'script' | 'check' | 'line' | 'encoding' |
+ *     'panel' | 'patcher'} Happening
  */
 
 /**
- * What parts of the page do for all: `open` opens files, as if they were dropped; `takeBackBytes` takes back the bytes that were typed last
- * in a sector, if it can.
- * @typedef {{ open: (files: File[]) => Promise<void>, takeBackBytes: () => boolean }} Services
+ * What files are opened for: a job of the start, to be looked at, or '' for nothing that was said.
+ * @typedef {'' | 'play' | 'translate' | 'repair' | 'look'} Aim
+ */
+
+/**
+ * What parts of the page do for all: `open` opens files, as if they were dropped; `choose` lets the user choose them; `dropSays`
+ * says what becomes of files that are dropped; `takeBackBytes` takes back the bytes that were typed last in a sector, if it can.
+ * @typedef {{ open: (files: File[], aim: Aim) => Promise<void>, choose: (aim: Aim) => void, dropSays: () => Child[],
+ *     takeBackBytes: () => boolean }} Services
  */
 
 /** @typedef {'disc' | 'text' | 'script' | 'publish'} PanelName */
+
+/** What is done with two images. */
+/** @typedef {'repair' | 'compare'} PairJob */
 
 export const PANELS = Object.freeze(/** @type {PanelName[]} */ (['disc', 'text', 'script', 'publish']));
 
@@ -106,6 +117,21 @@ export class App extends Store {
         const images = [this.image, this.second].flatMap(image => image || []);
         return images.flatMap(({ disc, from, sheet }) => [...disc.files.map(({ name, reader }) => ({ name, size: reader.size })),
             ...from === '' ? [] : [{ name: from, size: sheet.length }]]);
+    }
+
+    /** Closes the image and all that was done with it: the page is as at its start. */
+    close() {
+        this.setImage(null);
+        this.script.clear();
+        this.tell('script', { back: null });
+        this.tell('closed');
+        this.showPanel('disc');
+    }
+
+    /** Shows the script, and has it checked on the open image. */
+    checkScript() {
+        this.showPanel('script');
+        this.tell('check');
     }
 
     /** Ends the jobs with the second image. */

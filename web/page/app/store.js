@@ -10,8 +10,10 @@ import { ScriptLines } from './script_lines.js';
 /** @typedef {import('../../core/iso/files.js').VolumeFiles} VolumeFiles */
 /** @typedef {import('../../core/module/calls.js').Calls} Calls */
 /** @typedef {import('../../core/texts/encoding.js').Encoding} Encoding */
+/** @typedef {import('./state.js').Aim} Aim */
 /** @typedef {import('./state.js').Happening} Happening */
 /** @typedef {import('./state.js').Image} Image */
+/** @typedef {import('./state.js').PairJob} PairJob */
 /** @typedef {import('./state.js').PanelName} PanelName */
 /** @typedef {import('./state.js').Parts} Parts */
 /** @typedef {import('./state.js').Services} Services */
@@ -53,7 +55,7 @@ export class Store {
         /** Ends what is done with the second image. */
         this.pairing = new AbortController();
         /** @type {Services} */
-        this.services = { open: async () => {}, takeBackBytes: () => false };
+        this.services = { open: async () => {}, choose: () => {}, dropSays: () => [], takeBackBytes: () => false };
         /** @type {((file: File) => Promise<boolean>)[]} */
         this.takers = [];
         /** When the survey was last told of. */
@@ -86,9 +88,17 @@ export class Store {
         return () => { this.services = before; };
     }
 
-    /** @param {File[]} files to be opened, as if they were dropped */
-    open(files) {
-        return this.services.open(files);
+    /**
+     * @param {File[]} files to be opened, as if they were dropped
+     * @param {Aim} [aim]
+     */
+    open(files, aim = '') {
+        return this.services.open(files, aim);
+    }
+
+    /** @param {Aim} aim for which the user is to choose files */
+    choose(aim) {
+        this.services.choose(aim);
     }
 
     /** Takes back the bytes that were typed last in a sector, if it can. */
@@ -116,10 +126,13 @@ export class Store {
         return this.reading.signal;
     }
 
-    /** @param {Image | null} second */
-    setSecond(second) {
+    /**
+     * @param {Image | null} second
+     * @param {PairJob} [job] what is done with it first
+     */
+    setSecond(second, job = 'compare') {
         this.second = second;
-        this.tell('second');
+        this.tell('second', job);
     }
 
     /**

@@ -4,7 +4,7 @@ import { SECTOR_KIND } from '../../core/module/records.js';
 import { auditText, kindRuns, listText, surveyCounts } from '../../core/sectors/survey.js';
 import { MARK, SURVEY_LOOKS } from '../app/index.js';
 import { downloadText } from '../save/index.js';
-import { button, copyText, countOf, counted, element, fill, keyed, oneStop, term } from '../ui/index.js';
+import { button, copyButton, countOf, counted, element, fill, keyed, oneStop, term } from '../ui/index.js';
 import { placeGuess, placeWords, placesOf } from './places.js';
 import { addressOf, findingAt, modeOneSectors } from './sector_text.js';
 
@@ -42,7 +42,7 @@ export class Findings {
         this.tabs = element('div', { class: 'seg', role: 'tablist', 'aria-label': 'Findings, runs, text' });
         this.body = element('div', { class: 'scroll fit', id: 'findings-body', role: 'tabpanel' });
         this.foot = element('p', { class: 'foot' });
-        const tools = element('span', { class: 'row to-end' }, button('slim bare', () => copyText(this.report()), 'Copy'),
+        const tools = element('span', { class: 'row to-end' }, copyButton('slim bare', () => this.report(), 'Copy', ' the report'),
             button('slim bare', () => downloadText(this.report(), `${this.reportName()}.txt`), 'Save…'));
         this.part = element('section', { class: 'card', id: 'findings', 'aria-label': 'Findings and runs' },
             element('header', {}, this.tabs, tools), this.body, this.foot);

@@ -22,7 +22,7 @@ export function mountDisc(app, panel) {
     app.on('surveyed', () => disc.findings.draw());
     app.on('image', () => disc.begin());
     app.on('place', ({ show, comes }) => disc.drawPlace(show, comes));
-    app.on('second', () => disc.second.begin());
+    app.on('second', job => disc.second.begin(job));
 }
 
 class DiscPanel {

@@ -3,7 +3,7 @@
 import { RECORD, SECTOR_KIND } from '../../core/module/records.js';
 import { SECTOR_SIZE, USER_OFFSET, USER_SIZE, addressIn, addressText } from '../../core/sectors/sector.js';
 import { MARK } from '../app/index.js';
-import { announce, button, byId, element, fill, isDisabled, setDisabled, term } from '../ui/index.js';
+import { announce, button, element, fill, isDisabled, setDisabled, term } from '../ui/index.js';
 import { addressOf } from './sector_text.js';
 
 /** @typedef {import('../app/state.js').App} App */
@@ -61,7 +61,7 @@ function crossingWords({ crossings, columns, ofColumns, diagonals, ofDiagonals }
 function remedies(app, block) {
     const word = () => element('span', { class: 'mono' }, 'rebuild');
     const rebuild = button('slim', () => addRebuild(app, block, rebuild), 'Add ', word(), ' to the script');
-    const repair = button('slim main', () => byId('files').click(), 'Repair from another dump…');
+    const repair = button('slim main', () => app.choose('repair'), 'Repair from another dump…');
     return [element('div', { class: 'row' }, repair, rebuild), element('p', { class: 'small quiet' }, word(),
         ' makes the sector valid with the bytes as they are. If these are wrong, it hides the damage for good.')];
 }
@@ -113,5 +113,5 @@ function otherKind(app, block, sector) {
     }
     return element('div', { class: 'say bad thin' }, element('b', {}, `This sector ${what}, and Mode 1 lies around it.`),
         'So it has probably lost its sync field or its mode. No patch can mend that: a whole sector from another dump can.',
-        element('div', { class: 'row' }, button('slim main', () => byId('files').click(), 'Repair from another dump…')));
+        element('div', { class: 'row' }, button('slim main', () => app.choose('repair'), 'Repair from another dump…')));
 }

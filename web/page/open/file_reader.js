@@ -40,3 +40,12 @@ export function fileReader(file) {
 export function fileOf(reader) {
     return 'file' in reader ? /** @type {Reader & { file: File }} */ (reader).file : null;
 }
+
+/**
+ * Whether two files are one, as far as a page can see.
+ * @param {File} one
+ * @param {File} other
+ */
+export function isSameFile(one, other) {
+    return one.name === other.name && one.size === other.size && one.lastModified === other.lastModified;
+}

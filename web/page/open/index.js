@@ -1,5 +1,5 @@
 // Opening files.
 
-export { fileOf, fileReader } from './file_reader.js';
+export { fileOf, fileReader, isSameFile } from './file_reader.js';
 export { imageOfTrack, mountOpening } from './open.js';
 export { changeBase, readImage } from './survey_image.js';

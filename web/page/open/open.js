@@ -1,4 +1,4 @@
-// Opening files: by the button, or dropped on the page. What each file is decides what becomes of it.
+// Opening files. What each file is decides what becomes of it.
 
 import { readBytes } from '../../core/bytes.js';
 import { dataTrack, discFault, openDisc } from '../../core/disc/disc.js';
@@ -8,13 +8,16 @@ import { MOST_SCRIPT_BYTES } from '../../core/module/records.js';
 import { isMeantAsScript, isScript } from '../../core/script/script_start.js';
 import { MOST_SECTORS, SECTOR_SIZE, imageTooLong, sectorCount } from '../../core/sectors/sector.js';
 import { textOfFile } from '../../core/texts/encodings.js';
-import { byId, clearNotices, copyable, counted, element, messageParts, nameOf, namesOf, refuseWhileSaving } from '../ui/index.js';
+import { byId, copyable, counted, element, endMessages, messageParts, nameOf, namesOf, refuseWhileSaving } from '../ui/index.js';
 import { showFailure, showNotice } from '../ui/index.js';
+import { mountChoosing } from './choosing.js';
 import { exampleFile } from './example.js';
 import { fileReader } from './file_reader.js';
+import { takeSecond } from './second_sheet.js';
 import { readImage } from './survey_image.js';
 
 /** @typedef {import('../../core/disc/disc.js').Disc} Disc */
+/** @typedef {import('../app/state.js').Aim} Aim */
 /** @typedef {import('../app/state.js').App} App */
 /** @typedef {import('../app/state.js').Image} Image */
 
@@ -22,65 +25,70 @@ const SCRIPT_START = 1 << 16;
 
 /** @param {App} app */
 export function mountOpening(app) {
-    app.serve({ open: files => openFiles(app, files) });
-    const input = /** @type {HTMLInputElement} */ (byId('files'));
-    const choose = () => input.click();
-    byId('open-files').addEventListener('click', choose);
-    byId('open-other').addEventListener('click', choose);
+    app.serve({ open: (files, aim) => openFiles(app, files, aim) });
+    mountChoosing(app);
     byId('open-example').addEventListener('click', () => app.open([exampleFile(app.calls)]));
-    input.addEventListener('change', () => {
-        const files = [...input.files || []];
-        input.value = '';
-        app.open(files);
-    });
-    listenForDrops(app);
-}
-
-/** @param {App} app */
-function listenForDrops(app) {
-    const over = (/** @type {boolean} */ is) => { document.body.classList.toggle('over', is); };
-    document.addEventListener('dragover', event => {
-        event.preventDefault();
-        over(true);
-    });
-    document.addEventListener('dragleave', event => over(event.relatedTarget !== null));
-    document.addEventListener('drop', event => {
-        event.preventDefault();
-        over(false);
-        app.open([...(event.dataTransfer && event.dataTransfer.files) || []]);
-    });
 }
 
 /**
  * @param {App} app
  * @param {File[]} files
+ * @param {Aim} aim
  */
-async function openFiles(app, files) {
+async function openFiles(app, files, aim) {
     if (files.length === 0) return;
-    clearNotices();
+    endMessages();
+    const { services, image } = app;
     try {
-        const others = [];
-        for (const file of files) {
-            if (!await isTaken(app, file)) others.push(file);
-        }
-        if (others.length > 0) await openImages(app, others);
+        /** @type {string[]} */
+        const kinds = [];
+        for (const file of files) kinds.push(await takenAs(app, file));
+        const others = files.filter((_, i) => kinds[i] === '');
+        // A patcher among them is shown in place of the panels now, and takes the image.
+        if (app.services !== services) return await app.open(others);
+        const { sheet, second } = others.length === 0 ? NOTHING : await openImages(app, others);
+        showNext(app, aim, kinds.includes('script'), image === null);
+        sayLeftOut(others, sheet);
+        if (second !== null) await takeSecond(app, second, aim);
     } catch (error) {
         await showOpeningFailure(app, files, error);
+    }
+    return undefined;
+}
+
+/**
+ * Shows the panel with the next step: of a script and its image that it is checked, else that of a job.
+ * @param {App} app
+ * @param {Aim} aim
+ * @param {boolean} script whether a script was opened
+ * @param {boolean} image whether an image was, if there is one
+ */
+function showNext(app, aim, script, image) {
+    if (app.image === null || !(script || image)) return;
+    if (aim === 'translate') {
+        app.showPanel('text');
+        byId('find-text').focus();
+    } else if (['', 'play'].includes(aim) && (script || !app.script.isNew())) app.checkScript();
+    else if (aim === 'play') app.showPanel('script');
+    else {
+        app.showPanel('disc');
+        byId('map').focus();
     }
 }
 
 /**
- * Whether a file is a script, or something else than an image that a panel takes.
+ * As what a file is taken: a script, something else than an image, or '' if it may be an image.
  * @param {App} app
  * @param {File} file
+ * @returns {Promise<'script' | 'other' | ''>}
  */
-async function isTaken(app, file) {
+async function takenAs(app, file) {
     for (const take of app.takers) {
-        if (await take(file)) return true;
+        if (await take(file)) return 'other';
     }
     const start = file.size > MOST_SCRIPT_BYTES ? new Uint8Array(0) : await fileReader(file).read(0, SCRIPT_START);
     const text = new TextEncoder().encode(textOfFile(start));
-    if (!isScript(app.calls, text) && !isMeantAsScript(app.calls, text)) return false;
+    if (!isScript(app.calls, text) && !isMeantAsScript(app.calls, text)) return '';
     // The program reads no text with a mark of its encoding: what stands in the editor is in no file then.
     const marked = MARKS.find(({ bytes }) => bytes.every((byte, i) => byte === start[i]));
     app.setScript(textOfFile(await readBytes(fileReader(file), 0, file.size)), file.name, !marked);
@@ -89,39 +97,35 @@ async function isTaken(app, file) {
         showNotice('warn', ['This file is ', marked.name, ', which cdpatch does not read: ', nameOf(file.name)],
             'It was read here all the same. Save the script: then it is in plain UTF-8.');
     }
-    return true;
+    return 'script';
 }
 
 /** How editors mark the encoding of a text. */
 const MARKS = [{ name: 'UTF-8 with a mark', bytes: [0xEF, 0xBB, 0xBF] }, { name: 'UTF-16', bytes: [0xFF, 0xFE] },
     { name: 'UTF-16', bytes: [0xFE, 0xFF] }];
 
+/** That no image was opened of a cue sheet, and none as a second one. */
+const NOTHING = { sheet: /** @type {Image | null} */ (null), second: /** @type {Image | null} */ (null) };
+
 /**
- * Opens an image, or two; as the second image if one is open.
+ * Opens an image, or two. Returns the one that was opened of a cue sheet, and the one that is a second image, since one is open.
  * @param {App} app
  * @param {File[]} files
  */
 async function openImages(app, files) {
     const names = files.map(file => file.name);
-    if (refuseWhileSaving(app, names)) return;
+    if (refuseWhileSaving(app, names)) return NOTHING;
     const different = new Set(names.map(name => name.toLowerCase())).size;
-    if (different < names.length) throw discFault('Two of these files have one name. Open one of them.');
+    if (different < names.length) throw discFault('Two of these files have the same name. Open only one.');
     const two = files.length === 2 && (await Promise.all(files.map(file => isRawImage(app, file)))).every(it => it);
     if (two && app.image !== null) {
         throw discFault(`An image is open already: ${app.image.name}. Open one more, ${names.join(' or ')}, to compare it.`);
     }
     const images = [];
     for (const group of two ? [[files[0]], [files[1]]] : [files]) images.push(await openedImage(app, group));
-    if (app.image === null) {
-        readImage(app, images.shift() || null);
-        app.showPanel('disc');
-        byId('map').focus();
-    }
-    if (images.length > 0) {
-        app.setSecond(images[0]);
-        app.showPanel('disc');
-    }
-    sayLeftOut(files, two ? null : images[0] || app.image);
+    const sheet = two ? null : images[0];
+    if (app.image === null) readImage(app, images.shift() || null);
+    return { sheet, second: images[0] || null };
 }
 
 /**

@@ -250,7 +250,7 @@ export class Player {
         const refused = made.outcomes.filter(it => it.result !== RESULT.OK).length;
         const head = [streamed ? 'Saved: ' : 'Your browser is saving ', nameOf(name)];
         const same = sha1 !== '' && 'It is exactly the image that the author made: the SHA-1 is the same.';
-        const wait = !streamed && `It must have ${counted(size)} bytes. Keep this page open until it has.`;
+        const wait = !streamed && `${counted(Math.ceil(size / 1e6))} MB. Keep this page open until the download is complete.`;
         const left = refused > 0 && `${countOf(refused, 'change')} left out.`;
         const unknown = verdict === 'unknown' && 'Nothing has shown whether the patch fits this disc.';
         const tone = refused > 0 || unknown ? 'warn' : 'good';

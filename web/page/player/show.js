@@ -1,7 +1,7 @@
 // A patcher is shown as players see it, in place of the panels, until they open it in the full page.
 
 import { changeBase } from '../open/index.js';
-import { button, byId, element, fill, refuseWhileSaving, seenTitle, stemOf } from '../ui/index.js';
+import { button, byId, element, fill, refuseWhileSaving, said, seenTitle, stemOf } from '../ui/index.js';
 import { Player } from './player.js';
 
 /** @typedef {import('../app/state.js').App} App */
@@ -20,9 +20,11 @@ export function showPlayer(app, data, how) {
     document.body.classList.add('player');
     home.data = 'A patcher made with cdpatch';
     const player = new Player(app, data, how, place);
-    const giveBack = app.serve({ open: files => player.open(files) });
+    const dropSays = () => ['Drop your disc image: it is checked, and not changed.'];
+    const giveBack = app.serve({ open: files => player.open(files), dropSays });
+    const refused = said();
     const leave = async (/** @type {boolean} */ full) => {
-        if (refuseWhileSaving(app)) return undefined;
+        if (refuseWhileSaving(app, [], refused)) return undefined;
         player.stop();
         giveBack();
         document.body.classList.remove('player');
@@ -41,6 +43,6 @@ export function showPlayer(app, data, how) {
     };
     document.title = seenTitle(data.title);
     place.append(element('p', { class: 'row center' }, how.back && button('slim', () => void leave(false), 'Back to Publish'),
-        button('slim bare', () => void leave(true), 'Open this in the full cdpatch')));
+        button('slim bare', () => void leave(true), 'Open this in the full cdpatch')), refused);
     window.scrollTo(0, 0);
 }

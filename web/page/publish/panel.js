@@ -4,7 +4,7 @@ import { sha1Of } from '../app/index.js';
 import { isImageName, isPlainSheet, isSeen, patcherText, publishedSource, showPlayer } from '../player/index.js';
 import { download, sheetNaming } from '../save/index.js';
 import { askBeforeLeaving, button, countOf, element, fill, hashParts, isCancelled, isDisabled, jobBar, nameOf } from '../ui/index.js';
-import { notice, seenTitle, sentence, setDisabled, stemOf, term } from '../ui/index.js';
+import { notice, said, sayAt, seenTitle, sentence, setDisabled, stemOf, term } from '../ui/index.js';
 import { proposedName, triedOn } from './trial.js';
 
 /** @typedef {import('../app/state.js').App} App */
@@ -43,12 +43,14 @@ class PublishPanel {
         this.carry = element('input', { type: 'checkbox', id: 'patcher-carry', change: () => this.forget() });
         this.list = element('div', { class: 'stack tight', role: 'status' });
         this.state = element('div', { class: 'stack' });
+        this.said = said();
         this.save = button('main', () => this.publish(true), 'Save as a patcher…');
         this.see = button('', () => this.publish(false), 'See it as a player');
         panel.append(element('div', { class: 'two even' }, this.form(), element('div', { class: 'side' }, this.savingCard())));
-        askBeforeLeaving(() => this.edited);
+        askBeforeLeaving(() => this.edited, 'What you wrote under Publish is in no patcher yet.');
         app.on('panel', () => this.shown());
         app.on('patcher', data => this.take(data));
+        app.on('closed', () => this.take({ title: '', author: '', note: '', name: '', cue: 'offered', carry: false }));
         for (const name of /** @type {const} */ (['image', 'script'])) app.on(name, () => this.forget());
         for (const name of /** @type {const} */ (['hash', 'surveyed'])) app.on(name, () => this.shown());
     }
@@ -69,7 +71,7 @@ class PublishPanel {
     savingCard() {
         return element('section', { class: 'card', 'aria-label': 'Before you save' },
             element('header', {}, element('h2', {}, 'Before you save')),
-            element('div', { class: 'pad stack' }, this.list, this.state, element('div', { class: 'row' }, this.save, this.see),
+            element('div', { class: 'pad stack' }, this.list, this.state, element('div', { class: 'row' }, this.save, this.see), this.said,
                 element('p', { class: 'small quiet' },
                     'One .html file. It holds this page, your script, the texts and the hashes. It holds no image.'),
                 element('p', { class: 'say warn thin', id: 'no-licence' }, element('b', {}, 'No licence has been chosen for cdpatch yet.'),
@@ -77,7 +79,7 @@ class PublishPanel {
                 element('p', { class: 'small quiet' }, 'The script itself can be saved under Script.')));
     }
 
-    /** @param {...Child} parts of what became of a patcher */
+    /** @param {...Child} parts of how far a patcher has come */
     say(...parts) {
         fill(this.state, ...parts);
     }
@@ -89,7 +91,7 @@ class PublishPanel {
 
     /**
      * Takes over what a patcher says of itself, so that the next one can be made of it.
-     * @param {PatcherData} data
+     * @param {Pick<PatcherData, 'title' | 'author' | 'note' | 'name' | 'cue' | 'carry'>} data
      */
     take({ title, author, note, name, cue, carry }) {
         [this.title.value, this.author.value, this.note.value, this.name.value] = [title, author, note, name];
@@ -193,6 +195,7 @@ class PublishPanel {
         const { image } = app;
         if (image === null || tried === null || this.busy || isDisabled(this.save)) return;
         this.busy = true;
+        fill(this.said);
         try {
             await app.run(async (signal, cancel) => {
                 const bar = jobBar('Calculating the SHA-1 of the result', cancel);
@@ -205,7 +208,8 @@ class PublishPanel {
                 else showPlayer(app, data, { note: '', back: () => app.showPanel('publish') });
             });
         } catch (error) {
-            this.say(isCancelled(error) ? notice('plain', 'Cancelled.', 'No patcher was saved.')
+            this.say();
+            sayAt(this.said, isCancelled(error) ? notice('plain', 'Cancelled.', 'No patcher was saved.')
                 : notice('bad', sentence(error), 'No patcher was saved.'));
         } finally {
             this.busy = false;
@@ -240,7 +244,7 @@ class PublishPanel {
         const name = `${stemOf(data.title) || 'patcher'}.html`;
         download(new Blob([publishedSource(this.app.calls), await patcherText(this.app.calls, data)], { type: 'text/html' }), name);
         this.edited = false;
-        this.say(notice('good', ['Saved: ', nameOf(name)], 'Players open it with a double click, and drop their image there.'));
+        sayAt(this.said, notice('good', ['Saved: ', nameOf(name)], 'Players open it with a double click, and drop their image there.'));
     }
 }
 

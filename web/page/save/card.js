@@ -122,7 +122,7 @@ export class SaveCard {
         this.sayWhole = () => fill(this.said, notice(tone, ['Saved: ', nameOf(name), without], 'All other bytes are as before.'));
         if (streamed) this.sayWhole();
         else fill(this.said, notice(tone, ['Your browser is saving ', nameOf(name), without],
-            `It must have ${counted(size)} bytes. Keep this page open until it has.`));
+            'Keep this page open until the download is complete.'));
         this.app.noteSaved(image, name);
         const sheet = sheetNaming(image.sheet, image.renamed);
         const sheetName = image.disc.files.length > 1 ? patchedName(image.from) : name.replace(/(\.[^.]*)?$/, '.cue');
@@ -144,7 +144,7 @@ export class SaveCard {
     openNew({ blob, file, name }) {
         this.close();
         readImage(this.app, null);
-        this.app.open([file || new File([/** @type {Blob} */ (blob)], name)]);
+        this.app.open([file || new File([/** @type {Blob} */ (blob)], name)], 'look');
     }
 
     /**

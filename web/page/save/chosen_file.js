@@ -1,6 +1,6 @@
 // The file that a user chooses to be written: none of those that are open.
 
-import { fileOf } from '../open/index.js';
+import { fileOf, isSameFile } from '../open/index.js';
 import { shownName } from '../ui/index.js';
 import { chosenFile } from './files_out.js';
 import { workRefused } from './refused.js';
@@ -35,15 +35,6 @@ export async function chosenOther(name, readers, opened) {
  */
 function sameName(one, other) {
     return one.name.toLowerCase() === other.name.toLowerCase();
-}
-
-/**
- * Whether two files are one, as far as a page can see.
- * @param {File} one
- * @param {File} other
- */
-export function isSameFile(one, other) {
-    return one.name === other.name && one.size === other.size && one.lastModified === other.lastModified;
 }
 
 /**

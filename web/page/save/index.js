@@ -1,7 +1,6 @@
 // Checking and saving patched images, and giving files to the user.
 
 export { SaveCard, failureOfSaving } from './card.js';
-export { isSameFile } from './chosen_file.js';
 export { sheetNaming } from './cue_rewrite.js';
 export { download, downloadBytes, downloadText } from './files_out.js';
 export { assertNotTooLong, checkWork, saveWork, scriptFor, watched } from './patch_job.js';

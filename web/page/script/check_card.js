@@ -4,8 +4,10 @@ import { RESULT } from '../../core/module/records.js';
 import { SaveCard, adviceOf, checkWork } from '../save/index.js';
 import { announce, button, countOf, counted, element, fill, isCancelled, jobBar, messageOf, nameOf, notice } from '../ui/index.js';
 import { setDisabled, term } from '../ui/index.js';
+import { fitWords } from './fit_words.js';
 
 /** @typedef {import('../app/state.js').App} App */
+/** @typedef {import('../app/state.js').Image} Image */
 /** @typedef {import('../app/script_lines.js').ScriptLines} ScriptLines */
 /** @typedef {import('../../core/script/patches.js').Patched} Patched */
 /** @typedef {import('../ui/fill.js').Child} Child */
@@ -28,6 +30,9 @@ export class CheckCard {
         this.patched = /** @type {Patched | null} */ (null);
         this.seconds = 0;
         this.busy = false;
+        /** The check that runs, or has run last, and what ends it. */
+        this.running = Promise.resolve();
+        this.cancel = () => {};
         this.failure = /** @type {Child} */ (null);
         this.body = element('div', { class: 'pad stack' });
         this.head = element('header', {}, element('h2', {}, 'Check'));
@@ -40,6 +45,7 @@ export class CheckCard {
 
     /** What Check said and what was saved is that of another script, image or carry now. */
     outdate() {
+        this.cancel();
         this.patched = null;
         this.failure = null;
         this.saving.leave();
@@ -64,14 +70,17 @@ export class CheckCard {
         fill(this.head, element('h2', {}, 'Check'), this.patched && element('span', { class: 'tag' },
             `${this.seconds.toFixed(1)} s, status ${this.patched.status}`));
         fill(this.card, this.head, this.body);
-        if (this.app.image === null) return fill(this.body,
-            element('p', {}, 'Open the image that this script patches: then Check says what fits.'));
+        if (this.app.image === null) return fill(this.body, lines.faults > 0 && this.faults(),
+            element('p', {}, 'Open the image that this script patches.'),
+            element('div', { class: 'row' }, button('main', () => this.app.choose('play'), 'Open the image…')));
         const ready = lines.faults === 0 && lines.head >= 0;
         const check = button(this.patched ? '' : 'main', () => this.check(), this.patched ? 'Check again' : 'Check');
-        const apply = button(this.patched ? 'main' : '', () => this.apply(), 'Apply and save…');
+        const fits = this.patched !== null && this.patched.outcomes.some(it => it.result === RESULT.OK);
+        const apply = button(fits ? 'main' : '', () => this.apply(), 'Apply and save…');
         for (const it of [check, apply]) setDisabled(it, !ready);
-        return fill(this.body, this.failure, ...lines.faults > 0 ? [this.faults()] : this.outcomes(), this.carryRow,
-            element('div', { class: 'row' }, check, apply), element('p', { class: 'small quiet' }, ...this.footnote(ready)));
+        const said = lines.faults > 0 ? [this.faults()] : this.outcomes(apply);
+        const row = element('div', { class: 'row' }, check, !this.patched && apply);
+        return fill(this.body, this.failure, ...said, this.carryRow, row, element('p', { class: 'small quiet' }, ...this.footnote(ready)));
     }
 
     faults() {
@@ -88,8 +97,11 @@ export class CheckCard {
             element('div', { class: 'row' }, button('slim', () => goTo(wrong[0]), `Go to line ${wrong[0] + 1}`)));
     }
 
-    /** @returns {Child[]} */
-    outcomes() {
+    /**
+     * @param {HTMLElement} apply the button that stands beside what Check has said
+     * @returns {Child[]}
+     */
+    outcomes(apply) {
         const { lines } = this.owner;
         if (this.patched === null) {
             return [element('p', {}, lines.long ? 'Check says which patches fit this image. Nothing is changed.'
@@ -103,10 +115,12 @@ export class CheckCard {
         const tally = (/** @type {string} */ tone, /** @type {number} */ count, /** @type {string} */ word) =>
             element('div', { class: count > 0 ? tone : '' }, element('b', {}, counted(count)), word);
         const first = lines.nextWrong(lines.lines.length - 1, 1);
-        return [element('div', { class: 'tally' }, tally('good-ink', applied, 'would apply'),
-            tally('bad-ink', refused, 'refused')),
-            element('p', {}, sentenceOf(applied, refused)),
-            first < 0 ? null : element('div', { class: 'row' }, button('slim', () => this.owner.goTo(first), `Go to line ${first + 1}`))];
+        const { tone, head, rest } = this.fit(this.patched);
+        return [notice(tone, head, rest, element('div', { class: 'row' }, apply)),
+            element('div', { class: 'tally' }, tally('good-ink', applied, 'would apply'),
+                tally('bad-ink', refused, 'refused')),
+            first >= 0 && element('div', { class: 'row next' },
+                button('slim', () => this.owner.goTo(first), `Go to line ${first + 1}`))];
     }
 
     /**
@@ -128,15 +142,38 @@ export class CheckCard {
         return !this.busy && !this.saving.running && faults === 0 && head >= 0;
     }
 
+    /**
+     * How the script fits the image, in words.
+     * @param {Patched} patched
+     */
+    fit({ outcomes }) {
+        const fitting = outcomes.filter(it => it.result === RESULT.OK).length;
+        return fitWords(this.owner.lines.name, this.app.image ? this.app.image.name : '', fitting, outcomes.length);
+    }
+
     /** Checks the script on the image. */
-    async check() {
+    check() {
         const { image } = this.app;
+        if (image !== null && this.isFree()) this.running = this.checkOn(image);
+        return this.running;
+    }
+
+    /** Checks a script that was opened, after the check of what was there before it. What is next gets the focus if nothing has it. */
+    async checkAtOnce() {
+        await this.running;
+        await this.check();
+        const next = /** @type {HTMLElement | null} */ (this.card.querySelector('.next .btn, .say .btn'));
+        if (next && document.activeElement === document.body) next.focus({ preventScroll: true });
+    }
+
+    /** @param {Image} image */
+    async checkOn(image) {
         const { lines } = this.owner;
-        if (image === null || !this.isFree()) return;
         this.busy = true;
         const began = performance.now();
         try {
-            await this.app.run(async (signal, cancel) => {
+            await this.app.runOnImage(async (signal, cancel) => {
+                this.cancel = cancel;
                 const bar = jobBar('Checking', cancel);
                 fill(this.body, ...bar.parts);
                 const work = { reader: image.reader, base: image.base, script: lines.text(), carry: this.carry.checked };
@@ -162,8 +199,8 @@ export class CheckCard {
         this.owner.lines.setOutcomes(patched.outcomes);
         this.owner.log(patched.text);
         this.owner.redraw();
-        const applied = patched.outcomes.filter(it => it.result === RESULT.OK).length;
-        announce(sentenceOf(applied, patched.outcomes.length - applied));
+        const { head, rest } = this.fit(patched);
+        announce(`${element('p', {}, ...head).textContent} ${rest}`.trim());
     }
 
     /** Saves the patched image. */
@@ -176,19 +213,6 @@ export class CheckCard {
         if (made && this.app.image === image && work.script === lines.text()) this.take(made, this.seconds);
         this.draw();
     }
-}
-
-/**
- * @param {number} applied
- * @param {number} refused
- */
-function sentenceOf(applied, refused) {
-    const all = applied + refused;
-    if (all === 0) return 'The script has no patch: the saved image would be a copy.';
-    if (refused === 0) return all === 1 ? 'The patch fits this image.' : `All ${counted(all)} patches fit this image.`;
-    const others = refused === 1 ? 'The other would be left out.' : `The ${counted(refused)} others would be left out.`;
-    return applied === 0 ? 'No patch fits this image. Another release, another disc, or another base?' :
-        `${counted(applied)} of ${counted(all)} patches fit this image. ${others}`;
 }
 
 /**

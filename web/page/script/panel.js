@@ -2,8 +2,8 @@
 
 import { LONG } from '../app/index.js';
 import { downloadText } from '../save/index.js';
-import { askBeforeLeaving, button, byId, clearNotices, copyText, countOf, counted, element, fill, keyed, nameOf } from '../ui/index.js';
-import { notice, setDisabled, showNotice } from '../ui/index.js';
+import { askBeforeLeaving, button, byId, clearNotices, copyButton, countOf, counted, element, fill, keyed, nameOf } from '../ui/index.js';
+import { notice, said, setDisabled, showNotice } from '../ui/index.js';
 import { CheckCard } from './check_card.js';
 import { ScriptEditor } from './editor.js';
 import { listenToEditor, takeBackBytes, turnBack } from './editor_input.js';
@@ -43,15 +43,15 @@ class ScriptPanel {
         });
         this.strip = element('div', { class: 'explain', 'aria-live': 'off' });
         this.unshown = element('div');
-        this.undoing = element('div', { class: 'pad stack' });
+        this.undoing = { bar: element('div', { class: 'pad stack' }), said: said('pad') };
         this.head = element('header', {});
         this.log = element('section', { class: 'card', 'aria-label': 'Log', hidden: true });
         this.side = element('div', { class: 'side' });
         this.opening = element('input', { type: 'file', class: 'hide', tabindex: -1, 'aria-label': 'A script to open',
             change: () => this.open() });
         listenToEditor(this.editor);
-        panel.append(element('div', { class: 'two' }, element('section', { class: 'card', 'aria-label': 'Script' }, this.head,
-            this.undoing, this.unshown, this.editor.box, this.strip),
+        panel.append(element('div', { class: 'two script' }, element('section', { class: 'card', 'aria-label': 'Script' }, this.head,
+            this.undoing.bar, this.undoing.said, this.unshown, this.editor.box, this.strip),
             this.side), this.opening);
         panel.addEventListener('keydown', event => this.pressed(event));
         this.load(null);
@@ -60,9 +60,10 @@ class ScriptPanel {
 
     listen() {
         const { app } = this;
-        askBeforeLeaving(() => this.isLost());
+        askBeforeLeaving(() => this.isLost(), 'Your script is in no file yet.');
         app.serve({ takeBackBytes: () => takeBackBytes(this.editor) });
         app.on('line', line => this.goTo(line));
+        app.on('check', () => void this.check.checkAtOnce());
         app.on('script', change => change && this.load(change.back));
         app.on('image', () => {
             this.check.forget();
@@ -235,8 +236,7 @@ class ScriptPanel {
         const text = new TextDecoder().decode(bytes);
         const shown = text.length > MOST_LOG ? `${text.slice(0, text.lastIndexOf('\n', MOST_LOG))}\n…\n` : text;
         const command = element('span', { class: 'mono' }, 'cdpatch check');
-        fill(this.log, element('header', {}, element('h2', {}, 'Log'), button('slim bare', () => copyText(text), 'Copy',
-            element('span', { class: 'hide' }, ' the log')),
+        fill(this.log, element('header', {}, element('h2', {}, 'Log'), copyButton('slim bare', () => text, 'Copy', ' the log'),
             button('slim bare', () => downloadText(text, 'log.txt'), 'Save…', element('span', { class: 'hide' }, ' the log'))),
         element('div', { class: 'pad stack tight' }, element('pre', { class: 'log', tabindex: 0, 'aria-label': 'Log' }, shown),
             element('p', { class: 'small quiet' }, 'The same text as ', command,

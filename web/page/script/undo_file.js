@@ -5,34 +5,35 @@ import { Refusal } from '../../core/script/script.js';
 import { undoScript } from '../../core/script/undo.js';
 import { blocksText } from '../../core/sectors/runs.js';
 import { downloadBytes, watched } from '../save/index.js';
-import { element, fill, isCancelled, isDisabled, jobBar, nameOf, runAt, showFailure, showNotice } from '../ui/index.js';
+import { element, fill, isCancelled, isDisabled, jobBar, nameOf, notice, runAt, sayAt, sentence } from '../ui/index.js';
 
 /** @typedef {import('../app/state.js').App} App */
 /** @typedef {import('../app/state.js').Image} Image */
 /** @typedef {import('../app/script_lines.js').ScriptLines} ScriptLines */
+/** @typedef {{ bar: HTMLElement, said: HTMLElement }} UndoPlaces where the bar stands, and what became of it */
 
 /**
  * Saves the script that takes this one back.
  * @param {App} app
  * @param {Element} from the button
- * @param {HTMLElement} place where the bar stands
+ * @param {UndoPlaces} places
  * @param {ScriptLines} lines
  * @param {boolean} carry
  */
-export async function makeUndo(app, from, place, lines, carry) {
+export async function makeUndo(app, from, places, lines, carry) {
     const { image } = app;
     if (isDisabled(from) || image === null) return;
-    await runAt(place, () => makeUndoAt(app, image, place, lines, carry));
+    await runAt(places.bar, () => makeUndoAt(app, image, places, lines, carry));
 }
 
 /**
  * @param {App} app
  * @param {Image} image
- * @param {HTMLElement} place
+ * @param {UndoPlaces} places
  * @param {ScriptLines} lines which may be those of another script before the job ends
  * @param {boolean} carry
  */
-async function makeUndoAt(app, image, place, lines, carry) {
+async function makeUndoAt(app, image, { bar: place, said }, lines, carry) {
     const name = `${(app.script.name || 'script').replace(/\.[^.]*$/, '')} (undo).txt`;
     try {
         const made = await app.run((signal, cancel) => {
@@ -47,11 +48,11 @@ async function makeUndoAt(app, image, place, lines, carry) {
             && `, but for the damage of ${blocksText(made.left, 8)}: their address and user data come back`;
         const how = carry && ' Apply it with carry, as this script.';
         const long = made.script.long && ' It is longer than cdpatch and this page take: cdscript applies it with --long.';
-        showNotice(left || long ? 'warn' : 'good', ['Saved: ', nameOf(name)], 'On the patched image it makes the old one again',
-            left, '.', how, long);
+        sayAt(said, notice(left || long ? 'warn' : 'good', ['Saved: ', nameOf(name)], 'On the patched image it makes the old one again',
+            left, '.', how, long));
     } catch (error) {
-        if (isCancelled(error)) showNotice('plain', 'Cancelled.', 'No undo script was made.');
-        else showFailure(error, 'No undo script was made.');
+        const rest = 'No undo script was made.';
+        sayAt(said, isCancelled(error) ? notice('plain', 'Cancelled.', rest) : notice('bad', sentence(error), rest));
     } finally {
         fill(place);
     }

@@ -80,17 +80,19 @@ export class SecondCompare {
         const all = differ + damaged + others;
         const tally = tallyOf([[all, all === 1 ? 'sector differs' : 'sectors differ', ''], [this.onlyCodes, 'only in EDC or parity', ''],
             [damaged, 'damaged in the second', damaged > 0 ? 'bad-ink' : '']]);
-        const write = button('main', () => this.write(), 'Write the script');
+        const write = element('div', { class: 'row' }, button('main', () => this.write('save'), 'Save the script…'),
+            button('', () => this.write('open'), 'Open in Script'));
         const same = notice('good', `Both images are the same, ${this.tail ? 'sector for sector' : 'byte for byte'}.`);
         const tail = this.tail && notice('warn', 'The bytes after the last sector differ.', 'No script changes them.');
-        fill(this.body, tally, tail, all === 0 ? same : element('div', { class: 'row' }, write), this.place);
+        fill(this.body, tally, tail, all === 0 ? same : write, this.place);
         if (all > 0) this.drawTable(all);
     }
 
-    write() {
+    /** @param {import('./script.js').Then} then what becomes of the script */
+    write(then) {
         const { image, second } = this.app;
         if (image !== null && second !== null) {
-            writeScript(this.app, this.place, image, second.reader, patchedName(second.name, 'changes', '.txt'));
+            writeScript(this.app, this.place, image, second.reader, patchedName(second.name, 'changes', '.txt'), then);
         }
     }
 

@@ -114,10 +114,10 @@ export class SecondRepair {
     foundWords(repair, pieces, damaged) {
         const [taken, different] = [blocksIn(repair.taken), repair.different[0]];
         const tally = tallyOf([[taken, 'can be repaired', taken > 0 ? 'good-ink' : ''],
-            [damaged, 'cannot be repaired', damaged > 0 ? 'bad-ink' : ''], [different, 'sound in both, but different', '']]);
+            [damaged, 'cannot be repaired', damaged > 0 ? 'bad-ink' : ''], [different, 'intact in both, but different', '']]);
         const save = button('main', () => void this.save(pieces), 'Save repaired image…');
         const script = button('', () => void this.script(pieces), 'Write it as a script');
-        const none = taken === 0 ? [notice('plain', 'There is nothing to repair from it.', damaged === 0 ? 'No sector here is damaged.'
+        const none = taken === 0 ? [notice('plain', 'This dump cannot repair anything here.', damaged === 0 ? 'No sector here is damaged.'
             : 'No sector that is damaged here is sound there, with the address of its block.')] : [];
         const warning = different > 0 ? [notice('warn',
             `${countOf(different, 'sector is sound in both, and differs', 'sectors are sound in both, and differ')}.`,
@@ -168,7 +168,7 @@ export class SecondRepair {
         const { app } = this;
         const said = streamed ? notice('good', ['Saved: ', nameOf(name)], 'All sectors that were not repaired are as before.')
             : notice('good', ['Your browser is saving ', nameOf(name)],
-                `It must have ${counted(size)} bytes. Keep this page open until it has.`);
+                `${counted(Math.ceil(size / 1e6))} MB. Keep this page open until the download is complete.`);
         if (file === null) return [said];
         const sum = element('dd', { id: 'repaired-sha1' }, '…');
         const told = (/** @type {number} */ done) => { sum.textContent = `(${Math.floor(100 * done / size)} %)`; };
@@ -176,7 +176,7 @@ export class SecondRepair {
             error => { sum.textContent = messageOf(error); });
         const open = button('', () => {
             readImage(app, null);
-            app.open([file]);
+            app.open([file], 'look');
         }, 'Open the new image');
         return [said, element('dl', { class: 'hashes' }, element('dt', {}, 'SHA-1'), sum), element('div', { class: 'row' }, open)];
     }
@@ -235,7 +235,7 @@ export class SecondRepair {
 
 /** @param {Repair} repair that is refused */
 function refusedRepair({ different: [different] }) {
-    return notice('bad', 'This is no dump of the same disc, or it is shifted.',
+    return notice('bad', 'These are not dumps of the same disc, or one of them is shifted.',
         `${countOf(different, 'sector is sound in both and differs', 'sectors are sound in both and differ')}: ` +
         'more than one in a hundred. Nothing is taken.');
 }

@@ -13,6 +13,9 @@ import { button, countOf, counted, element, fill, isCancelled, jobBar, notice, r
 /** @typedef {import('../../core/script/script_writer.js').Script} Script */
 /** @typedef {Comparison['left'][number]} Left */
 
+/** What becomes of a script that was written: it is saved, opened in the panel Script, or what the user presses then. */
+/** @typedef {'save' | 'open' | ''} Then */
+
 /** A longer script is only saved. */
 const LONGEST_SHOWN = 1 << 24;
 const MOST_LEFT_NAMED = 8;
@@ -24,10 +27,11 @@ const MOST_LEFT_NAMED = 8;
  * @param {Image} image
  * @param {Reader} fresh
  * @param {string} name of the script's file
+ * @param {Then} [then]
  * @param {boolean} [skipDamaged]
  */
-export function writeScript(app, place, image, fresh, name, skipDamaged = false) {
-    return runAt(place, () => writeScriptAt(app, place, image, fresh, name, skipDamaged));
+export function writeScript(app, place, image, fresh, name, then = '', skipDamaged = false) {
+    return runAt(place, () => writeScriptAt(app, place, image, fresh, name, then, skipDamaged));
 }
 
 /**
@@ -36,9 +40,10 @@ export function writeScript(app, place, image, fresh, name, skipDamaged = false)
  * @param {Image} image
  * @param {Reader} fresh
  * @param {string} name
+ * @param {Then} then
  * @param {boolean} skipDamaged
  */
-async function writeScriptAt(app, place, image, fresh, name, skipDamaged) {
+async function writeScriptAt(app, place, image, fresh, name, then, skipDamaged) {
     const { second } = app;
     const show = (/** @type {Node[]} */ ...parts) => {
         if (app.second === second) fill(place, ...parts);
@@ -50,34 +55,49 @@ async function writeScriptAt(app, place, image, fresh, name, skipDamaged) {
             const how = { base: image.base, signal, progress: bar.sectors, skipDamaged };
             return compareImages(app.calls, app.crew, image.reader, fresh, how);
         });
-        const again = () => void writeScript(app, place, image, fresh, name, true);
-        show(compared.script === null ? refusedScript(compared, again) : written(app, compared.script, name, compared.left));
+        const again = () => void writeScript(app, place, image, fresh, name, then, true);
+        if (compared.script === null) return show(refusedScript(compared, again));
+        const does = doesWith(app, compared.script, name);
+        show(written(compared.script, compared.left, then === '' ? does : {}));
+        if (then !== '' && app.second === second) does[then]?.();
     } catch (error) {
         const rest = 'No script was written.';
         show(isCancelled(error) ? notice('plain', 'Cancelled.', rest) : notice('bad', sentence(error), rest));
     }
+    return undefined;
 }
 
 /**
+ * What can be done with a script. One that is too long to be shown is only saved.
  * @param {App} app
  * @param {Script} script
  * @param {string} name
- * @param {Left[]} left what the script does not say
+ * @returns {{ open?: () => void, save?: () => void }}
  */
-function written(app, { pieces, size, patches, long }, name, left) {
+function doesWith(app, { pieces, size, long }, name) {
     const blob = new Blob(pieces);
-    const take = button('main', async () => {
+    const save = () => download(blob, name);
+    const open = async () => {
         app.setScript(await blob.text(), name, false);
-        app.showPanel('script');
-    }, 'Put it into the panel Script');
+        app.checkScript();
+    };
+    return size <= LONGEST_SHOWN && !long ? { open, save } : { save };
+}
+
+/**
+ * @param {Script} script
+ * @param {Left[]} left what the script does not say
+ * @param {{ open?: () => void, save?: () => void }} does what buttons do with it
+ */
+function written({ size, patches, long }, left, { open, save }) {
     const but = left.length === 0 ? 'gives just this image'
         : `gives this image but for ${blocksText(left, MOST_LEFT_NAMED)}, which it leaves as they are`;
     const rest = long ? ' This is more than cdpatch takes: cdscript applies it with --long.' : '';
     const head = element('b', {}, `The script has ${countOf(patches, 'patch', 'patches')}.`);
     return element('div', { class: left.length === 0 ? 'say good' : 'say warn', role: 'status' }, head,
         `${counted(size)} bytes. It was applied by the proved code, and ${but}.${rest}`,
-        element('div', { class: 'row' }, size <= LONGEST_SHOWN && !long && take,
-            button('', () => download(blob, name), 'Save the script…')));
+        element('div', { class: 'row' }, open !== undefined && button('main', open, 'Open in Script'),
+            save !== undefined && button('', save, 'Save the script…')));
 }
 
 /**

@@ -4,7 +4,8 @@ import { LAST_BASE, SECTOR_SIZE } from '../../core/sectors/sector.js';
 import { MARK } from '../app/index.js';
 import { modeOneSectors, otherBase, placesOf } from '../disc/index.js';
 import { changeBase, imageOfTrack, readImage } from '../open/index.js';
-import { button, byId, copyText, countOf, counted, element, fill, jobEnd, keyed, nameOf, seen, shownName, term } from '../ui/index.js';
+import { button, byId, copyButton, countOf, counted, element, fill, jobEnd, keyed, nameOf, seen, shownName, term } from '../ui/index.js';
+import { closeImage } from './close_image.js';
 
 /** @typedef {import('../app/state.js').App} App */
 /** @typedef {import('../app/state.js').Image} Image */
@@ -28,7 +29,7 @@ export function mountDiscLine(app) {
     };
     const soon = () => { drawn.waiting = drawn.waiting || requestAnimationFrame(draw); };
     drawn.redraw = soon;
-    for (const name of /** @type {const} */ (['survey', 'surveyed', 'panel'])) app.on(name, soon);
+    for (const name of /** @type {const} */ (['survey', 'surveyed', 'panel', 'second'])) app.on(name, soon);
     app.on('image', () => {
         document.title = app.image === null ? 'cdpatch' : `cdpatch: ${shownName(app.image.name)}`;
         Object.assign(drawn, { hashed: 0, changing: false });
@@ -85,7 +86,9 @@ function facts(app, image, drawn) {
         hash.className = 'hash';
         own.push(hash);
     }
-    return [element('div', {}, element('p', { class: 'name' }, nameOf(image.name)), ...lineParts(app, image),
+    const close = button('slim bare tiny', () => void closeImage(app), 'Close', element('span', { class: 'hide' }, ' the image'));
+    const name = element('div', { class: 'row' }, element('p', { class: 'name' }, nameOf(image.name)), close);
+    return [element('div', {}, name, ...lineParts(app, image),
         panel === 'disc' && element('p', { class: 'small quiet' }, 'SHA-1 ', ...shaOf(image, drawn, 40))), element('dl', {}, ...own)];
 }
 
@@ -141,7 +144,7 @@ function shaOf(image, drawn, length) {
         : ['sha1', length < sha1.length ? `${sha1.slice(0, length)}…` : sha1, ''];
     const all = `${seen(image.name)}\nsize ${image.reader.size}\nCRC-32 ${crc32}\nSHA-1 ${sha1}\n`;
     return [element('span', { class: `mono ${looks}` }, shown), ' ',
-        button(`slim bare tiny${copies}`, () => copyText(all), 'Copy all hashes')];
+        copyButton(`slim bare tiny${copies}`, () => all, 'Copy all hashes')];
 }
 
 /**
@@ -163,7 +166,7 @@ function askBase(app, drawn) {
         close();
         changeBase(app, Number(input.value));
     } }, element('label', { for: 'base' }, 'The block of the first sector'), input, element('button', { class: 'btn slim main' }, 'Set'),
-    button('slim bare', close, 'Leave it'));
+    button('slim bare', close, 'Cancel'));
     fill(/** @type {Element} */ (byId('disc-line').firstElementChild), form);
     input.focus();
 }
@@ -176,7 +179,7 @@ function leadOf(app) {
     const { survey, image } = app;
     if (survey === null || image === null) return [];
     if (survey.over && survey.known < image.sectors) {
-        return [element('b', { class: 'warn-ink' }, `Read to ${Math.floor(100 * survey.known / image.sectors)} %, and no further.`),
+        return [element('b', { class: 'warn-ink' }, `Stopped at ${Math.floor(100 * survey.known / image.sectors)} %.`),
             button('slim', () => readImage(app, { ...image }), 'Read it again')];
     }
     return survey.over ? verdict(app, image, survey) : progressOf(app, image, survey);
@@ -235,7 +238,7 @@ function verdict(app, image, { marks }) {
     const where = damaged === 0 ? '' : ` in ${countOf(hurt, 'place')}`;
     const rest = [where, ...others].join('; ');
     return [element('span', {}, head, `${rest}.${damaged > 0 ? ' The rest is sound.' : ''}`),
-        damaged > 0 && button('slim', () => byId('files').click(), 'Repair from another dump…'),
+        damaged > 0 && app.second === null && button('slim', () => app.choose('repair'), 'Repair from another dump…'),
         button('slim bare', () => app.goTo(image.base + places[0].first, -1, true), 'Go to the first place')];
 }
 

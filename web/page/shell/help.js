@@ -102,7 +102,7 @@ async function ownDigits({ calls }) {
 /** The notices of the crates that the module is made of. */
 function notices() {
     const text = element('pre', { class: 'notices', tabindex: 0, 'aria-label': 'Notices' });
-    const part = element('details', {}, element('summary', {}, 'Notices of the crates that are in it'), text);
+    const part = element('details', {}, element('summary', {}, 'Third-party notices'), text);
     part.addEventListener('toggle', async () => {
         if (text.textContent === '') text.textContent = await inflatedText(typeof JOINED === 'undefined' ? '' : JOINED.notices);
     });

@@ -1,7 +1,7 @@
 // What stands round the panels: the tabs, the notes that open, and the keys that work anywhere.
 
 import { PANELS } from '../app/index.js';
-import { byId, escapeJob, oneStop, setAttribute } from '../ui/index.js';
+import { byId, endMessages, escapeJob, oneStop, setAttribute } from '../ui/index.js';
 
 /** @typedef {import('../app/state.js').App} App */
 /** @typedef {import('../app/state.js').PanelName} PanelName */
@@ -10,10 +10,22 @@ import { byId, escapeJob, oneStop, setAttribute } from '../ui/index.js';
 export function mountFrame(app) {
     oneStop(byId('tabs'), '[role=tab]', tab => app.showPanel(panelOfTab(tab)));
     for (const name of PANELS) byId(`tab-${name}`).addEventListener('click', () => app.showPanel(name));
-    const frame = { started: false };
+    const frame = { started: false, panel: app.panel };
+    app.on('panel', () => panelComes(app, frame));
+    app.on('closed', () => { frame.started = false; });
     for (const name of /** @type {const} */ (['panel', 'image'])) app.on(name, () => showPanels(app, frame));
     byId('home').addEventListener('click', () => app.showPanel('disc'));
     document.addEventListener('keydown', pressed);
+}
+
+/**
+ * Ends what was said on a panel that is shown no more.
+ * @param {App} app
+ * @param {{ panel: PanelName }} frame
+ */
+function panelComes({ panel }, frame) {
+    if (panel !== frame.panel) endMessages();
+    frame.panel = panel;
 }
 
 /**
@@ -64,7 +76,7 @@ function isNoteOpen() {
  * @param {number} step
  */
 function focusNextCard(step) {
-    const cards = /** @type {HTMLElement[]} */ ([...document.querySelectorAll('#bar, main .card, main .drop, footer')])
+    const cards = /** @type {HTMLElement[]} */ ([...document.querySelectorAll('#bar, main .jobs, main .card, main .drop, footer')])
         .filter(card => card.offsetParent !== null && firstStop(card) !== null);
     const at = cards.findIndex(card => card.contains(document.activeElement));
     const next = cards[(at + step + cards.length) % cards.length];

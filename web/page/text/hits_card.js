@@ -2,7 +2,7 @@
 
 import { USER_SIZE } from '../../core/module/numbers.js';
 import { contextOf, filesWith } from '../../core/texts/context.js';
-import { button, copyText, counted, element, fill, keyed, oneStop, shownPaths, term } from '../ui/index.js';
+import { button, copyButton, counted, element, fill, keyed, oneStop, shownPaths, term } from '../ui/index.js';
 import { chosenEncoding, signOf } from './encodings.js';
 
 /** @typedef {import('../app/state.js').App} App */
@@ -58,7 +58,7 @@ export class HitsCard {
             element('span', { class: 'small quiet' }, `in ${search.seconds.toFixed(1)} s`),
             search.count > search.hits.length && element('span', { class: 'tag warn' },
                 `only the first ${counted(search.hits.length)} are listed`),
-            button('slim bare', () => this.copy(), 'Copy', element('span', { class: 'hide' }, ' the hits')));
+            copyButton('slim bare', () => this.table(), 'Copy', ' the hits'));
         const column = (/** @type {string} */ name, /** @type {Child} */ shown) => element('th',
             { scope: 'col', class: name === 'n' ? 'n' : '' }, shown);
         const table = element('table', { class: 'hits' }, element('thead', {}, element('tr', {}, column('n', term('block', 'Block')),
@@ -155,8 +155,8 @@ export class HitsCard {
         this.reader += 1;
     }
 
-    copy() {
-        const { search } = this;
-        if (search !== null) copyText(search.hits.map(({ block, offset }) => `${block} ${offset}\n`).join(''));
+    /** The hits as a text. */
+    table() {
+        return this.search === null ? '' : this.search.hits.map(({ block, offset }) => `${block} ${offset}\n`).join('');
     }
 }

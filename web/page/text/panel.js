@@ -1,7 +1,8 @@
 // The panel Text: find, the hits, and replacing them in the script.
 
 import { filledUp } from '../../core/script/replace_bytes.js';
-import { announce, button, countOf, element, fill, hexOf, isCancelled, jobBar, messageOf, notice, sentence, term } from '../ui/index.js';
+import { announce, button, countOf, element, fill, hexOf, isCancelled, jobBar, messageOf, notice } from '../ui/index.js';
+import { said, sayAt, sentence, term } from '../ui/index.js';
 import { AroundCard, readAround } from './around_card.js';
 import { bindEncodings, chosenEncoding, encodingLabel, takeTable } from './encodings.js';
 import { linesForAll, linesReplacing } from './hits.js';
@@ -38,8 +39,11 @@ class TextPanel {
         this.table = element('input', { type: 'file', class: 'hide', tabindex: -1, accept: '.tbl,.txt', 'aria-label': 'A table to load',
             change: () => this.load() });
         this.hint = element('p', { class: 'small quiet hint' });
-        this.state = element('div', { class: 'stack', role: 'status' });
-        this.hits = new HitsCard(app, index => this.choose(index));
+        this.state = said();
+        this.hits = new HitsCard(app, index => {
+            fill(this.replace.said);
+            this.choose(index);
+        });
         this.replace = new ReplaceCard(app, { add: (hit, fresh, old) => this.alone(() => this.add(hit, fresh, old)),
             addAll: (fresh, byte) => this.alone(() => this.addAll(fresh, byte)), skip: () => this.next() });
         this.around = new AroundCard(app);
@@ -210,7 +214,7 @@ class TextPanel {
             return;
         }
         await this.choose(this.chosen < 0 ? 0 : this.chosen);
-        fill(this.state, notice('good', 'All hits are in the script.', 'Script and Check say whether they fit.'));
+        sayAt(this.replace.said, notice('good', 'All hits are in the script.', 'Script and Check say whether they fit.'));
     }
 
     /** @param {() => Promise<void>} job that makes lines, of which one runs at a time */
@@ -232,10 +236,10 @@ class TextPanel {
         try {
             app.addLines(await linesReplacing(app.calls, app.image, hit, fresh, old));
             announce('Added to the script.');
-            fill(this.state);
+            fill(this.replace.said);
             await this.next();
         } catch (error) {
-            fill(this.state, notice('bad', 'Nothing was added to the script.', sentence(error)));
+            sayAt(this.replace.said, notice('bad', 'Nothing was added to the script.', sentence(error)));
         }
     }
 
@@ -259,10 +263,12 @@ class TextPanel {
             await this.next();
             const rest = left.length === 0 ? 'Script and Check say whether they fit.'
                 : `${countOf(left.length, 'hit')} left: ${left.slice(0, 5).join('; ')}${left.length > 5 ? '; …' : '.'}`;
-            fill(this.state, notice(left.length > 0 ? 'warn' : 'good', `${countOf(lines.length, 'line')} added to the script.`, rest));
+            sayAt(this.replace.said, notice(left.length > 0 ? 'warn' : 'good', `${countOf(lines.length, 'line')} added to the script.`,
+                rest));
         } catch (error) {
-            if (app.image === image) fill(this.state, notice(isCancelled(error) ? 'plain' : 'bad', 'Nothing was added to the script.',
-                sentence(error)));
+            const rest = 'Nothing was added to the script.';
+            if (app.image === image) sayAt(this.replace.said, isCancelled(error) ? notice('plain', 'Cancelled.', rest)
+                : notice('bad', sentence(error), rest));
         } finally {
             fill(this.replace.job);
         }

@@ -3,7 +3,8 @@
 import { filledUp } from '../../core/script/replace_bytes.js';
 import { encodeText, fillsOf, spaceIn } from '../../core/texts/encoding.js';
 import { bytesOfHex, hexText } from '../../core/texts/hex.js';
-import { announce, button, countOf, counted, element, fill, hexOf, isDisabled, messageOf, setDisabled, visible } from '../ui/index.js';
+import { button, countOf, counted, element, fill, hexOf, isDisabled, messageOf, notice, said, sayAt } from '../ui/index.js';
+import { setDisabled, visible } from '../ui/index.js';
 import { chosenEncoding } from './encodings.js';
 import { replacingLine } from './hits.js';
 
@@ -46,6 +47,7 @@ export class ReplaceCard {
         this.length = element('span', { class: 'small', id: 'new-length', role: 'status' });
         this.rest = element('div', { class: 'stack' });
         this.job = element('div', { class: 'stack' });
+        this.said = said();
         this.add = button('main', () => this.addLine(), 'Add to the script');
         this.all = button('', () => this.addAll(), '');
         const filling = element('span', { class: 'row small quiet' }, 'Fill with', this.fill, this.other);
@@ -53,7 +55,7 @@ export class ReplaceCard {
             element('div', { class: 'pad stack' }, this.old,
             element('div', {}, element('label', { for: 'new-text' }, 'New text'), this.input),
             element('div', { class: 'row spread' }, this.length, filling), this.rest,
-            element('div', { class: 'row' }, this.add, this.all, button('slim bare', () => owner.skip(), 'Skip ▸')), this.job,
+            element('div', { class: 'row' }, this.add, this.all, button('slim bare', () => owner.skip(), 'Skip ▸')), this.job, this.said,
             element('p', { class: 'small quiet' }, element('kbd', {}, 'Enter'), ' adds the line and goes to the next hit.')));
     }
 
@@ -182,8 +184,8 @@ export class ReplaceCard {
         const line = this.rewritten(target, filled);
         if (line === '') return this.owner.add(target.hit, filled, target.old);
         this.app.replaceLine(target.line, line);
-        announce(`Line ${target.line} is replaced.`);
         this.owner.skip();
+        sayAt(this.said, notice('good', `Line ${target.line} is replaced.`));
     }
 
     addAll() {

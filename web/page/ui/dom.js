@@ -34,12 +34,22 @@ export function setAttribute(target, name, value) {
     else target.setAttribute(name, value === true ? '' : String(value));
 }
 
+/** @type {{ isLost: () => boolean, what: string }[]} */
+const unsaved = [];
+
 /**
  * Asks before the page is left, as long as something would be lost.
  * @param {() => boolean} isLost
+ * @param {string} [what] is lost too when the image is closed, as a sentence
  */
-export function askBeforeLeaving(isLost) {
+export function askBeforeLeaving(isLost, what = '') {
+    unsaved.push({ isLost, what });
     window.addEventListener('beforeunload', event => { if (isLost()) event.preventDefault(); });
+}
+
+/** What would be lost if the image and all that was done with it were closed, in sentences. */
+export function lostByClosing() {
+    return unsaved.flatMap(({ isLost, what }) => what !== '' && isLost() ? [what] : []);
 }
 
 /**

@@ -1,9 +1,10 @@
 // What the page says of files and failures: first what it is, then what to do.
 
 import { FAULT, failedBy } from '../../core/faults.js';
+import { copyButton } from './copying.js';
 import { button, byId, element } from './dom.js';
 import { fill } from './fill.js';
-import { namesOf, seen, withNames } from './names.js';
+import { nameOf, namesOf, seen, withNames } from './names.js';
 
 /** @typedef {import('./fill.js').Child} Child */
 /** @typedef {import('../app/state.js').App} App */
@@ -41,11 +42,14 @@ export function showNotice(tone, head, ...rest) {
  * Whether an image is being saved, which is said then: no other one is opened until it has ended, and none is closed.
  * @param {App} app
  * @param {string[]} [names] of the files that were to be opened
+ * @param {HTMLElement | null} [place] beside what was pressed
  */
-export function refuseWhileSaving({ saves }, names = []) {
+export function refuseWhileSaving({ saves }, names = [], place = null) {
     if (saves === 0) return false;
-    showNotice('warn', names.length > 0 ? ['Not opened: ', ...namesOf(names), '.'] : 'An image is being saved.',
-        `${names.length > 0 ? 'An image is being saved. ' : ''}Do it again when that has ended, or press Cancel there first.`);
+    const head = names.length > 0 ? ['Not opened: ', ...namesOf(names), '.'] : ['An image is being saved.'];
+    const rest = `${names.length > 0 ? 'An image is being saved. ' : ''}Do it again when that has ended, or press Cancel there first.`;
+    if (place === null) showNotice('warn', head, rest);
+    else sayAt(place, notice('warn', head, rest));
     return true;
 }
 
@@ -58,19 +62,46 @@ export function clearNotices() {
 }
 
 /**
+ * A place for what is said beside a control that was pressed.
+ * @param {string} [looks] classes
+ */
+export function said(looks = '') {
+    return element('div', { class: `said stack ${looks}`.trim(), role: 'status' });
+}
+
+/**
+ * Says something at such a place, and has it seen.
+ * @param {HTMLElement} place
+ * @param {HTMLElement} words
+ */
+export function sayAt(place, words) {
+    fill(place, words);
+    words.scrollIntoView({ block: 'nearest' });
+}
+
+/** Ends all that was said of what was done before. */
+export function endMessages() {
+    clearNotices();
+    document.querySelectorAll('.said').forEach(place => fill(place));
+}
+
+/**
  * Shows a failure. Errors of our own say themselves what to do.
  * @param {unknown} error
  * @param {string} [rest]
  */
 export function showFailure(error, rest = '') {
-    if (failedBy(error, FAULT.MISSING_FILES)) return showNotice('bad', TOGETHER, ...namesOf(error.facts.names || []));
+    if (failedBy(error, FAULT.MISSING_FILES)) {
+        const { sheet = '', names = [] } = error.facts;
+        return showNotice('bad', [nameOf(sheet), ' also needs ', ...namesOf(names), '.'], TOGETHER);
+    }
     const text = messageOf(error);
     const [, first, after] = /^(.*?[.!?])\s+(.*)$/s.exec(text) || ['', text, ''];
     return showNotice('bad', first, [after, rest].filter(it => it !== '').join(' '));
 }
 
 /** A page does not see what lies beside a file. */
-const TOGETHER = 'Select or drop the cue sheet and these together:';
+const TOGETHER = 'Open them all together.';
 
 /** Most characters of a message that are shown: the lines of a stranger's cue sheet stand in some of them. */
 const MOST_MESSAGE = 1000;
@@ -78,7 +109,7 @@ const MOST_MESSAGE = 1000;
 /** @param {unknown} error */
 function wordsOf(error) {
     const message = error instanceof Error ? error.message : String(error);
-    if (failedBy(error, FAULT.MISSING_FILES)) return `${TOGETHER} ${(error.facts.names || []).join(', ')}`;
+    if (failedBy(error, FAULT.MISSING_FILES)) return `${error.facts.sheet} also needs ${(error.facts.names || []).join(', ')}. ${TOGETHER}`;
     if (failedBy(error, FAULT.IMAGE_ENDED)) return 'The file is shorter than it was when it was opened.';
     if (failedBy(error, FAULT.NO_MEMORY)) return 'This browser has not enough memory left. Close other tabs, then try again.';
     return message.length > MOST_MESSAGE ? `${message.slice(0, MOST_MESSAGE)}…` : message;
@@ -118,32 +149,10 @@ export function isCancelled(error) {
 }
 
 /**
- * A command or another text to copy.
+ * A command to copy.
  * @param {string} text
  */
 export function copyable(text) {
-    const label = 'Copy the command';
-    const copy = button('slim', async () => {
-        await copyText(text);
-        copy.textContent = 'Copied';
-        setTimeout(() => { copy.textContent = label; }, 2000);
-    }, label);
+    const copy = copyButton('slim', () => text, 'Copy the command');
     return [element('p', { class: 'line-out' }, text), element('div', { class: 'row' }, copy)];
-}
-
-/**
- * Puts a text on the clipboard.
- * @param {string} text
- */
-export async function copyText(text) {
-    try {
-        await navigator.clipboard.writeText(text);
-    } catch {
-        const area = element('textarea', { class: 'hide', 'aria-hidden': 'true' });
-        area.value = text;
-        document.body.append(area);
-        area.select();
-        document.execCommand('copy');
-        area.remove();
-    }
 }

@@ -1,7 +1,7 @@
 // A few counts, written large, and the card of a table.
 
-import { button, counted, element } from './dom.js';
-import { copyText } from './notices.js';
+import { copyButton } from './copying.js';
+import { counted, element } from './dom.js';
 import { oneStop } from './tab_groups.js';
 
 /** @param {[number, string, string][]} counts each with what it counts, and how it looks */
@@ -23,6 +23,6 @@ export function tableCard(title, head, rows, text, foot) {
     const part = element('div', { class: 'scroll fit' }, table);
     oneStop(part, 'tbody button');
     return element('section', { class: 'card', 'aria-label': title },
-        element('header', {}, element('h2', {}, title), button('slim bare', () => copyText(text), 'Copy')), part,
+        element('header', {}, element('h2', {}, title), copyButton('slim bare', () => text, 'Copy', ` the rows: ${title}`)), part,
         element('p', { class: 'foot' }, element('span', {}, foot)));
 }

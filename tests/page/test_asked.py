@@ -1,0 +1,185 @@
+"""A second image is asked about before it is read, the open one can be closed, and what is dragged over the page is told what a drop does."""
+
+from pathlib import Path
+
+import common
+import discs
+from chromium import WIDTHS
+from pages import PICKER, PageTest, patcher
+from selenium.webdriver.common.keys import Keys
+
+# How many bytes of the file `other.bin` the page reads by itself, and how many pieces of it workers are given.
+WATCHED = '''Object.assign(globalThis, { bytes: 0, pieces: 0 });
+const { slice } = Blob.prototype, { postMessage } = Worker.prototype;
+Blob.prototype.slice = function (from, to, ...given) {
+    if (this.name === 'other.bin') bytes += Math.min(to, this.size) - from;
+    return slice.call(this, from, to, ...given);
+};
+Worker.prototype.postMessage = function (message, ...given) {
+    pieces += Number(Boolean(message.pieces?.some(it => it.file?.name === 'other.bin')));
+    postMessage.call(this, message, ...given);
+};'''
+
+
+class Asked(PageTest):
+    stub = PICKER
+
+    def tearDown(self) -> None:
+        self.browser.size(1280)
+
+    def begin(self, first: bytes, second: bytes) -> dict[str, Path]:
+        files = discs.written(game=first, other=second, english=discs.script())
+        self.open_image(files['game'])
+        return files
+
+    def is_asked(self) -> bool:
+        return bool(self.browser.run('return document.querySelector("#sheet").open'))
+
+    def buttons(self) -> list[str]:
+        self.browser.wait('#sheet', 'Cancel')
+        return list(self.browser.run('return [...document.querySelectorAll("#sheet button")].map(it => it.innerText)'))
+
+    # ---- a second image
+
+    def test_a_second_image_is_read_only_after_the_question(self) -> None:
+        files = self.begin(discs.game() * 60, discs.game() * 60)
+        self.browser.run(WATCHED)
+        self.browser.drop('#main', [files['other']])
+        self.assertEqual(self.buttons(), ['Repair game.bin from it', 'Compare', 'Open it instead', 'Cancel'])
+        self.assertEqual(self.browser.text('#sheet h2'), 'other.bin:')
+        self.assertLess(self.browser.run('return bytes'), 2_000_000)
+        self.assertEqual(self.browser.run('return pieces'), 0)
+        self.browser.answer('Compare')
+        common.waited(lambda: self.browser.run('return pieces > 0'), 'nothing of it is read')
+
+    def test_each_answer_does_what_it_says(self) -> None:
+        files = self.begin(common.damaged(discs.game(), 40), discs.game())
+        self.open_files(files['other'])
+        self.browser.answer('Cancel')
+        self.open_files(files['other'])
+        self.browser.wait('#sheet', 'Compare')
+        self.browser.press(Keys.ESCAPE)
+        common.waited(lambda: not self.is_asked(), 'Escape closes no sheet')
+        self.assertFalse(self.browser.run('return document.querySelector("#second-title").checkVisibility()'))
+        for answer, tab in (('Repair', 'repair'), ('Compare', 'compare')):
+            self.open_files(files['other'])
+            self.browser.answer(answer)
+            self.browser.wait('#second-body .tally', 'repaired' if tab == 'repair' else 'differ')
+            self.browser.wait(f'[data-tab={tab}][aria-selected=true]')
+        self.open_files(files['other'])
+        self.browser.answer('Open it instead')
+        self.browser.wait('#disc-line .name', 'other.bin')
+        self.assertFalse(self.browser.run('return document.querySelector("#second-title").checkVisibility()'))
+
+    def test_of_two_images_the_first_is_open_and_the_second_asked_about(self) -> None:
+        files = discs.written(first=discs.game(), second=discs.scratched(), third=discs.game())
+        self.browser.drop('#drop', [files['first'], files['second']])
+        self.browser.wait('#disc-line .name', 'first.bin')
+        self.assertEqual(self.buttons()[0], 'Repair first.bin from it')
+        self.browser.drop('#main', [files['third']])
+        self.browser.wait('#sheet', 'third.bin:')
+        self.browser.answer('Cancel')
+        self.assertFalse(self.is_asked())
+
+    def test_who_repairs_from_another_dump_has_said_what_it_is_for(self) -> None:
+        files = self.begin(common.damaged(discs.game(), 40), discs.game())
+        self.browser.run('HTMLInputElement.prototype.click = function () {}')
+        self.press('Repair from another dump')
+        self.open_files(files['other'])
+        self.browser.wait('#second-body .tally', 'can be repaired')
+        self.assertFalse(self.is_asked())
+        self.assertNotIn('Repair from another dump', self.browser.text('#disc-line'))
+        # Who chooses none is asked about what comes next.
+        self.setUp()
+        self.open_image(files['game'])
+        self.browser.run('HTMLInputElement.prototype.click = function () {}')
+        self.press('Repair from another dump')
+        self.browser.run('document.querySelector("#files").dispatchEvent(new Event("cancel"))')
+        self.browser.drop('#main', [files['other']])
+        self.assertEqual(self.buttons()[0], 'Repair game.bin from it')
+
+    # ---- closing
+
+    def close(self) -> None:
+        self.browser.click('#disc-line .name + button')
+
+    def test_a_closed_image_leads_back_to_the_start(self) -> None:
+        files = self.begin(discs.game(), discs.game())
+        self.open_script(files['english'])
+        self.browser.wait('#panel-script .say.good', 'all fit')
+        self.close()
+        self.browser.wait('#start h1')
+        self.assertFalse(self.is_asked())
+        for part in ('#tabs', '#disc-line', '#panel-script', '#panel-disc'):
+            self.assertFalse(self.browser.run('return document.querySelector(arguments[0]).checkVisibility()', part), part)
+        self.assertEqual(self.browser.run('return document.activeElement.id'), 'open-files')
+        self.open_image(files['other'])
+        self.browser.wait('#disc-line .name', 'other.bin')
+        self.browser.click('#tab-script')
+        self.browser.wait('#panel-script header', 'New script')
+
+    def test_unsaved_work_is_asked_about_before_an_image_is_closed(self) -> None:
+        self.begin(discs.game(), discs.game())
+        self.browser.click('#tab-script')
+        self.browser.click('.editor textarea')
+        self.browser.press(Keys.ARROW_DOWN, 'rebuild 1')
+        self.browser.click('#tab-publish')
+        self.browser.type('#patcher-title', 'Mine')
+        self.close()
+        self.browser.wait('#sheet', 'Your script is in no file yet. What you wrote under Publish is in no patcher yet.')
+        self.browser.answer('Cancel')
+        self.browser.wait('#disc-line .name', 'game.bin')
+        self.assertTrue(self.browser.asks_before_leaving())
+        self.close()
+        self.browser.answer('Close it all the same')
+        self.browser.wait('#start h1')
+        self.assertFalse(self.browser.asks_before_leaving())
+
+    def test_an_image_is_not_closed_while_it_is_saved(self) -> None:
+        files = self.begin(discs.game(), discs.game())
+        self.open_script(files['english'])
+        self.browser.run('chosen.hold()')
+        self.press('Apply and save')
+        common.waited(lambda: self.browser.run('return chosen.begun > 0'), 'nothing is written')
+        self.close()
+        self.browser.wait('#messages .say.warn', 'An image is being saved.')
+        self.browser.run('chosen.release()')
+        common.waited(lambda: self.browser.run('return chosen.state === "closed"'), 'the save does not end')
+
+    # ---- dragging
+
+    def drag(self, kind: str, files: list[Path]) -> None:
+        data = {'items': [], 'files': list(map(str, files)), 'dragOperationsMask': 1}
+        self.browser.cdp('Input.dispatchDragEvent', type=kind, x=300, y=300, data=data)
+
+    def says(self, words: str, file: Path) -> None:
+        for width in WIDTHS:
+            self.browser.size(width)
+            for kind in ('dragEnter', 'dragOver'):
+                self.drag(kind, [file])
+            self.browser.wait('#drop-says', words)
+            box = 'const it = document.querySelector("#drop-says").getBoundingClientRect(); return [it.top, it.left, innerHeight - it.bottom, innerWidth - it.right]'
+            self.assertGreaterEqual(min(self.browser.run(box)), 0, width)
+            self.drag('dragCancel', [file])
+            common.waited(lambda: self.browser.run('return document.querySelector("#drop-says").hidden'), 'it says it still')
+        self.browser.size(1280)
+
+    def test_what_a_drop_does_is_said_before_it(self) -> None:
+        files = discs.written(game=discs.game(), other=discs.scratched(), english=discs.script())
+        self.says('Drop it to open it: a disc image, its patch, or both.', files['game'])
+        self.open_image(files['game'])
+        self.says('An image: you choose whether game.bin is repaired from it, compared, or closed for it.', files['other'])
+        self.says('A script: it is opened and checked.', files['english'])
+        self.open_script(files['english'])
+        self.says('A script: it is opened in place of the one that is open, and checked.', files['english'])
+        self.browser.wait('#panel-script .say.good')
+        self.browser.run('chosen.hold()')
+        self.press('Apply and save')
+        common.waited(lambda: self.browser.run('return chosen.begun > 0'), 'nothing is written')
+        self.says('An image is being saved: nothing is opened before that has ended.', files['other'])
+        self.browser.run('chosen.release()')
+        page = common.folder('patcher') / 'starlit.html'
+        page.write_bytes(patcher(discs.game(), discs.game(), discs.script()))
+        self.browser.open(page)
+        self.browser.wait('#player h1')
+        self.says('Drop your disc image: it is checked, and not changed.', files['game'])

@@ -1,0 +1,154 @@
+"""What is said stands beside what was pressed, is seen on a phone, and ends with its panel; copy buttons say so; notes open beside their word."""
+
+from pathlib import Path
+
+import common
+import discs
+from chromium import WIDTHS
+from pages import PageTest
+
+CLIPBOARD = 'navigator.clipboard.writeText = async text => { globalThis.copied = text; };'
+# How far an element is out of the window.
+UNSEEN = '''const { top, bottom, left, right } = document.querySelector(arguments[0]).getBoundingClientRect();
+    return Math.max(bottom - innerHeight, -top, right - innerWidth, -left)'''
+# The words of the notes that are seen now, by their numbers among all.
+WORDS = '''return [...document.querySelectorAll('.term')].flatMap((it, i) => it.checkVisibility() && !it.closest('[popover]') ? i : [])'''
+# Opens the note of a word, and says how far it is from the word and how far out of the window.
+OPENED = '''const [number, done] = arguments, word = document.querySelectorAll('.term')[number];
+    word.scrollIntoView({ block: 'end' });
+    word.click();
+    requestAnimationFrame(() => {
+        const [note, box] = [document.querySelector(':popover-open').getBoundingClientRect(), word.getBoundingClientRect()];
+        document.querySelector(':popover-open').hidePopover();
+        const far = Math.max(note.top - box.bottom, box.top - note.bottom, note.left - box.right, box.left - note.right);
+        done([far, Math.max(-note.top, -note.left, note.bottom - innerHeight, note.right - innerWidth)]);
+    })'''
+
+
+class Messages(PageTest):
+    def tearDown(self) -> None:
+        self.browser.size(1280)
+
+    def is_seen(self, css: str, words: str) -> None:
+        self.browser.wait(css, words)
+        self.assertLessEqual(self.browser.run(UNSEEN, css), 0, words)
+
+    def is_gone(self, css: str) -> None:
+        common.waited(lambda: not self.browser.run('return [...document.querySelectorAll(arguments[0])].some(it => it.checkVisibility())', css), f'{css} stays')
+
+    # ---- where, and how long
+
+    def search(self, image: bytes) -> None:
+        self.open_image(discs.written(texts=image)['texts'])
+        self.browser.click('#tab-text')
+        self.browser.type('#find-text', 'スタート')
+        self.press('Find')
+        self.browser.wait('#panel-text .hits mark')
+        self.browser.type('#new-text', 'Start')
+
+    def test_how_many_lines_were_added_is_said_in_the_replace_card(self) -> None:
+        for width in WIDTHS:
+            self.browser.size(width)
+            self.setUp()
+            self.search(discs.many_texts())
+            self.press('Add for all')
+            self.is_seen('[aria-label=Replace] .say.good', '400 lines added to the script.')
+        self.browser.click('#tab-script')
+        self.browser.click('#tab-text')
+        self.is_gone('#panel-text .say.good')
+
+    def test_what_was_refused_of_all_hits_is_said_in_the_replace_card(self) -> None:
+        self.browser.size(360)
+        self.search(discs.scratched())
+        self.press('Add for all')
+        self.is_seen('[aria-label=Replace] .say.warn', 'is damaged: repair it first')
+
+    def test_an_undo_script_is_said_in_its_card(self) -> None:
+        files = discs.written(game=discs.game(), english=discs.script())
+        self.browser.size(360)
+        self.open_image(files['game'])
+        self.open_script(files['english'])
+        self.press('Make the undo script')
+        self.is_seen('[aria-label=Script] .say.good', 'Saved: english (undo).txt')
+        self.browser.click('#tab-disc')
+        self.browser.click('#tab-script')
+        self.is_gone('[aria-label=Script] .say.good')
+
+    def test_what_is_said_over_a_panel_ends_with_it(self) -> None:
+        self.open_image(discs.written(game=discs.game())['game'])
+        path = common.folder('zip') / 'game.zip'
+        path.write_bytes(b'PK\3\4' + bytes(3000))
+        self.open_files(path)
+        self.browser.wait('#messages .say.bad', 'Not opened.')
+        self.browser.click('#tab-disc')
+        self.browser.wait('#messages .say.bad', 'Not opened.')
+        self.browser.click('#tab-text')
+        self.is_gone('#messages .say')
+
+    # ---- copying
+
+    def copies(self, css: str, label: str, begins: str) -> None:
+        """A button copies, says so, and has its own label again; also if it is drawn anew meanwhile."""
+        self.browser.run('copied = ""')
+        self.browser.click(css)
+        self.browser.wait(css, 'Copied')
+        self.assertTrue(self.browser.run('return copied').startswith(begins), css)
+        self.assertEqual(self.browser.text('#announced'), 'Copied')
+        common.waited(lambda: self.browser.text(css).split('\n')[0].strip() == label, f'{css} says it still', 4)
+
+    def test_each_copy_button_says_so_for_a_moment(self) -> None:
+        place = common.folder('pair')
+        for name, image in (('game.bin', discs.scratched()), ('other.bin', discs.scratched())):
+            (place / name).write_bytes(image)
+        (place / 'game.chd').write_bytes(b'MComprHD' + bytes(5000))
+        (place / 'english.txt').write_text(discs.script())
+        self.browser.run(CLIPBOARD)
+        self.open_files(place / 'game.chd')
+        self.copies('#start-message [data-copies]', 'Copy the command', 'chdman ')
+        self.open_image(place / 'game.bin')
+        self.copies('#disc-line [data-copies]', 'Copy all hashes', 'game.bin\nsize ')
+        self.copies('#findings [data-copies]', 'Copy', f'{discs.first_block() + 1} ')
+        self.open_files(place / 'other.bin')
+        self.browser.answer('Repair')
+        self.browser.wait('[aria-label="Cannot be repaired: 1"]')
+        self.copies('[aria-label="Cannot be repaired: 1"] [data-copies]', 'Copy', f'{discs.first_block() + 1}\t')
+        self.open_files(place / 'english.txt')
+        self.browser.wait('#panel-script .log', 'applied')
+        self.copies('[aria-label=Log] [data-copies]', 'Copy', 'line 4: applied')
+        self.browser.click('#tab-text')
+        self.browser.type('#find-text', 'スタート')
+        self.press('Find')
+        self.browser.wait('#panel-text .hits mark')
+        self.copies('[aria-label=Hits] [data-copies]', 'Copy', f'{discs.first_block()} 0\n')
+
+    def test_a_copy_button_that_is_drawn_anew_says_it_too(self) -> None:
+        self.open_image(discs.written(game=discs.game())['game'])
+        self.browser.run(f'{CLIPBOARD} const later = setTimeout; setTimeout = (call, time, ...given) => later(call, time === 2000 ? 6000 : time, ...given)')
+        self.browser.click('#disc-line [data-copies]')
+        self.browser.wait('#disc-line [data-copies]', 'Copied')
+        self.browser.click('#tab-text')
+        self.browser.wait('#disc-line .hash [data-copies]', 'Copied')
+
+    def test_what_cannot_be_copied_is_not_said_to_be(self) -> None:
+        self.open_image(discs.written(game=discs.game())['game'])
+        self.browser.run('navigator.clipboard.writeText = async () => { throw new Error("no"); }; document.execCommand = () => false')
+        self.browser.click('#disc-line [data-copies]')
+        self.browser.wait('#disc-line [data-copies]', 'Not copied')
+
+    # ---- notes
+
+    def test_a_note_opens_beside_its_word(self) -> None:
+        files = discs.written(game=discs.scratched(), english=discs.refused())
+        self.open_image(files['game'])
+        self.open_script(files['english'])
+        self.browser.wait('.tally')
+        for width in WIDTHS:
+            self.browser.size(width)
+            for panel in ('disc', 'text', 'script'):
+                self.browser.click(f'#tab-{panel}')
+                words = self.browser.run(WORDS)
+                self.assertGreater(len(words), 0)
+                for number in words:
+                    far, out = self.browser.driver.execute_async_script(OPENED, number)
+                    self.assertLessEqual(far, 12, (width, panel, number))
+                    self.assertLessEqual(out, 0, (width, panel, number))

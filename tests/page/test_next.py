@@ -1,0 +1,85 @@
+"""The next step: a script and its image are checked at once, and what was found is seen with the button that saves."""
+
+from pathlib import Path
+
+import common
+import discs
+from chromium import WIDTHS
+from pages import GATE, PageTest, applied
+
+SAID = '#panel-script .say'
+ALL_FIT = 'english.txt: 6 changes, all fit game.bin.'
+# How far the first element is below the window's lower edge, or beside it.
+UNSEEN = '''const { top, bottom, left, right } = document.querySelector(arguments[0]).getBoundingClientRect();
+    return Math.max(bottom - innerHeight, -top, right - innerWidth, -left)'''
+
+
+class Next(PageTest):
+    def tearDown(self) -> None:
+        self.browser.size(1280)
+
+    def files(self) -> dict[str, Path]:
+        return discs.written(game=discs.game(), scratched=discs.scratched(), english=discs.script(), refused=discs.refused())
+
+    def test_an_image_and_its_script_are_checked_at_once(self) -> None:
+        files = self.files()
+        for names in (('game', 'english'), ('english', 'game')):
+            self.setUp()
+            self.browser.drop('#drop', [files[name] for name in names])
+            self.browser.wait(f'{SAID}.good', ALL_FIT)
+            self.assertEqual(self.focused(), 'Check: Apply and save…')
+        self.press('Apply and save')
+        self.assertEqual(self.browser.downloaded('game (patched).bin').read_bytes(), applied(files['game'], files['english'])[2])
+
+    def test_a_script_that_is_dropped_on_an_open_image_is_checked_at_once(self) -> None:
+        files = self.files()
+        self.open_image(files['game'])
+        self.browser.drop('#main', [files['english']])
+        self.browser.wait(f'{SAID}.good', ALL_FIT)
+        self.browser.click('#tab-disc')
+        self.browser.drop('#main', [files['refused']])
+        self.browser.wait(f'{SAID}.warn', 'refused.txt: 6 of 8 changes fit game.bin, 2 do not.')
+
+    def test_an_image_that_is_opened_for_a_script_is_checked_at_once(self) -> None:
+        files = self.files()
+        self.browser.drop('#drop', [files['english']])
+        self.browser.wait('#panel-script .side', 'Open the image that this script patches.')
+        self.open_files(files['game'])
+        self.browser.wait(f'{SAID}.good', ALL_FIT)
+
+    def test_how_many_changes_fit_is_said(self) -> None:
+        files = {**self.files(), **discs.written(one='cdpatch 1\nrebuild 1\n', none='cdpatch 1\nset 9999 0 41\n')}
+        self.open_image(files['scratched'])
+        for name, said in (('refused', 'refused.txt: 5 of 8 changes fit scratched.bin, 3 do not.'), ('one', 'one.txt: 1 change, which fits scratched.bin.'),
+                           ('none', 'none.txt: 1 change, which does not fit scratched.bin.')):
+            self.open_files(files[name])
+            self.browser.wait(SAID, said)
+            self.assertIn(said, self.browser.text('#announced'))
+
+    def test_what_was_found_and_its_button_are_seen_at_every_width(self) -> None:
+        files = self.files()
+        for width in WIDTHS:
+            self.browser.size(width)
+            self.setUp()
+            self.browser.drop('#drop', [files['game'], files['english']])
+            self.browser.wait(f'{SAID}.good', ALL_FIT)
+            self.assertLessEqual(self.browser.run(UNSEEN, f'{SAID}.good .btn'), 0, width)
+            self.press('Apply and save')
+            self.browser.wait('#saved-sha1', 'a')
+            self.assertLessEqual(self.browser.run(UNSEEN, '#panel-script .side .say'), 0, width)
+            self.browser.downloaded('game (patched).bin').unlink()
+
+    def test_a_script_is_checked_after_the_check_of_another(self) -> None:
+        files = self.files()
+        self.open_image(files['game'])
+        self.browser.run(f'{GATE} held = 0')
+        self.open_script(files['refused'])
+        self.browser.wait(SAID, 'refused.txt: 6 of 8 changes fit game.bin')
+        self.browser.run('Object.assign(globalThis, { reads: 0, held: Infinity, least: 0 })')
+        self.press('Check again')
+        self.browser.wait('#panel-script .side .progress')
+        common.waited(lambda: self.browser.run('return reads') > 0, 'nothing is read')
+        self.browser.run('held = 0')
+        self.open_files(files['english'])
+        self.browser.run('openGate()')
+        self.browser.wait(f'{SAID}.good', ALL_FIT)

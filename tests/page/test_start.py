@@ -1,0 +1,86 @@
+"""The first screen: it is seen whole, says nothing twice, and its three jobs lead to their panels."""
+
+from pathlib import Path
+
+import common
+import discs
+from chromium import WIDTHS
+from pages import PageTest, applied, patcher
+
+# What is below the window, and what stands twice among the sentences that are shown.
+BELOW = '''return [...document.querySelectorAll('header *, main *, footer *')].filter(it => it.checkVisibility() && it.children.length === 0 &&
+    it.getBoundingClientRect().bottom > innerHeight && !it.closest('.hide, [popover]')).map(it => it.innerText)'''
+TWICE = '''const sentences = [...document.querySelectorAll('h1, p, b, button, span')].filter(it => it.checkVisibility() && !it.closest('.hide'))
+        .flatMap(it => [...it.childNodes]).filter(it => it.nodeType === 3).flatMap(it => it.nodeValue.split(/[.:;]/)).map(it => it.trim().toLowerCase());
+    return sentences.filter((it, i) => it.length > 2 && sentences.indexOf(it) < i)'''
+# Counts how often the browser is asked to let the user choose files.
+ASKED = 'globalThis.asked = 0; HTMLInputElement.prototype.click = function () { globalThis.asked += Number(this.id === "files"); }'
+
+
+class Start(PageTest):
+    def tearDown(self) -> None:
+        self.browser.size(1280)
+
+    def test_all_of_it_is_seen_in_1280_by_800(self) -> None:
+        self.browser.size(1280, 800)
+        self.assertEqual(self.browser.text('#start h1'), 'Patch, translate and repair CD images.')
+        self.assertEqual(self.browser.run(BELOW), [])
+        self.assertLessEqual(self.browser.run('return document.documentElement.scrollHeight'), 800)
+
+    def test_nothing_is_said_twice(self) -> None:
+        for width in WIDTHS:
+            self.browser.size(width)
+            self.assertEqual(self.browser.run(TWICE), [], width)
+
+    def test_the_kinds_of_files_are_one_line(self) -> None:
+        height = 'const it = document.querySelector(".takes"); return it.getClientRects().length && it.innerText.split("\\n").length'
+        self.assertEqual(self.browser.run(height), 1)
+        for word in ('.bin', '.cue', 'patch scripts', 'patcher pages', '2352', 'not ISO or CHD'):
+            self.assertIn(word, self.browser.text('.takes'))
+
+    def test_each_job_says_what_to_choose_and_opens_the_picker(self) -> None:
+        self.browser.run(ASKED)
+        for width in (1280, 360):
+            self.browser.size(width)
+            for job, words in (('Play a patch', 'the disc image together with its patch'), ('Translate a disc', 'its cue sheet with all BINs'),
+                               ('Repair a dump', 'the second dump with it')):
+                self.browser.run('asked = 0')
+                self.press(job)
+                self.browser.wait('#wanted', words)
+                self.assertIn(words, self.browser.text('#announced'))
+                self.assertEqual(self.browser.run('return asked'), 1)
+        self.press('Open files')
+        self.assertEqual(self.browser.run('return document.querySelectorAll(".job[aria-pressed=true]").length'), 0)
+
+    def leads(self, job: str, focus: str, panel: str) -> None:
+        self.setUp()
+        self.browser.run(ASKED)
+        self.press(job)
+        self.open_files(discs.written(game=discs.game())['game'])
+        self.browser.wait('#disc-line', 'game.bin')
+        self.browser.wait(f'#panel-{panel}')
+        self.assertEqual(self.browser.run('return document.activeElement.id'), focus)
+
+    def test_each_job_leads_to_its_panel(self) -> None:
+        self.leads('Translate a disc', 'find-text', 'text')
+        self.leads('Repair a dump', 'map', 'disc')
+        self.leads('Open files', 'map', 'disc')
+        self.setUp()
+        self.browser.run(ASKED)
+        self.press('Play a patch')
+        self.open_files(discs.written(game=discs.game())['game'])
+        self.browser.wait('#panel-script', 'Open a script')
+
+    def test_what_is_dropped_after_a_cancelled_picker_is_for_the_same_job(self) -> None:
+        self.browser.run(ASKED)
+        self.press('Translate a disc')
+        self.browser.run('document.querySelector("#files").dispatchEvent(new Event("cancel"))')
+        self.browser.drop('#drop', [discs.written(game=discs.game())['game']])
+        self.browser.wait('#panel-text')
+
+    def test_a_patcher_that_is_dropped_with_its_image_has_judged_it(self) -> None:
+        files = discs.written(game=discs.game(), english=discs.script())
+        page: Path = common.folder('patcher') / 'starlit.html'
+        page.write_bytes(patcher(discs.game(), applied(files['game'], files['english'])[2], discs.script()))
+        self.browser.drop('#drop', [files['game'], page])
+        self.browser.wait('#verdict', 'This is the right disc.')

@@ -1,0 +1,120 @@
+// Choosing files: by a button, for a job of the start, or by dropping them on the page.
+
+import { announce, byId, element, fill, nameOf, setAttribute } from '../ui/index.js';
+
+/** @typedef {import('../app/state.js').Aim} Aim */
+/** @typedef {import('../app/state.js').App} App */
+/** @typedef {import('../ui/fill.js').Child} Child */
+
+/** What is to be chosen for each job, as the start says it. */
+const WANTED = {
+    play: 'Choose the disc image together with its patch',
+    translate: 'Choose the disc image, or its cue sheet with all BINs',
+    repair: 'Choose the damaged image, and the second dump with it',
+};
+
+/** No browser says of each drag that it has ended: one of which nothing was heard for so many milliseconds has. */
+const DRAG_ENDS = 1000;
+
+/** The picker, and what is aimed at by what is chosen next. */
+class Chooser {
+    /** @param {App} app */
+    constructor(app) {
+        this.app = app;
+        this.aim = /** @type {Aim} */ ('');
+        this.input = /** @type {HTMLInputElement} */ (byId('files'));
+        this.jobs = /** @type {HTMLElement[]} */ ([...document.querySelectorAll('.job')]);
+    }
+
+    /**
+     * Opens the browser's picker.
+     * @param {Aim} aim
+     */
+    choose(aim) {
+        this.aimAt(aim);
+        this.input.click();
+    }
+
+    /** @param {Aim} aim */
+    aimAt(aim) {
+        this.aim = aim;
+        for (const job of this.jobs) setAttribute(job, 'aria-pressed', String(job.dataset.aim === aim));
+        const words = aim in WANTED ? WANTED[/** @type {keyof typeof WANTED} */ (aim)] : '';
+        const wanted = byId('wanted');
+        wanted.classList.toggle('if-mouse', words === '');
+        fill(wanted, words || 'Drop your files here');
+        if (words !== '' && this.app.image === null) announce(words);
+    }
+
+    /** @param {File[]} files that were chosen or dropped */
+    take(files) {
+        const { aim } = this;
+        if (files.length === 0) return;
+        this.aimAt('');
+        this.app.open(files, aim);
+    }
+
+    /** Nothing was chosen. On the start what is dropped next is for the same job. */
+    cancelled() {
+        if (this.app.image !== null) this.aimAt('');
+    }
+}
+
+/** @param {App} app */
+export function mountChoosing(app) {
+    const chooser = new Chooser(app);
+    const { input } = chooser;
+    app.serve({ choose: aim => chooser.choose(aim) });
+    for (const id of ['open-files', 'open-other']) byId(id).addEventListener('click', () => chooser.choose(''));
+    for (const job of chooser.jobs) job.addEventListener('click', () => chooser.choose(/** @type {Aim} */ (job.dataset.aim)));
+    input.addEventListener('cancel', () => chooser.cancelled());
+    input.addEventListener('change', () => {
+        const files = [...input.files || []];
+        input.value = '';
+        chooser.take(files);
+    });
+    app.serve({ dropSays: () => dropSays(app) });
+    listenForDrops(app, files => {
+        chooser.cancelled();
+        chooser.take(files);
+    });
+}
+
+/**
+ * What becomes of files that are dropped now.
+ * @param {App} app
+ * @returns {Child[]}
+ */
+function dropSays({ image, saves, script }) {
+    if (saves > 0) return ['An image is being saved: nothing is opened before that has ended.'];
+    if (image === null) return ['Drop it to open it: a disc image, its patch, or both.'];
+    const own = script.isNew() ? '' : 'in place of the one that is open, ';
+    return [element('span', {}, 'An image: you choose whether ', nameOf(image.name), ' is repaired from it, compared, or closed for it.'),
+        element('span', {}, `A script: it is opened ${own}and checked.`)];
+}
+
+/**
+ * @param {App} app
+ * @param {(files: File[]) => void} take
+ */
+function listenForDrops(app, take) {
+    const says = byId('drop-says');
+    let ends = 0;
+    const over = (/** @type {boolean} */ is) => {
+        clearTimeout(ends);
+        if (is) ends = window.setTimeout(over, DRAG_ENDS, false);
+        document.body.classList.toggle('over', is);
+        if (is && says.hidden) fill(says, ...app.services.dropSays());
+        says.hidden = !is;
+    };
+    document.addEventListener('dragover', event => {
+        event.preventDefault();
+        over(event.dataTransfer !== null && event.dataTransfer.types.includes('Files'));
+    });
+    document.addEventListener('dragleave', event => over(event.relatedTarget !== null));
+    document.addEventListener('drop', event => {
+        event.preventDefault();
+        over(false);
+        take([...(event.dataTransfer && event.dataTransfer.files) || []]);
+    });
+}

@@ -1,0 +1,20 @@
+// Closing the open image, with all that was done with it.
+
+import { asked, byId, lostByClosing, nameOf, refuseWhileSaving } from '../ui/index.js';
+
+/** @typedef {import('../app/state.js').App} App */
+
+/**
+ * Closes the open image; if work would be lost then, only if the user says so.
+ * @param {App} app
+ */
+export async function closeImage(app) {
+    const { image } = app;
+    if (image === null || refuseWhileSaving(app)) return;
+    const lost = lostByClosing();
+    const isSure = lost.length === 0 || await asked(['Close ', nameOf(image.name), '?'], [lost.join(' ')],
+        [['close', ['Close it all the same']]], '') === 'close';
+    if (!isSure || app.image !== image) return;
+    app.close();
+    byId('open-files').focus();
+}
