@@ -157,7 +157,7 @@ fi
 # The gate, with an rt that proves nothing, tries wrong versions too.
 cp -r "$top/.ci" .
 cp "$top/tests/lib/counting.sh" tests/lib
-printf '%s\n' '#!/bin/sh' 'mkdir -p crates/cdpatch/out' 'cp bin/rt crates/cdpatch/out/cdpatch' > bin/rt
+printf '%s\n' '#!/bin/sh' 'mkdir -p crates/cdpatch/out' 'cp "$0" crates/cdpatch/out/cdpatch' > bin/rt
 : > called
 env -u CI -u WHOLE -u WRONG_VERSIONS bash .ci/run > log 2>&1
 judge 'the gate tries wrong versions' called 'tests: crates/cdpatch/out/cdpatch  1'
