@@ -59,6 +59,10 @@ Blob.prototype.arrayBuffer = async function () {
     return arrayBuffer.call(this);
 };'''
 
+# How far the first such element is out of the window, in pixels.
+UNSEEN = '''const { top, bottom, left, right } = document.querySelector(arguments[0]).getBoundingClientRect();
+    return Math.max(bottom - innerHeight, -top, right - innerWidth, -left)'''
+
 BUTTON = '''return [...document.querySelectorAll('button, summary')].find(it =>
     it.checkVisibility() && it.innerText.trim().startsWith(arguments[0]))'''
 

@@ -5,7 +5,7 @@ from pathlib import Path
 import common
 import discs
 from chromium import WIDTHS
-from pages import PICKER, PageTest, patcher
+from pages import PICKER, UNSEEN, PageTest, patcher
 from selenium.webdriver.common.keys import Keys
 
 # How many bytes of the file `other.bin` the page reads by itself, and how many pieces of it workers are given.
@@ -158,8 +158,7 @@ class Asked(PageTest):
             for kind in ('dragEnter', 'dragOver'):
                 self.drag(kind, [file])
             self.browser.wait('#drop-says', words)
-            box = 'const it = document.querySelector("#drop-says").getBoundingClientRect(); return [it.top, it.left, innerHeight - it.bottom, innerWidth - it.right]'
-            self.assertGreaterEqual(min(self.browser.run(box)), 0, width)
+            self.assertLessEqual(self.browser.run(UNSEEN, '#drop-says'), 0, width)
             self.drag('dragCancel', [file])
             common.waited(lambda: self.browser.run('return document.querySelector("#drop-says").hidden'), 'it says it still')
         self.browser.size(1280)

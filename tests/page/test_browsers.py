@@ -25,7 +25,7 @@ class Browsers(unittest.TestCase):
     def whole(self, browser: Browser) -> None:
         """Opens, audits, applies; and a patcher, which is a player's."""
         self.addCleanup(browser.quit)
-        files = discs.written(game=discs.scratched(), english=discs.refused())
+        files = discs.written(game=discs.scratched(), other=discs.game(), english=discs.refused())
         out = applied(files['game'], files['english'])[2]
         browser.open(common.PAGE)
         browser.run(NO_PICKER)
@@ -36,7 +36,10 @@ class Browsers(unittest.TestCase):
         _, audit = common.run_program('audit', files['game'])
         common.waited(lambda: audit.strip() in str(browser.run('return document.querySelector("#panel-disc").innerText')), audit)
         browser.give('#files', [files['english']])
-        browser.wait('#panel-script header', 'english.txt')
+        browser.wait('#panel-script .say', 'english.txt: 5 of 8 changes fit game.bin, 3 do not.')
+        browser.give('#files', [files['other']])
+        browser.wait('#sheet h2', 'other.bin')
+        self.press(browser, 'Cancel')
         self.press(browser, 'Apply and save')
         self.assertEqual(browser.downloaded('game (patched).bin').read_bytes(), out)
         self.assertEqual(decoders.differing(browser.run), [])

@@ -1,16 +1,11 @@
 """What is said stands beside what was pressed, is seen on a phone, and ends with its panel; copy buttons say so; notes open beside their word."""
 
-from pathlib import Path
-
 import common
 import discs
 from chromium import WIDTHS
-from pages import PageTest
+from pages import UNSEEN, PageTest
 
 CLIPBOARD = 'navigator.clipboard.writeText = async text => { globalThis.copied = text; };'
-# How far an element is out of the window.
-UNSEEN = '''const { top, bottom, left, right } = document.querySelector(arguments[0]).getBoundingClientRect();
-    return Math.max(bottom - innerHeight, -top, right - innerWidth, -left)'''
 # The words of the notes that are seen now, by their numbers among all.
 WORDS = '''return [...document.querySelectorAll('.term')].flatMap((it, i) => it.checkVisibility() && !it.closest('[popover]') ? i : [])'''
 # Opens the note of a word, and says how far it is from the word and how far out of the window.

@@ -5,13 +5,10 @@ from pathlib import Path
 import common
 import discs
 from chromium import WIDTHS
-from pages import GATE, PageTest, applied
+from pages import GATE, UNSEEN, PageTest, applied
 
 SAID = '#panel-script .say'
 ALL_FIT = 'english.txt: 6 changes, all fit game.bin.'
-# How far the first element is below the window's lower edge, or beside it.
-UNSEEN = '''const { top, bottom, left, right } = document.querySelector(arguments[0]).getBoundingClientRect();
-    return Math.max(bottom - innerHeight, -top, right - innerWidth, -left)'''
 
 
 class Next(PageTest):
