@@ -43,9 +43,10 @@ import { Store } from './store.js';
 
 /**
  * What parts of the page do for all: `open` opens files, as if they were dropped; `choose` lets the user choose them; `dropSays`
- * says what becomes of files that are dropped; `takeBackBytes` takes back the bytes that were typed last in a sector, if it can.
+ * says what becomes of files that are dropped; `takeBackBytes` takes back the bytes that were typed last in a sector, if it can;
+ * `saveScript` saves the script in a file.
  * @typedef {{ open: (files: File[], aim: Aim) => Promise<void>, choose: (aim: Aim) => void, dropSays: () => Child[],
- *     takeBackBytes: () => boolean }} Services
+ *     takeBackBytes: () => boolean, saveScript: () => void }} Services
  */
 
 /** @typedef {'disc' | 'text' | 'script' | 'publish'} PanelName */

@@ -55,7 +55,8 @@ export class Store {
         /** Ends what is done with the second image. */
         this.pairing = new AbortController();
         /** @type {Services} */
-        this.services = { open: async () => {}, choose: () => {}, dropSays: () => [], takeBackBytes: () => false };
+        this.services = { open: async () => {}, choose: () => {}, dropSays: () => [], takeBackBytes: () => false,
+            saveScript: () => {} };
         /** @type {((file: File) => Promise<boolean>)[]} */
         this.takers = [];
         /** When the survey was last told of. */
@@ -104,6 +105,11 @@ export class Store {
     /** Takes back the bytes that were typed last in a sector, if it can. */
     takeBackBytes() {
         return this.services.takeBackBytes();
+    }
+
+    /** Saves the script in a file. */
+    saveScript() {
+        this.services.saveScript();
     }
 
     /** @param {(file: File) => Promise<boolean>} taker is asked of each file that is opened, and returns whether it has taken it */
