@@ -20,6 +20,7 @@ export function mountDisc(app, panel) {
     panel.append(element('h1', { class: 'hide' }, 'Disc'), disc.part);
     for (const name of /** @type {const} */ (['survey', 'panel', 'files'])) app.on(name, () => disc.drawMap());
     app.on('surveyed', () => disc.findings.draw());
+    app.on('files', () => disc.findings.takeFiles(true));
     app.on('image', () => disc.begin());
     app.on('place', ({ show, comes }) => disc.drawPlace(show, comes));
     app.on('second', job => disc.second.begin(job));
@@ -58,7 +59,7 @@ class DiscPanel {
         this.map.show(null);
         this.sector.close();
         this.findings.opened.clear();
-        this.findings.draw();
+        this.findings.takeFiles(false);
     }
 
     drawMap() {

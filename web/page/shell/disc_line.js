@@ -6,6 +6,7 @@ import { modeOneSectors, otherBase, placesOf } from '../disc/index.js';
 import { changeBase, imageOfTrack, readImage } from '../open/index.js';
 import { button, byId, copyButton, countOf, counted, element, fill, jobEnd, keyed, nameOf, seen, shownName, term } from '../ui/index.js';
 import { closeImage } from './close_image.js';
+import { tracksInWords } from './tracks.js';
 
 /** @typedef {import('../app/state.js').App} App */
 /** @typedef {import('../app/state.js').Image} Image */
@@ -100,7 +101,8 @@ function facts(app, image, drawn) {
 function lineParts(app, image) {
     const tail = image.tail === 0 ? 'no tail' : `a tail of ${countOf(image.tail, 'byte')}`;
     const parts = `${counted(image.reader.size)} bytes · ${countOf(image.sectors, 'sector')} · ${tail}`;
-    const from = image.from === '' ? [] : [' · from ', element('span', { class: 'mono' }, nameOf(image.from))];
+    const from = image.from === '' ? [] : [' · from ', element('span', { class: 'mono' }, nameOf(image.from)), ': ',
+        ...tracksInWords(image)];
     const tracks = image.disc.tracks.filter(track => track.image !== null);
     return [element('p', { class: 'small quiet num' }, parts, ...from), tracks.length > 1 && trackChoice(app, image)];
 }
