@@ -7,6 +7,7 @@ import { SurveyMarks } from './marks.js';
 import { ScriptLines } from './script_lines.js';
 
 /** @typedef {import('../../core/jobs.js').Crew} Crew */
+/** @typedef {import('../../core/disc/dat.js').KnownDumps} KnownDumps */
 /** @typedef {import('../../core/iso/files.js').VolumeFiles} VolumeFiles */
 /** @typedef {import('../../core/module/calls.js').Calls} Calls */
 /** @typedef {import('../../core/texts/encoding.js').Encoding} Encoding */
@@ -43,6 +44,10 @@ export class Store {
         this.encoding = USUAL_ENCODING.name;
         /** @type {Map<string, Encoding>} the tables that were loaded, by their files' names */
         this.tables = new Map();
+        /** @type {Map<string, string>} the texts of these files */
+        this.tableTexts = new Map();
+        /** @type {KnownDumps[]} the lists of known dumps that were opened */
+        this.dumps = [];
         this.panel = /** @type {PanelName} */ ('disc');
         /** @type {Map<string, ((detail: any) => void)[]>} */
         this.listeners = new Map();
@@ -218,10 +223,18 @@ export class Store {
      * Takes a table in, which is the encoding from now on.
      * @param {string} name of its file
      * @param {Encoding} table
+     * @param {string} text of the file
      */
-    addTable(name, table) {
+    addTable(name, table, text) {
         this.tables.set(name, table);
+        this.tableTexts.set(name, text);
         this.chooseEncoding(name);
+    }
+
+    /** @param {KnownDumps} dumps a list of them, which is kept as long as the page is open */
+    addDumps(dumps) {
+        this.dumps.push(dumps);
+        this.tell('dumps');
     }
 
     /** @param {unknown} data of a patcher, which are to be worked on */

@@ -4,6 +4,7 @@ import { filesAt } from '../../core/iso/files.js';
 import { SecondCard } from '../second/index.js';
 import { button, element, fill, shownName } from '../ui/index.js';
 import { Findings } from './findings.js';
+import { mountDumps } from './known_dumps.js';
 import { Legend } from './legend.js';
 import { DiscMap } from './map.js';
 import { SectorCard } from './sector_card.js';
@@ -24,6 +25,7 @@ export function mountDisc(app, panel) {
     app.on('image', () => disc.begin());
     app.on('place', ({ show, comes }) => disc.drawPlace(show, comes));
     app.on('second', job => disc.second.begin(job));
+    mountDumps(app);
 }
 
 class DiscPanel {

@@ -2,7 +2,7 @@
 
 import { LAST_BASE, SECTOR_SIZE } from '../../core/sectors/sector.js';
 import { MARK } from '../app/index.js';
-import { modeOneSectors, otherBase, placesOf } from '../disc/index.js';
+import { dumpWords, modeOneSectors, otherBase, placesOf } from '../disc/index.js';
 import { changeBase, imageOfTrack, readImage } from '../open/index.js';
 import { button, byId, copyButton, countOf, counted, element, fill, jobEnd, keyed, nameOf, seen, shownName, term } from '../ui/index.js';
 import { closeImage } from './close_image.js';
@@ -30,7 +30,7 @@ export function mountDiscLine(app) {
     };
     const soon = () => { drawn.waiting = drawn.waiting || requestAnimationFrame(draw); };
     drawn.redraw = soon;
-    for (const name of /** @type {const} */ (['survey', 'surveyed', 'panel', 'second'])) app.on(name, soon);
+    for (const name of /** @type {const} */ (['survey', 'surveyed', 'dumps', 'panel', 'second'])) app.on(name, soon);
     app.on('image', () => {
         document.title = app.image === null ? 'cdpatch' : `cdpatch: ${shownName(app.image.name)}`;
         Object.assign(drawn, { hashed: 0, changing: false });
@@ -90,7 +90,8 @@ function facts(app, image, drawn) {
     const close = button('slim bare tiny', () => void closeImage(app), 'Close', element('span', { class: 'hide' }, ' the image'));
     const name = element('div', { class: 'row' }, element('p', { class: 'name' }, nameOf(image.name)), close);
     return [element('div', {}, name, ...lineParts(app, image),
-        panel === 'disc' && element('p', { class: 'small quiet' }, 'SHA-1 ', ...shaOf(image, drawn, 40))), element('dl', {}, ...own)];
+        panel === 'disc' && element('p', { class: 'small quiet' }, 'SHA-1 ', ...shaOf(image, drawn, 40)), dumpWords(app, image)),
+    element('dl', {}, ...own)];
 }
 
 /**

@@ -1,6 +1,7 @@
 // The encodings that can be chosen.
 
-import { ENCODINGS, USUAL_ENCODING, encodingOf, tableOf } from '../../core/texts/encodings.js';
+import { ENCODINGS, USUAL_ENCODING, encodingOf, tableTextOf } from '../../core/texts/encodings.js';
+import { tableEncoding } from '../../core/texts/table.js';
 import { element, fill, messageOf, nameOf, notice, shownName } from '../ui/index.js';
 
 /** @typedef {import('../app/state.js').App} App */
@@ -67,7 +68,8 @@ export function bindEncodings(app, choice, isOffered = () => true) {
  */
 export async function takeTable(app, file) {
     try {
-        app.addTable(file.name, tableOf(new Uint8Array(await file.arrayBuffer())));
+        const text = tableTextOf(new Uint8Array(await file.arrayBuffer()));
+        app.addTable(file.name, tableEncoding(text), text);
         return notice('good', ['Loaded: ', nameOf(file.name)], 'It is the encoding now, here and where bytes are shown as text.');
     } catch (error) {
         return notice('bad', ['Not a table that can be read: ', nameOf(file.name)], messageOf(error));
