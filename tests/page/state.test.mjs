@@ -95,7 +95,7 @@ test('each change is told to who listens, after it', () => {
     assert.deepEqual(told[0][4], { files: [] });
     assert.equal(after(() => app.setSums(image, { sha1: 'ab', crc32: 'cd' })), 'hash');
     assert.deepEqual([told[0][1], image.sha1, image.crc32], [2352, 'ab', 'cd']);
-    assert.equal(after(() => app.addTable('game.tbl', {}, '41=A')), 'encoding');
+    assert.equal(after(() => app.addTable('game.tbl', {})), 'encoding');
     assert.deepEqual([told[0][5], app.tables.has('game.tbl')], ['game.tbl', true]);
     assert.equal(after(() => app.goToLine(4)), 'panel line');
     assert.deepEqual([told[0][6], told[1][1]], ['script', 4]);

@@ -31,8 +31,8 @@ import { Store } from './store.js';
  * known (`files`); there is a second image, or none any more (`second`, with what is done with it first); a place was chosen (`place`);
  * the script has changed (`script`, with what brings the last one back if that is in no file, or null if it was typed in the panel
  * Script), or is to be checked (`check`); one of its lines was chosen (`line`, from 0); the encoding was chosen, or a table is new
- * (`encoding`); a list of known dumps is new (`dumps`); another panel is shown (`panel`);
- * the data of a patcher are to be worked on (`patcher`).
+ * (`encoding`); a list of known dumps is new (`dumps`); another panel is shown (`panel`); the data of a patcher are to be worked on
+ * (`patcher`).
  * @typedef {'image' | 'closed' | 'survey' | 'surveyed' | 'hash' | 'files' | 'second' | 'place' | 'script' | 'check' | 'line' | 'encoding' |
  *     'dumps' | 'panel' | 'patcher'} Happening
  */

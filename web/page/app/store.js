@@ -44,8 +44,6 @@ export class Store {
         this.encoding = USUAL_ENCODING.name;
         /** @type {Map<string, Encoding>} the tables that were loaded, by their files' names */
         this.tables = new Map();
-        /** @type {Map<string, string>} the texts of these files */
-        this.tableTexts = new Map();
         /** @type {KnownDumps[]} the lists of known dumps that were opened */
         this.dumps = [];
         this.panel = /** @type {PanelName} */ ('disc');
@@ -110,11 +108,6 @@ export class Store {
     /** Takes back the bytes that were typed last in a sector, if it can. */
     takeBackBytes() {
         return this.services.takeBackBytes();
-    }
-
-    /** Saves the script in a file. */
-    saveScript() {
-        this.services.saveScript();
     }
 
     /** @param {(file: File) => Promise<boolean>} taker is asked of each file that is opened, and returns whether it has taken it */
@@ -223,11 +216,9 @@ export class Store {
      * Takes a table in, which is the encoding from now on.
      * @param {string} name of its file
      * @param {Encoding} table
-     * @param {string} text of the file
      */
-    addTable(name, table, text) {
+    addTable(name, table) {
         this.tables.set(name, table);
-        this.tableTexts.set(name, text);
         this.chooseEncoding(name);
     }
 

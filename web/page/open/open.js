@@ -97,7 +97,7 @@ async function takenAs(app, file) {
         showNotice('warn', ['This file is ', marked.name, ', which cdpatch does not read: ', nameOf(file.name)],
             'It was read here all the same.', element('div', { class: 'row' }, button('slim', () => {
                 endMessages();
-                app.saveScript();
+                app.services.saveScript();
             }, 'Save it as plain UTF-8')));
     }
     return 'script';

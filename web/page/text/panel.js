@@ -87,10 +87,9 @@ class TextPanel {
             ' of every sector, including text that runs over into the next one.');
         try {
             const bytes = chosenEncoding(this.app).units(this.field.value).map(([usual]) => hexOf(usual).replace(/..(?=.)/g, '$& '));
-            const count = bytes.join(' ').split(' ').length;
             this.field.setAttribute('aria-invalid', 'false');
-            return fill(this.hint, `${countOf(count, 'byte')}: `, element('span', { class: 'mono' }, bytes.slice(0, 24).join(' ')),
-                bytes.length > 24 ? '…' : '');
+            return fill(this.hint, `${countOf(bytes.join(' ').split(' ').length, 'byte')}: `, element('span', { class: 'mono' },
+                bytes.slice(0, 24).join(' ')), bytes.length > 24 ? '…' : '');
         } catch (error) {
             this.field.setAttribute('aria-invalid', 'true');
             return fill(this.hint, element('b', { class: 'bad-ink' }, messageOf(error)));

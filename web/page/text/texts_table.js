@@ -14,7 +14,7 @@ import { downloadBytes } from '../save/index.js';
 import { announce, button, countOf, counted, element, fill, isCancelled, jobBar, messageParts, nameOf, notice } from '../ui/index.js';
 import { runAt, showFailure, tableCard, visible } from '../ui/index.js';
 import { AroundCard, readAround } from './around_card.js';
-import { chosenEncoding } from './encodings.js';
+import { chosenEncoding, tableSource } from './encodings.js';
 
 /** @typedef {import('../app/state.js').App} App */
 /** @typedef {import('../app/state.js').Image} Image */
@@ -93,8 +93,8 @@ export class TextsTable {
 
     /** In which encoding texts are told: those that are usual, if none of them or none with characters is chosen. */
     asked() {
-        const { app } = this;
-        const [encoding, table] = [chosenEncoding(app), app.tableTexts.get(app.encoding)];
+        const encoding = chosenEncoding(this.app);
+        const table = tableSource(encoding);
         if (table !== undefined) return { table };
         return SEARCHED.includes(encoding) || !encoding.hasCharacters ? {} : { encoding: encoding.name };
     }
