@@ -3,6 +3,6 @@
 import module from '../module.gz';
 import notices from '../notices.gz';
 import own from '../own.gz';
-import worker from '../worker.txt';
+import worker from '../worker.gz';
 
 export const JOINED = { module, notices, own, worker, script: document.currentScript.textContent };

@@ -140,7 +140,7 @@ test('the word that makes a line faulty is found, and a word that lacks a digit'
 test('a text is a script by its first line that says something, or meant as one', () => {
     const read = text => [isScript, isMeantAsScript].map(is => is(calls, new TextEncoder().encode(text)));
     for (const text of ['cdpatch 1', '\r\n# a\n\tcdpatch 2\r\nx']) assert.deepEqual(read(text), [true, true], text);
-    for (const text of ['cdpatch 3\n', 'set 5 0 41', '# a\nfill x', 'address 1 00:02:01\n', 'rebuild\t1']) assert.deepEqual(read(text), [false, true], text);
+    for (const text of ['cdpatch 3\n', 'CDPATCH 1\n', 'set 5 0 41', '# a\nfill x', 'address 1 00:02:01\n', 'rebuild\t1']) assert.deepEqual(read(text), [false, true], text);
     for (const text of ['', '# a\n', 'cdpatch', 'rebuild', 'Set 5 0 41', 'x\ncdpatch 1', 'setting 1', 'cdpatches 1']) {
         assert.deepEqual(read(text), [false, false], text);
     }

@@ -4,7 +4,8 @@ import assert from 'node:assert/strict';
 import { test } from 'node:test';
 import { core, diceOf } from './common.mjs';
 
-const { TextTeller, keptOf } = await core('texts/telling.js');
+const { TextTeller } = await core('texts/telling.js');
+const { keptOf } = await core('texts/told.js');
 const { encodingOf } = await core('texts/encodings.js');
 const { encodeText } = await core('texts/encoding.js');
 

@@ -113,10 +113,10 @@ test('a script is in no file from its first edit until it is saved, and again af
     assert.equal(lines.isSaved(), false);
 });
 
-test('outcomes stand at their lines in the words of the program until an edit', () => {
+test('outcomes stand at their lines as what fits and what does not, until an edit', () => {
     const lines = linesOf('cdpatch 1\nrebuild 1\n# note\nset 4713 608 41 was 42');
     lines.setOutcomes([{ number: 2, result: 0, block: 1, offset: 0 }, { number: 4, result: 5, block: 4713, offset: 608 }]);
-    assert.deepEqual(words(lines), ['', 'applied', '', 'refused: old bytes differ at block 4713 offset 608']);
+    assert.deepEqual(words(lines), ['', 'fits', '', 'does not fit: old bytes differ at block 4713 offset 608']);
     assert.deepEqual([lines.nextWrong(0, 1), lines.nextWrong(3, 1), lines.nextWrong(0, -1)], [3, 3, 3]);
     lines.edit(1, 1, ['rebuild 2']);
     assert.deepEqual(words(lines), ['', '', '', '']);

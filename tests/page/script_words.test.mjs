@@ -55,6 +55,21 @@ test('a script without a head line gets one', () => {
     assert.deepEqual(helpOfFault(new ScriptLines(calls, 'rebuild 1'), 0).fix.lines, ['cdpatch 1', 'rebuild 1']);
 });
 
+test('a head line that is none becomes one by a press', () => {
+    for (const [head, mended] of [['cdpatch 9', 'cdpatch 2'], ['CDPATCH 1', 'cdpatch 1'], ['cdpatch 1 0', 'cdpatch 1'], ['cdpatch', 'cdpatch 2']]) {
+        const { fix } = helpOfFault(new ScriptLines(calls, `${head}\nrebuild 1`), 0);
+        assert.deepEqual(fix, { says: `Make it ${mended}`, lines: [mended] }, head);
+    }
+});
+
+test('a line that needs version 2 mends the head line', () => {
+    const lines = new ScriptLines(calls, '# mine\ncdpatch 1\naddress 7 00:02:07');
+    const { fix } = helpOfFault(lines, 2);
+    assert.deepEqual(fix, { says: 'Make it cdpatch 2', lines: ['cdpatch 2'], head: true });
+    lines.edit(lines.head, 1, fix.lines);
+    assert.equal(lines.faults, 0);
+});
+
 test('each refusal has a sentence', () => {
     const image = { base: 150, sectors: 10 };
     for (const result of [1, 2, 4, 5]) assert.ok(helpOfRefusal(result, image, 0).text.length > 20, `result ${result}`);

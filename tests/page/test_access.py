@@ -20,7 +20,7 @@ class Access(PageTest):
         self.open_image(files['game'])
         self.open_script(files['english'])
         self.press('Check')
-        self.browser.wait('.tally', 'refused')
+        self.browser.wait('.tally', 'not fit')
 
     def to_text(self) -> None:
         self.open_image(discs.written(game=discs.game())['game'])

@@ -123,7 +123,7 @@ class Pictures(PageTest):
         self.begin(discs.scratched(), discs.refused())
         self.take('script')
         self.press('Check')
-        self.browser.wait('.tally', 'refused')
+        self.browser.wait('.tally', 'not fit')
         self.browser.click('.editor textarea')
         self.browser.press(*3 * [Keys.ARROW_DOWN])
         self.take('script-checked')

@@ -25,7 +25,7 @@ EPISODE = 50
 STATE = '''const text = css => document.querySelector(css)?.textContent ?? '';
     const shown = document.querySelector('.player') ? 'player' : document.querySelector('#tabs').hidden ? ''
         : document.querySelector('[role=tab][aria-selected=true][id^=tab-]').id.slice(4);
-    const tag = [...document.querySelectorAll('#panel-script header .tag')].some(it => it.textContent === 'in no file yet');
+    const tag = [...document.querySelectorAll('#panel-script header .tag')].some(it => it.textContent === 'not saved');
     const asked = new Event('beforeunload', { cancelable: true });
     dispatchEvent(asked);
     const second = document.querySelector('#second-title');
@@ -138,7 +138,7 @@ class Random(PageTest):
         self.open_files(path)
         lost = self.model.open_script(name, text)
         if lost:
-            self.browser.wait('#messages .say.warn', 'Your script was in no file')
+            self.browser.wait('#messages .say.warn', 'Your script was not saved')
             if self.dice.random() < 0.5:
                 self.press('Bring it back')
                 self.model.bring_back()
@@ -212,7 +212,7 @@ class Random(PageTest):
             return
         self.back_to_check()
         self.press('Check')
-        self.browser.wait('#panel-script .tally', 'would apply')
+        self.browser.wait('#panel-script .tally', 'fit')
 
     def script_file(self) -> Path:
         return discs.written(script=self.model.text())['script']
@@ -220,7 +220,7 @@ class Random(PageTest):
     def undo_script(self) -> None:
         if self.model.name() == '' or 'rebuild' in self.model.text() and self.model.patches() == self.model.text().count('rebuild'):
             return
-        self.press('Make the undo script')
+        self.press('Undo script')
         path = self.browser.downloaded(f'{self.model.name()[:-4]} (undo).txt')
         out = applied(self.paths[self.model.image], self.script_file())[2]
         again = applied(discs.written(patched=out)['patched'], path)[2]

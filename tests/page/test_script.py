@@ -30,14 +30,50 @@ class Script(PageTest):
         self.open_image(files['game'])
         self.open_script(files['english'])
         self.press('Check')
-        self.browser.wait('.tally', 'refused')
-        status, text = common.run_program('check', files['game'], files['english'])
+        self.browser.wait('.tally', 'not fit')
+        _, text = common.run_program('check', files['game'], files['english'])
         self.assertEqual(self.browser.run('return document.querySelector("pre.log").textContent'), text)
-        self.assertIn(f'status {status}', self.browser.text('#panel-script .side'))
-        said = {line.split(': ', 1)[0]: line.split(': ', 1)[1] for line in text.split('\n')[:-2]}
+        self.assertNotIn('status', self.browser.text('#panel-script .side'))
+        said = {line.split(': ', 1)[0]: line.split(': ', 1)[1].replace('applied', 'fits').replace('refused', 'does not fit') for line in text.split('\n')[:-2]}
         shown = {f"line {row.split('|')[0]}": row.split('|')[2] for row in self.rows() if row.split('|')[2]}
         self.assertEqual(shown, said)
         self.assertIn('english.txt: 5 of 8 changes fit game.bin, 3 do not.', self.browser.text('#panel-script .side'))
+
+    def texts(self) -> list[str]:
+        """What the lines of the editor that are drawn set, as texts."""
+        return list(self.browser.run("return [...document.querySelectorAll('.editor .texts')].map(it => it.textContent)"))
+
+    def test_each_line_has_its_old_and_its_new_text_beside_it(self) -> None:
+        files = discs.written(game=discs.game(), english=discs.script() + f'set {discs.first_block()} 600 4142\n')
+        self.open_image(files['game'])
+        self.open_script(files['english'])
+        self.assertEqual(self.texts(), ['', '', '', 'スタート → Start␣␣␣', 'つづきから → Continue␣␣', 'はじめから → New game␣␣', '設定 → Set.', '', '',
+                                        ' → AB', ''])
+        for width, below in ((1280, False), (360, True)):
+            self.browser.size(width)
+            tops = 'return [".src", ".texts"].map(it => Math.round(document.querySelector(`.editor [data-line="4"] ${it}`).getBoundingClientRect().top))'
+            common.waited(lambda: (lambda it: it[1] > it[0])(self.browser.run(tops)) == below, f'at {width} the texts stand elsewhere')
+        self.browser.size(1280)
+        for encoding, text in (('EUC-JP', ' → Start␣␣␣'), ('hex', '')):
+            self.browser.click('#tab-text')
+            self.browser.run('const it = document.querySelector("#find-encoding"); it.value = arguments[0]; it.dispatchEvent(new Event("change"))', encoding)
+            self.browser.click('#tab-script')
+            self.assertEqual(self.texts()[3][-len(text):] if text else self.texts()[3], text, encoding)
+            self.assertNotIn('スタート', self.texts()[3])
+
+    def test_a_line_fits_or_does_not_before_it_is_saved(self) -> None:
+        files = discs.written(game=discs.game(), english=discs.refused())
+        self.open_image(files['game'])
+        self.open_script(files['english'])
+        self.press('Check')
+        self.browser.wait('.tally', '6\nfit\n2\ndo not fit')
+        words = [row.split('|')[2] for row in self.rows() if row.split('|')[2]]
+        self.assertEqual([it.split(':')[0] for it in words], ['fits'] * 6 + ['does not fit'] * 2)
+        shown = self.browser.text('#panel-script .two')
+        for word in ('applied', 'status'):
+            self.assertNotIn(word, shown.split('Log')[0])
+        self.press('Go to line')
+        self.browser.wait('.explain', f'It does not fit: old bytes differ at block {discs.first_block()} offset 600.')
 
     def test_apply_saves_what_the_program_writes(self) -> None:
         files = discs.written(game=discs.scratched() + b'tail', english=discs.refused())
@@ -84,7 +120,7 @@ class Script(PageTest):
         self.open_image(files['game'])
         self.open_script(files['english'])
         self.press('Check')
-        self.browser.wait('.tally', '1\nrefused')
+        self.browser.wait('.tally', '1\ndoes not fit')
         self.browser.click('#panel-script input[type=checkbox]')
         self.press('Apply and save')
         saved = self.browser.downloaded('game (patched).bin')
@@ -153,6 +189,12 @@ class Script(PageTest):
         self.browser.wait('#panel-script header .tag', '2 faults')
         self.assertIn('set 27 57 41 was 42', self.script_text())
 
+    def test_a_line_that_needs_version_2_mends_the_head_line(self) -> None:
+        self.open_script(discs.written(old='# mine\ncdpatch 1\nrebuild 1\naddress 7 00:02:07\n')['old'])
+        self.press('Make it cdpatch 2')
+        self.browser.wait('#panel-script header .tag:not(.bad)', '2 patches, version 2')
+        self.assertEqual(self.script_text(), '# mine\ncdpatch 2\nrebuild 1\naddress 7 00:02:07\n')
+
     def test_keys_edit_lines_and_undo_takes_back(self) -> None:
         self.open_image(discs.written(game=discs.game())['game'])
         self.browser.click('#tab-script')
@@ -168,7 +210,7 @@ class Script(PageTest):
         self.assertEqual([row.split('|')[1] for row in self.rows()], ['# end'])
         self.browser.press('z', held=Keys.CONTROL)
         self.browser.press(Keys.ENTER, held=Keys.CONTROL)
-        self.browser.wait('.tally', '2\nwould apply')
+        self.browser.wait('.tally', '2\nfit')
         self.assertEqual(self.script_text(), 'cdpatch 1\nrebuild 1\nrebuild 2\n# end')
 
     def type_script(self) -> None:
@@ -182,7 +224,7 @@ class Script(PageTest):
         self.open_image(files['game'])
         self.type_script()
         self.open_script(files['english'])
-        self.browser.wait('#messages .say.warn', 'Your script was in no file')
+        self.browser.wait('#messages .say.warn', 'Your script was not saved')
         self.press('Bring it back')
         self.assertEqual([row.split('|')[1] for row in self.rows()], ['cdpatch 1', 'rebuild 1'])
         self.assertEqual(self.browser.text('#panel-script header h2'), 'New script')
@@ -197,11 +239,11 @@ class Script(PageTest):
         self.assertFalse(self.browser.asks_before_leaving())
         self.type_script()
         self.assertTrue(self.browser.asks_before_leaving())
-        self.browser.wait('#panel-script header .tag.warn', 'in no file yet')
+        self.browser.wait('#panel-script header .tag.warn', 'not saved')
         self.browser.press('s', held=Keys.CONTROL)
         self.assertEqual(self.browser.downloaded('script.txt').read_text(), 'cdpatch 1\nrebuild 1')
         self.assertFalse(self.browser.asks_before_leaving())
-        self.assertNotIn('in no file', self.browser.text('#panel-script header'))
+        self.assertNotIn('not saved', self.browser.text('#panel-script header'))
 
     def test_the_focus_stays_in_the_card_that_works(self) -> None:
         files = discs.written(game=discs.scratched(), english=discs.script())
@@ -256,7 +298,7 @@ class Script(PageTest):
         self.open_script(files['large'])
         self.browser.wait('#panel-script header .tag', '65,535 patches')
         self.press('Check')
-        self.browser.wait('.tally', 'refused')
+        self.browser.wait('.tally', 'not fit')
         self.browser.click('.editor textarea')
         self.browser.press(Keys.HOME, Keys.ARROW_DOWN)
         self.browser.run(COUNTED)
@@ -294,7 +336,7 @@ class Script(PageTest):
         files = discs.written(game=discs.game(), english=discs.script())
         self.open_image(files['game'])
         self.open_script(files['english'])
-        self.press('Make the undo script')
+        self.press('Undo script')
         undo = self.browser.downloaded('english (undo).txt')
         _, _, patched = applied(files['game'], files['english'])
         self.assertNotEqual(patched, discs.game())
@@ -306,7 +348,7 @@ class Script(PageTest):
         self.open_image(files['game'])
         self.open_script(files['english'])
         self.browser.click('#panel-script input[type=checkbox]')
-        self.press('Make the undo script')
+        self.press('Undo script')
         self.browser.wait('#messages .say', 'Apply it with carry, as this script.')
         undo = self.browser.downloaded('english (undo).txt')
         _, _, patched = applied(files['game'], files['english'], '--carry')
@@ -318,7 +360,7 @@ class Script(PageTest):
         self.open_image(files['game'])
         self.open_script(files['english'])
         self.browser.run(GATE)
-        self.press('Make the undo script')
+        self.press('Undo script')
         self.browser.wait('#panel-script .progress')
         self.press('Cancel')
         self.browser.run('openGate()')
@@ -328,10 +370,10 @@ class Script(PageTest):
     def test_the_undo_script_can_be_made_of_an_image_that_is_opened_later(self) -> None:
         files = discs.written(game=discs.game(), english=discs.script())
         self.open_script(files['english'])
-        self.assertTrue(self.is_off('Make the undo script'))
+        self.assertTrue(self.is_off('Undo script'))
         self.open_image(files['game'])
         self.browser.click('#tab-script')
-        self.assertFalse(self.is_off('Make the undo script'))
+        self.assertFalse(self.is_off('Undo script'))
 
     def test_a_file_that_shrinks_saves_nothing(self) -> None:
         files = discs.written(game=discs.game(), english=discs.script())
@@ -349,7 +391,7 @@ class Script(PageTest):
         self.open_image(files['track'])
         self.open_script(files['later'])
         self.press('Check')
-        self.browser.wait('.tally', '1\nrefused')
+        self.browser.wait('.tally', '1\ndoes not fit')
         _, text = common.run_program('check', '--base', '1000', files['track'], files['later'])
         self.assertEqual(self.browser.run('return document.querySelector("pre.log").textContent'), text)
 

@@ -53,7 +53,7 @@ class Sending(PageTest):
         self.press('Add for all')
         self.browser.click('#tab-script')
         self.press('Check')
-        self.browser.wait('.tally', '5\nwould apply')
+        self.browser.wait('.tally', '5\nfit')
         self.press('Apply and save')
         self.browser.downloaded('game (patched).bin')
         self.browser.click('#tab-publish')

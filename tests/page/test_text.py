@@ -66,7 +66,7 @@ class Text(PageTest):
         new = 'Start'.encode().ljust(8).hex().upper()
         self.assertEqual(script, 'cdpatch 1\n' + ''.join(f'set {place} {new} was {discs.START.hex().upper()}\n' for place in places(discs.START)))
         self.press('Check')
-        self.browser.wait('.tally', '5\nwould apply')
+        self.browser.wait('.tally', '5\nfit')
         self.press('Apply and save')
         saved = self.browser.downloaded('game (patched).bin').read_bytes()
         self.assertEqual(saved, applied(self.files['game'], discs.written(script=script)['script'])[2])

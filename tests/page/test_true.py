@@ -80,7 +80,7 @@ class Sayings(PageTest):
         self.open_files(files['first'], files['second'])
         self.browser.answer('Repair first.bin from it')
         self.browser.wait('[aria-label="Cannot be repaired: 1"] td', str(discs.first_block()))
-        self.assertNotIn('in no file', self.browser.text('[aria-label="Cannot be repaired: 1"]'))
+        self.assertNotIn('not saved', self.browser.text('[aria-label="Cannot be repaired: 1"]'))
         self.browser.run('openFiles()')
         self.browser.wait('[aria-label="Cannot be repaired: 1"]', '/DATA/MSG00.DAT')
 
@@ -170,7 +170,9 @@ class Sayings(PageTest):
         whole = f'cdpatch 1\n{lines}'
         self.open_image(discs.written(game=discs.game())['game'])
         given = {'nohead': lines.encode(), 'comment': f'# mine\n{lines}'.encode(), 'later': f'cdpatch 9\n{lines}'.encode(),
-                 'mark': b'\xef\xbb\xbf' + whole.encode(), 'utf16': whole.encode('utf-16')}
+                 'capitals': f'CDPATCH 1\n{lines}'.encode(), 'mark': b'\xef\xbb\xbf' + whole.encode(), 'utf16': whole.encode('utf-16')}
+        mends = {'nohead': 'Add it', 'comment': 'Add it', 'later': 'Make it cdpatch 2', 'capitals': 'Make it cdpatch 1', 'mark': 'Save it as plain UTF-8',
+                 'utf16': 'Save it as plain UTF-8'}
         for name, data in given.items():
             with self.subTest(name):
                 path = common.folder('scripts') / f'{name}.txt'
@@ -180,10 +182,15 @@ class Sayings(PageTest):
                 self.assertTrue(any(lines.strip() in row for row in self.rows()), self.rows())
                 if name in ('mark', 'utf16'):
                     self.browser.wait('#messages .say.warn', 'which cdpatch does not read: ')
-                    self.browser.wait('#panel-script header .tag.warn', 'in no file yet')
-                    self.assertEqual(self.script_text(), whole)
-                elif name == 'nohead':
+                    self.browser.wait('#panel-script header .tag.warn', 'not saved')
+                else:
                     self.browser.wait('.editor', 'A script begins with the line')
+                self.press(mends[name])
+                self.browser.wait('#panel-script header .tag:not(.bad)', '1 patch, version')
+                if name in ('mark', 'utf16'):
+                    saved = self.browser.downloaded(path.name)
+                    self.assertEqual(common.waited(saved.read_bytes, 'the script is empty'), whole.encode())
+                    self.assertNotIn('not saved', self.browser.text('#panel-script header'))
                 self.browser.click('#tab-disc')
 
     def test_a_text_that_is_no_script_is_none(self) -> None:

@@ -1,15 +1,16 @@
 // The jobs that write images: `merge`, `raw`, `user` and `extract`.
 
 import { createHash } from 'node:crypto';
-import { bytesOfLines, sliceOf } from '../core/bytes.js';
+import { bytesOfLines } from '../core/bytes.js';
 import { natureOf } from '../core/disc/file_type.js';
 import { Fault } from '../core/faults.js';
+import { passFile, passUser } from '../core/images/convert.js';
 import { mergeImages } from '../core/images/merge.js';
 import { LAST_BASE } from '../core/module/numbers.js';
 import { kindName } from '../core/module/records.js';
 import { holesOf, mode1Tracks } from '../core/sectors/holes.js';
-import { addToRuns, blocksIn, blocksText } from '../core/sectors/runs.js';
-import { SECTOR_SIZE, USER_SIZE } from '../core/sectors/sector.js';
+import { blocksIn, blocksText } from '../core/sectors/runs.js';
+import { USER_SIZE } from '../core/sectors/sector.js';
 import { fileAtPath } from './looking.js';
 import { openTrack } from './opening.js';
 import { linesOfRuns, sayLong, sayOfRuns, visible } from './printed.js';
@@ -17,10 +18,8 @@ import { linesOfRuns, sayLong, sayOfRuns, visible } from './printed.js';
 /** @typedef {import('../core/images/merge.js').Repair} Repair */
 /** @typedef {import('../core/disc/disc.js').DiscImage} DiscImage */
 /** @typedef {import('../core/images/convert.js').KindRun} KindRun */
-/** @typedef {import('../core/bytes.js').Reader} Reader */
 /** @typedef {import('../core/sectors/runs.js').Run} BlockRun */
 /** @typedef {import('./run.js').Run} Run */
-/** @typedef {import('./run.js').Target} Target */
 
 const BLOCKS_WITH_ADDRESS = LAST_BASE + 1;
 const OTHER_EDC = "OLD has a different EDC: perhaps another version";
@@ -93,23 +92,11 @@ export async function rawJob(run) {
 }
 
 /**
- * Writes user data of sectors, and says which of these are not Mode 1. Returns whether there are any.
+ * Says which sectors are not Mode 1 whose user data was written. Returns whether there are any.
  * @param {Run} run
- * @param {Target} out
- * @param {Reader} reader of the sectors
- * @param {number} base
- * @param {number} size how many bytes are written at most
+ * @param {KindRun[]} others
  */
-async function writeUser(run, out, reader, base, size) {
-    /** @type {KindRun[]} */
-    const others = [];
-    let left = size;
-    await run.crew.share('user', [reader], {}, { base }, async answer => {
-        for (const it of answer.others) addToRuns(others, it);
-        const user = answer.user.subarray(0, left);
-        left -= answer.user.length;
-        await out.write(user);
-    });
+function sayOthers(run, others) {
     sayOfRuns(run, others, it => `${blocksText([it])}: ${kindName(it.kind)}, in which other bytes may stand where mode1 has user data`);
     return others.length > 0;
 }
@@ -118,7 +105,8 @@ async function writeUser(run, out, reader, base, size) {
 export async function userJob(run) {
     const out = await run.files.make(run.names[1]);
     const { part } = await openTrack(run, run.names[0]);
-    const has = await writeUser(run, out, part.reader, part.base, part.sectors * USER_SIZE);
+    const how = { base: part.base };
+    const has = sayOthers(run, await passUser(run.crew, part.reader, part.sectors * USER_SIZE, how, user => out.write(user)));
     if (part.base > 0) run.say(`for the way back: cdscript raw --first ${part.base}`);
     if (part.tail === 1) run.say('the byte after the last sector is left out');
     if (part.tail > 1) run.say(`the ${part.tail} bytes after the last sector are left out`);
@@ -129,11 +117,6 @@ export async function userJob(run) {
 export async function extractJob(run) {
     const out = await run.files.make(run.names[2]);
     const { part } = await openTrack(run, run.names[0]);
-    let has = false;
-    for (const { block, size } of (await fileAtPath(part, run.names[1])).extents) {
-        const [first, count] = [block - part.base, Math.ceil(size / USER_SIZE)];
-        const sectors = sliceOf(part.reader, first * SECTOR_SIZE, (first + count) * SECTOR_SIZE);
-        has = await writeUser(run, out, sectors, block, size) || has;
-    }
-    return Number(has);
+    const { extents } = await fileAtPath(part, run.names[1]);
+    return Number(sayOthers(run, await passFile(run.crew, part, extents, {}, user => out.write(user))));
 }

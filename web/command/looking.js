@@ -1,9 +1,9 @@
 // The jobs that look into a data track: `files`, `find` and `show`.
 
 import { bytesOfLines } from '../core/bytes.js';
-import { FAULT, Fault, failedBy } from '../core/faults.js';
+import { Fault } from '../core/faults.js';
 import { fileOrder } from '../core/iso/file_order.js';
-import { filesOf, wholeFile } from '../core/iso/files.js';
+import { filesIfAny, filesLines, filesOf, wholeFile } from '../core/iso/files.js';
 import { kindName } from '../core/module/records.js';
 import { sectorsOfRange } from '../core/script/replace_bytes.js';
 import { FIELDS, USER_SIZE, addressIn, addressText } from '../core/sectors/sector.js';
@@ -51,25 +51,9 @@ export async function filesJob(run) {
     const target = await run.target();
     const { part } = await openTrack(run, run.names[0]);
     const { files, faults } = await filesOf(part.reader, part.base);
-    const lines = files.map(({ block, size, path, fault }) => [block, size, visible(path), ...fault === '' ? [] : [fault]].join('\t'));
-    await target.write(bytesOfLines(lines));
+    await target.write(bytesOfLines(filesLines(files, visible)));
     faults.forEach(fault => run.say(fault));
     return Number(faults.length > 0 || files.some(({ fault }) => fault !== ''));
-}
-
-/**
- * The files of a part. If it has no volume that can be listed there are none, and `why` is what to say then.
- * @param {DiscImage} part
- * @returns {Promise<{ files: FileEntry[], why: string[] }>}
- */
-export async function filesIfAny(part) {
-    try {
-        const { files } = await filesOf(part.reader, part.base);
-        return { files, why: [] };
-    } catch (error) {
-        if (!failedBy(error, FAULT.VOLUME)) throw error;
-        return { files: [], why: [`no file is named: ${error.message}`] };
-    }
 }
 
 /**

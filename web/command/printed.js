@@ -3,16 +3,10 @@
 /** @typedef {import('../core/sectors/runs.js').Run} BlockRun */
 /** @typedef {import('./run.js').Run} Run */
 
+export { visible } from '../core/texts/visible.js';
+
 /** Of more runs of blocks only the number is said. */
 const MOST_NAMED = 1000;
-
-/**
- * A text with a dot for each character that moves the cursor or is none.
- * @param {string} text
- */
-export function visible(text) {
-    return text.replace(/[\p{C}\uFFFD\u2028\u2029]/gu, '.');
-}
 
 /**
  * A line for each of the first runs, and one for how many there are.

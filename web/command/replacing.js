@@ -1,6 +1,7 @@
 // The jobs that write scripts for a text or a file: `replace` and `replace-file`. The core has applied each before it is written.
 
 import { Fault } from '../core/faults.js';
+import { assertFits } from '../core/script/fitting.js';
 import { filledUp, replaceBytes } from '../core/script/replace_bytes.js';
 import { replaceFile } from '../core/script/replace_file.js';
 import { ScriptParts } from '../core/script/script_writer.js';
@@ -17,7 +18,7 @@ import { fileAtPath, openTexts } from './looking.js';
 import { placeGiven } from './numbers.js';
 import { openTrack } from './opening.js';
 import { sayOfRuns } from './printed.js';
-import { assertFits, writeScript } from './scripts.js';
+import { writeScript } from './scripts.js';
 import { encodingsOf, hitsOf } from './searching.js';
 
 /** @typedef {import('../core/disc/disc.js').DiscImage} DiscImage */
@@ -131,7 +132,7 @@ async function replacedScript(run, image, places, text) {
     sayOfRuns(run, left, leftHitText);
     if (parts.patches === 0) throw new Fault('no place is left, so no script is written');
     const script = parts.script(run.calls);
-    await assertFits(run, image, script);
+    await assertFits(run.calls, image, script);
     return { script, left: left.length };
 }
 

@@ -3,10 +3,9 @@
 import { dataTrack } from '../core/disc/disc.js';
 import { Fault } from '../core/faults.js';
 import { compareImages } from '../core/images/compare.js';
-import { MOST_SCRIPT_BYTES, RECORD_SIZE, STATUS } from '../core/module/records.js';
+import { MOST_SCRIPT_BYTES, RECORD_SIZE } from '../core/module/records.js';
 import { baseComment } from '../core/script/base_said.js';
-import { passPatched } from '../core/script/patches.js';
-import { Refusal, readScript } from '../core/script/script.js';
+import { Refusal } from '../core/script/script.js';
 import { ScriptParts } from '../core/script/script_writer.js';
 import { LineList, leftText } from '../core/script/sector_lines.js';
 import { undoScript } from '../core/script/undo.js';
@@ -18,7 +17,6 @@ import { openDiscOf, openTrack } from './opening.js';
 import { sayOfRuns } from './printed.js';
 
 /** @typedef {import('../core/images/compare.js').Comparison} Comparison */
-/** @typedef {import('../core/disc/disc.js').DiscImage} DiscImage */
 /** @typedef {import('../core/script/script_writer.js').Script} Script */
 /** @typedef {import('./run.js').Run} Run */
 /** @typedef {import('./run.js').Target} Target */
@@ -58,18 +56,6 @@ function sayOfScript(run, { patches, long, carry }) {
     if (patches === 0) run.say('the script has no patch');
     if (carry) run.say('the script patches damaged sectors: it needs --carry');
     if (long) run.say('the script is longer than cdpatch takes: cdscript apply --long applies it');
-}
-
-/**
- * Throws a Fault if a patch of a script is refused.
- * @param {Run} run
- * @param {DiscImage} image
- * @param {Script} script
- */
-export async function assertFits(run, image, script) {
-    const read = await readScript(run.calls, script.pieces, script.long);
-    const made = read instanceof Refusal ? null : await passPatched(run.calls, image.reader, read, { base: image.base });
-    if (made === null || made.status !== STATUS.DONE) throw new Fault('the patches conflict, so no script is written');
 }
 
 /**

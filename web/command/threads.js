@@ -7,15 +7,14 @@ import { Worker, parentPort, workerData } from 'node:worker_threads';
 import { Crew, JOBS, UNREAD, localHand, serving, transfersOf } from '../core/jobs.js';
 import { Calls } from '../core/module/calls.js';
 import { sectorCount } from '../core/sectors/sector.js';
-import { textsOfRange } from '../core/texts/range.js';
+import { textsJob } from '../core/texts/range.js';
 import { isTested } from './again.js';
 
 /** @typedef {import('../core/jobs.js').Hand} Hand */
 /** @typedef {import('../core/jobs.js').Message} Message */
 /** @typedef {import('../core/jobs.js').Reply} Reply */
 
-/** A job with tables of its own, which the page does not carry. */
-JOBS.texts = (_, [bytes], first, args) => textsOfRange(bytes, first, args);
+JOBS.texts = textsJob;
 
 /** Fewer sectors are done sooner than threads have begun. */
 const SECTORS_FOR_THREADS = 8000;

@@ -1,7 +1,8 @@
 // The program of a worker: ranges of jobs, and one long SHA-1 or CRC-32.
 
-import { UNREAD, serving, transfersOf } from '../core/jobs.js';
+import { JOBS, UNREAD, serving, transfersOf } from '../core/jobs.js';
 import { Calls } from '../core/module/calls.js';
+import { textsJob } from '../core/texts/range.js';
 import { crc32 } from './app/crc32.js';
 import { Sha1 } from './app/sha1.js';
 
@@ -10,6 +11,8 @@ import { Sha1 } from './app/sha1.js';
  * What a worker is told: the module, before all else; a range of a job; or bytes that go into a sum after those before, null at the end.
  * @typedef {{ module: WebAssembly.Module } | Message | { sum: 'sha1' | 'crc32', bytes: Uint8Array | null }} Order
  */
+
+JOBS.texts = textsJob;
 
 /**
  * The bytes of a range, or of a slice of a file, which is read here.

@@ -12,6 +12,9 @@ const MOST_DUMPS = 400000;
 /** @type {Record<string, string>} */
 const ENTITIES = { amp: '&', lt: '<', gt: '>', quot: '"', apos: "'" };
 
+/** Where a comment begins. The script of the page may not have that as it is. */
+const COMMENT = /<[!]--/y;
+
 const ATTRIBUTE = /\s+([\w:.-]+)\s*=\s*(?:"([^"<]*)"|'([^'<]*)')/gy;
 
 /**
@@ -80,7 +83,8 @@ class DatReading {
      * @param {number} at
      */
     endOfTag(at) {
-        if (!this.rest.startsWith('<!--', at)) return this.rest.indexOf('>', at);
+        COMMENT.lastIndex = at;
+        if (!COMMENT.test(this.rest)) return this.rest.indexOf('>', at);
         const end = this.rest.indexOf('-->', at + 4);
         return end < 0 ? -1 : end + 2;
     }
@@ -151,12 +155,21 @@ export class KnownDumps {
     }
 
     /**
+     * The dump of a size and a SHA-1, or null.
+     * @param {number} size
+     * @param {string} sha1 in small letters
+     */
+    find(size, sha1) {
+        return this.dumps.get(dumpKey(size, sha1)) || null;
+    }
+
+    /**
      * What is known of a file, as 'verified NAME', or null.
      * @param {number} size
      * @param {string} sha1 in small letters
      */
     said(size, sha1) {
-        const dump = this.dumps.get(dumpKey(size, sha1));
+        const dump = this.find(size, sha1);
         if (!dump) return null;
         return `${dump.isBad ? 'known as a bad dump:' : 'verified'} ${dump.name}`;
     }

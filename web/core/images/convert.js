@@ -1,11 +1,18 @@
-// An ISO image of the user data of sectors.
+// The user data of sectors: an ISO image of a track, and the bytes of a file.
 
+import { sliceOf } from '../bytes.js';
 import { SECTOR_KIND } from '../module/records.js';
 import { addToRuns } from '../sectors/runs.js';
-import { joinedUser, sectorCount, sectorOf } from '../sectors/sector.js';
+import { SECTOR_SIZE, USER_SIZE, joinedUser, sectorCount, sectorOf } from '../sectors/sector.js';
 
+/** @typedef {import('../bytes.js').Reader} Reader */
 /** @typedef {import('../module/calls.js').Calls} Calls */
+/** @typedef {import('../disc/disc.js').DiscImage} DiscImage */
+/** @typedef {import('../iso/files.js').FileEntry} FileEntry */
+/** @typedef {import('../jobs.js').Sharer} Sharer */
+/** @typedef {import('../jobs.js').Sharing} Sharing */
 /** @typedef {import('../sectors/runs.js').Run & { kind: number }} KindRun */
+/** @typedef {(bytes: Uint8Array) => void | Promise<void>} Take */
 
 /**
  * The user data of sectors, which is at the same place in each, whatever its kind; and the runs of those that are not of Mode 1, in
@@ -22,4 +29,44 @@ export function userRange(calls, bytes, block) {
         if (kind !== SECTOR_KIND.MODE1) addToRuns(others, { first: block + i, last: block + i, kind });
     }
     return { user: joinedUser(bytes), others };
+}
+
+/**
+ * Gives the user data of sectors to `take`, in order. Returns the runs of sectors that are not of Mode 1.
+ * @param {Sharer} crew
+ * @param {Reader} reader of the sectors
+ * @param {number} size how many bytes are given at most
+ * @param {Sharing} how
+ * @param {Take} take
+ */
+export async function passUser(crew, reader, size, how, take) {
+    /** @type {KindRun[]} */
+    const others = [];
+    let left = size;
+    await crew.share('user', [reader], {}, how, async answer => {
+        for (const it of answer.others) addToRuns(others, it);
+        const user = answer.user.subarray(0, left);
+        left -= answer.user.length;
+        await take(user);
+    });
+    return others;
+}
+
+/**
+ * The same of a file of a track, extent by extent.
+ * @param {Sharer} crew
+ * @param {DiscImage} part
+ * @param {FileEntry[]} extents
+ * @param {Sharing} how
+ * @param {Take} take
+ */
+export async function passFile(crew, part, extents, how, take) {
+    /** @type {KindRun[]} */
+    const others = [];
+    for (const { block, size } of extents) {
+        const [first, count] = [block - part.base, Math.ceil(size / USER_SIZE)];
+        const sectors = sliceOf(part.reader, first * SECTOR_SIZE, (first + count) * SECTOR_SIZE);
+        for (const it of await passUser(crew, sectors, size, { ...how, base: block }, take)) addToRuns(others, it);
+    }
+    return others;
 }

@@ -1,7 +1,7 @@
 // The files of an ISO 9660 volume in a track of raw sectors, with Rock Ridge's or Joliet's names if it has them.
 
 import { readBytes } from '../bytes.js';
-import { FAULT, Fault } from '../faults.js';
+import { FAULT, Fault, failedBy } from '../faults.js';
 import { SECTOR_SIZE, USER_SIZE, joinedUser, sectorCount } from '../sectors/sector.js';
 import { SEVERAL_EXTENTS, isSelf, recordAt, sharingSkip } from './records.js';
 import { walked } from './walk.js';
@@ -128,6 +128,21 @@ export async function filesOf(reader, base) {
 }
 
 /**
+ * The files of a part. If it has no volume that can be listed there are none, and `why` is what to say then.
+ * @param {{ reader: Reader, base: number }} part
+ * @returns {Promise<{ files: FileEntry[], why: string[] }>}
+ */
+export async function filesIfAny(part) {
+    try {
+        const { files } = await filesOf(part.reader, part.base);
+        return { files, why: [] };
+    } catch (error) {
+        if (!failedBy(error, FAULT.VOLUME)) throw error;
+        return { files: [], why: [`no file is named: ${error.message}`] };
+    }
+}
+
+/**
  * The file that the entries of a path are. Throws a Fault if they are not just its bytes.
  * @param {FileEntry[]} entries
  * @returns {WholeFile}
@@ -142,6 +157,15 @@ export function wholeFile(entries) {
         size += own;
     }
     return { path, size, extents };
+}
+
+/**
+ * A line for each entry of a list of files.
+ * @param {FileEntry[]} files
+ * @param {(path: string) => string} shown a path as it is printed
+ */
+export function filesLines(files, shown) {
+    return files.map(({ block, size, path, fault }) => [block, size, shown(path), ...fault === '' ? [] : [fault]].join('\t'));
 }
 
 /** @param {Uint8Array} descriptor */

@@ -33,7 +33,7 @@ export function isScript(calls, text) {
 }
 
 /**
- * Whether a text is meant as a script: that line has a word of scripts and another one.
+ * Whether a text is meant as a script: that line has a word of scripts, or cdpatch in capitals too, and another one.
  * @param {Calls} calls
  * @param {Uint8Array} text
  */
@@ -41,5 +41,5 @@ export function isMeantAsScript(calls, text) {
     const first = firstLineSaying(calls, text, CONTENT.VERSION_2);
     if (first === null) return false;
     const words = wordsOf(new TextDecoder().decode(first.line));
-    return words.length > 1 && (words[0] === 'cdpatch' || first.content !== CONTENT.UNKNOWN_VERB);
+    return words.length > 1 && (/^cdpatch$/i.test(words[0]) || first.content !== CONTENT.UNKNOWN_VERB);
 }

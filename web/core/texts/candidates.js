@@ -2,6 +2,7 @@
 
 import { PathFinder } from './best_path.js';
 import { ASCII, BAD, codeAt, seedBits, strengthOf } from './scores.js';
+import { SURE } from './told.js';
 
 /** @typedef {import('./scores.js').Scores} Scores */
 /**
@@ -11,8 +12,7 @@ import { ASCII, BAD, codeAt, seedBits, strengthOf } from './scores.js';
  */
 /** @typedef {{ covered: number, end: number }} Known how far an encoding has been looked at, and where its last text ended */
 
-/** What is accepted by itself, and how many bits less are enough near something that is. */
-export const SURE = 27;
+/** How many bits less are enough near something that is accepted by itself. */
 export const LESS = 10;
 
 /** What a text in UTF-16 at an odd place has to have more: there the one byte order reads most characters of the other one. */

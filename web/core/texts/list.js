@@ -1,12 +1,15 @@
 // A list of texts with the new ones, as translators keep it, and the lines that replace them.
 
-import { FAULT, Fault, failedBy } from '../faults.js';
+import { wholeOf } from '../bytes.js';
+import { FAULT, Fault, cancelled, failedBy } from '../faults.js';
 import { filledUp, replaceEach } from '../script/replace_bytes.js';
+import { ScriptParts } from '../script/script_writer.js';
 import { USER_SIZE } from '../sectors/sector.js';
 import { rowsOf } from './cells.js';
 import { unitsOfCell } from './codes.js';
 import { bytesAround, bytesBefore } from './context.js';
 import { spaceIn, usualBytes } from './encoding.js';
+import { encodingOf, textOfFile } from './encodings.js';
 import { endOfMatch } from './find.js';
 
 /** @typedef {import('../bytes.js').Reader} Reader */
@@ -21,6 +24,8 @@ import { endOfMatch } from './find.js';
  */
 /** @typedef {{ row: ListRow, change: Change }} Fitted */
 /** @typedef {{ number: number, lines: Lines | null, why: string }} RowMade a row, or those of a block, with lines, or why there are none */
+/** @typedef {{ number: number, why: string }} LeftRow a row that does not fit, and why */
+/** @typedef {{ signal?: { aborted: boolean }, progress?: (done: number, all: number) => void }} Watch who hears of rows, or ends the job */
 
 const NEEDED = ['block', 'offset', 'text', 'new'];
 
@@ -31,8 +36,33 @@ const MOST_ROWS = 1000000;
 /** What may stand after a text to fill up its room. */
 const FILLING = [0x00, 0x20, 0xFF];
 
-/** The bytes of an image that are read at once. */
+/** The bytes of an image that are read at once, and the most bytes of a list. */
 const WINDOW = 1 << 20;
+const MOST_LISTED = 1 << 28;
+
+/**
+ * The rows of a list in a file that have a new text. Throws a Fault if there are none.
+ * @param {Reader} reader
+ * @param {string} name
+ */
+export async function rowsOfList(reader, name) {
+    if (reader.size > MOST_LISTED) throw new Fault(`${name} has ${reader.size} bytes, and a list at most ${MOST_LISTED}`);
+    const rows = [...listRows(textOfFile(await wholeOf(reader)))];
+    if (rows.length === 0) throw new Fault('no row of the list has a new text');
+    return rows;
+}
+
+/**
+ * Says the encodings in which a row may be: the one that it names, or else those that are given.
+ * @param {Encoding[]} given
+ * @param {boolean} isAsked whether those are asked for, so that what a row names does not count
+ */
+export function encodingsOfRows(given, isAsked) {
+    return (/** @type {string} */ name) => {
+        const named = isAsked || name === '' ? null : encodingOf(name);
+        return named === null ? given : [named];
+    };
+}
 
 /**
  * The rows of a list that have a new text. Throws a Fault if its first row does not name the columns.
@@ -113,14 +143,17 @@ function windowed(reader) {
  * @param {ListRow[]} rows
  * @param {(name: string) => Encoding[]} encodingsFor the encodings that a row may be in, by the name that it has, or ''
  * @param {Uint8Array | null} fill what fills up shorter texts, if not the encoding's space
+ * @param {Watch} watch
  * @returns {AsyncGenerator<RowMade>}
  */
-export async function* replacedRows(calls, image, rows, encodingsFor, fill) {
+export async function* replacedRows(calls, image, rows, encodingsFor, fill, { signal, progress } = {}) {
     const read = { ...image, reader: windowed(image.reader) };
     /** @type {Fitted[]} those in one block */
     const group = [];
     let [last, end] = [0, 0];
-    for (const row of [...rows].sort((a, b) => bytesBefore(image, a) - bytesBefore(image, b))) {
+    for (const [i, row] of [...rows].sort((a, b) => bytesBefore(image, a) - bytesBefore(image, b)).entries()) {
+        if (signal && signal.aborted) throw cancelled();
+        if (progress) progress(i, rows.length);
         try {
             if (row.block < 0 || row.offset < 0) throw new Fault('block and offset are no numbers');
             if (bytesBefore(image, row) < end) throw new Fault(`it overlaps the text of row ${last}`);
@@ -134,6 +167,34 @@ export async function* replacedRows(calls, image, rows, encodingsFor, fill) {
         }
     }
     yield* madeOf(calls, read, group);
+}
+
+/**
+ * The lines that replace the texts of a list's rows, and the rows that are left, in their order.
+ * @param {Calls} calls
+ * @param {DiscImage} image
+ * @param {ListRow[]} rows
+ * @param {(name: string) => Encoding[]} encodingsFor as of replacedRows
+ * @param {Uint8Array | null} fill
+ * @param {Watch} [watch]
+ */
+export async function replaceList(calls, image, rows, encodingsFor, fill, watch) {
+    const parts = new ScriptParts();
+    /** @type {LeftRow[]} */
+    const left = [];
+    for await (const { number, lines, why } of replacedRows(calls, image, rows, encodingsFor, fill, watch)) {
+        if (lines === null) left.push({ number, why });
+        else parts.push(lines);
+    }
+    return { parts, left: left.sort((a, b) => a.number - b.number) };
+}
+
+/**
+ * What is said of a row that is left.
+ * @param {LeftRow} left
+ */
+export function leftRowText({ number, why }) {
+    return `row ${number}: ${why}`;
 }
 
 /** @param {Fitted[]} fitted whether all lie in one block */

@@ -7,6 +7,7 @@ import { fillingAfter } from './list.js';
 import { allScores, tableScores } from './scores.js';
 import { tableEncoding } from './table.js';
 import { TextTeller } from './telling.js';
+import { BESIDE } from './told.js';
 
 /** @typedef {import('./encoding.js').Encoding} Encoding */
 /** @typedef {import('./encoding.js').TableEncoding} TableEncoding */
@@ -16,10 +17,6 @@ import { TextTeller } from './telling.js';
  * is beside it tells it, and itself.
  * @typedef {{ start: number, end: number, room: number, scores: string, score: number, near: boolean, text: string }} Told
  */
-
-/** Texts go over borders of ranges: one begins after these sectors, which it sees of the one before it, and sees as many after itself. */
-const BESIDE = 4;
-export const BEYOND = 2 * BESIDE;
 
 /** The last one is kept, since it takes a while to make. */
 let held = { key: '', teller: /** @type {TextTeller | null} */ (null) };
@@ -62,3 +59,9 @@ export function textsOfRange(sectors, first, { count, size, ...asked }) {
         return [{ start: start + shift, end: end + shift, room, scores: encoding.name, score, near, text }];
     });
 }
+
+/**
+ * The job `texts` of a crew, with tables of its own: only workers carry it.
+ * @type {import('../jobs.js').Job}
+ */
+export const textsJob = (_, [bytes], first, args) => textsOfRange(bytes, first, args);

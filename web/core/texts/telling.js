@@ -1,7 +1,8 @@
 // Which bytes of a stretch of a disc are texts, told from code, pictures and sound by how likely they are Japanese.
 
-import { CandidateFinder, LESS, SURE, isZero } from './candidates.js';
+import { CandidateFinder, LESS, isZero } from './candidates.js';
 import { ASCII, BAD, KANJI, USUAL_KANJI, allScores, codeAt } from './scores.js';
+import { SURE } from './told.js';
 
 /** @typedef {import('./candidates.js').Candidate} Candidate */
 /** @typedef {import('./scores.js').Scores} Scores */
@@ -21,10 +22,6 @@ const LONGEST_BESIDE = 256;
 /** What kanji score there at least, in quarter bits: a table of names has many that stand in no sentence. */
 const KANJI_BESIDE = 8;
 const RARE_BESIDE = -8;
-
-/** A text in another encoding than most of its file has to have this many bits more, and most is this share. */
-const FOREIGN = 8;
-const MAIN_SHARE = 0.8;
 
 /** The texts of a stretch, in their order. */
 export class TextTeller {
@@ -175,20 +172,4 @@ function chainOf(bytes, text) {
         if (at === text.end && parts.length > 1) return parts;
     }
     return [text];
-}
-
-/**
- * The texts of a file that are kept: those in the encoding of most of it, and others only if they are surer.
- * @template {{ score: number, scores: unknown, near: boolean }} T
- * @param {T[]} texts
- */
-export function keptOf(texts) {
-    const strong = texts.filter(it => it.score >= SURE + FOREIGN);
-    /** @type {Map<unknown, number>} */
-    const shares = new Map();
-    for (const it of strong) shares.set(it.scores, (shares.get(it.scores) || 0) + it.score);
-    const whole = strong.reduce((sum, it) => sum + it.score, 0);
-    const [main] = [...shares.keys()].filter(it => (shares.get(it) || 0) >= MAIN_SHARE * whole);
-    if (main === undefined) return texts;
-    return texts.filter(it => it.scores === main || (!it.near && it.score >= SURE + FOREIGN));
 }

@@ -46,7 +46,7 @@ export const OWN = { html: [], policy: [], style: { size: 0, sha1: '' }, made: [
  */
 export async function packedParts() {
     const bytes = await inflated(JOINED.module).arrayBuffer();
-    const url = workerUrl(new Blob([JOINED.worker], { type: 'text/javascript' }));
+    const url = workerUrl(new Blob([await inflatedText(JOINED.worker)], { type: 'text/javascript' }));
     Object.assign(OWN, JSON.parse(await inflatedText(JOINED.own)));
     return { module: await WebAssembly.compile(bytes), newWorker: () => new Worker(url), made: OWN.made };
 }

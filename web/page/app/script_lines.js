@@ -227,7 +227,7 @@ export class ScriptLines extends ScriptModel {
     }
 
     /**
-     * The program's words on a line: its fault, or what became of its patch; '' if there is nothing to say.
+     * What is said of a line, with the program's words: its fault, or whether its patch fits; '' if there is nothing to say.
      * @param {number} i
      */
     wordsAt(i) {
@@ -237,7 +237,9 @@ export class ScriptLines extends ScriptModel {
             this.faultWords.set(content, words);
             return words;
         }
-        return outcome ? wordsOn(this.calls.outcomeLine(number, outcome.result, outcome.block, outcome.offset), number) : '';
+        if (!outcome || outcome.result === RESULT.OK) return outcome ? 'fits' : '';
+        const words = wordsOn(this.calls.outcomeLine(number, outcome.result, outcome.block, outcome.offset), number);
+        return words.replace(/^refused/, 'does not fit');
     }
 
     /**

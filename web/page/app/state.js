@@ -31,9 +31,10 @@ import { Store } from './store.js';
  * known (`files`); there is a second image, or none any more (`second`, with what is done with it first); a place was chosen (`place`);
  * the script has changed (`script`, with what brings the last one back if that is in no file, or null if it was typed in the panel
  * Script), or is to be checked (`check`); one of its lines was chosen (`line`, from 0); the encoding was chosen, or a table is new
- * (`encoding`); another panel is shown (`panel`); the data of a patcher are to be worked on (`patcher`).
+ * (`encoding`); a list of known dumps is new (`dumps`); another panel is shown (`panel`); the data of a patcher are to be worked on
+ * (`patcher`).
  * @typedef {'image' | 'closed' | 'survey' | 'surveyed' | 'hash' | 'files' | 'second' | 'place' | 'script' | 'check' | 'line' | 'encoding' |
- *     'panel' | 'patcher'} Happening
+ *     'dumps' | 'panel' | 'patcher'} Happening
  */
 
 /**
@@ -43,9 +44,10 @@ import { Store } from './store.js';
 
 /**
  * What parts of the page do for all: `open` opens files, as if they were dropped; `choose` lets the user choose them; `dropSays`
- * says what becomes of files that are dropped; `takeBackBytes` takes back the bytes that were typed last in a sector, if it can.
+ * says what becomes of files that are dropped; `takeBackBytes` takes back the bytes that were typed last in a sector, if it can;
+ * `saveScript` saves the script in a file.
  * @typedef {{ open: (files: File[], aim: Aim) => Promise<void>, choose: (aim: Aim) => void, dropSays: () => Child[],
- *     takeBackBytes: () => boolean }} Services
+ *     takeBackBytes: () => boolean, saveScript: () => void }} Services
  */
 
 /** @typedef {'disc' | 'text' | 'script' | 'publish'} PanelName */

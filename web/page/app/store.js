@@ -7,6 +7,7 @@ import { SurveyMarks } from './marks.js';
 import { ScriptLines } from './script_lines.js';
 
 /** @typedef {import('../../core/jobs.js').Crew} Crew */
+/** @typedef {import('../../core/disc/dat.js').KnownDumps} KnownDumps */
 /** @typedef {import('../../core/iso/files.js').VolumeFiles} VolumeFiles */
 /** @typedef {import('../../core/module/calls.js').Calls} Calls */
 /** @typedef {import('../../core/texts/encoding.js').Encoding} Encoding */
@@ -43,6 +44,8 @@ export class Store {
         this.encoding = USUAL_ENCODING.name;
         /** @type {Map<string, Encoding>} the tables that were loaded, by their files' names */
         this.tables = new Map();
+        /** @type {KnownDumps[]} the lists of known dumps that were opened */
+        this.dumps = [];
         this.panel = /** @type {PanelName} */ ('disc');
         /** @type {Map<string, ((detail: any) => void)[]>} */
         this.listeners = new Map();
@@ -55,7 +58,8 @@ export class Store {
         /** Ends what is done with the second image. */
         this.pairing = new AbortController();
         /** @type {Services} */
-        this.services = { open: async () => {}, choose: () => {}, dropSays: () => [], takeBackBytes: () => false };
+        this.services = { open: async () => {}, choose: () => {}, dropSays: () => [], takeBackBytes: () => false,
+            saveScript: () => {} };
         /** @type {((file: File) => Promise<boolean>)[]} */
         this.takers = [];
         /** When the survey was last told of. */
@@ -216,6 +220,12 @@ export class Store {
     addTable(name, table) {
         this.tables.set(name, table);
         this.chooseEncoding(name);
+    }
+
+    /** @param {KnownDumps} dumps a list of them, which is kept as long as the page is open */
+    addDumps(dumps) {
+        this.dumps.push(dumps);
+        this.tell('dumps');
     }
 
     /** @param {unknown} data of a patcher, which are to be worked on */

@@ -1,17 +1,18 @@
-// The card under the map: findings in places, runs of one kind, and the text that the program prints.
+// The card under the map: findings in places, files, runs of one kind, and the text that the program prints.
 
 import { SECTOR_KIND } from '../../core/module/records.js';
 import { auditText, kindRuns, listText, surveyCounts } from '../../core/sectors/survey.js';
 import { MARK, SURVEY_LOOKS } from '../app/index.js';
 import { downloadText } from '../save/index.js';
 import { button, copyButton, countOf, counted, element, fill, keyed, oneStop, term } from '../ui/index.js';
+import { FilesList } from './files_list.js';
 import { placeGuess, placeWords, placesOf } from './places.js';
 import { addressOf, findingAt, modeOneSectors } from './sector_text.js';
 
 /** @typedef {import('../app/state.js').App} App */
 /** @typedef {import('../app/state.js').Surveyed} Surveyed */
 /** @typedef {import('./places.js').Place} Place */
-/** @typedef {'findings' | 'runs' | 'text'} FindingsTab */
+/** @typedef {'findings' | 'files' | 'runs' | 'text'} FindingsTab */
 
 const MOST_ROWS = 400;
 const MOST_TEXT_LINES = 3000;
@@ -39,13 +40,14 @@ export class Findings {
         this.hidden = false;
         /** @type {Set<number>} the first sectors of the places that are open */
         this.opened = new Set();
-        this.tabs = element('div', { class: 'seg', role: 'tablist', 'aria-label': 'Findings, runs, text' });
+        this.tabs = element('div', { class: 'seg', role: 'tablist', 'aria-label': 'Findings, files, runs, text' });
         this.body = element('div', { class: 'scroll fit', id: 'findings-body', role: 'tabpanel' });
         this.foot = element('p', { class: 'foot' });
+        this.files = new FilesList(app);
         const tools = element('span', { class: 'row to-end' }, copyButton('slim bare', () => this.report(), 'Copy', ' the report'),
             button('slim bare', () => downloadText(this.report(), `${this.reportName()}.txt`), 'Save…'));
-        this.part = element('section', { class: 'card', id: 'findings', 'aria-label': 'Findings and runs' },
-            element('header', {}, this.tabs, tools), this.body, this.foot);
+        this.part = element('section', { class: 'card', id: 'findings', 'aria-label': 'Findings, files and runs' },
+            element('header', {}, this.tabs, tools), this.files.tools, this.body, this.foot);
         oneStop(this.tabs, '[role=tab]', tab => this.choose(/** @type {FindingsTab} */ (tab.dataset.tab)));
         oneStop(this.body, 'tbody button');
         this.body.addEventListener('click', event => this.clicked(/** @type {HTMLElement} */ (event.target)));
@@ -58,13 +60,15 @@ export class Findings {
     }
 
     reportName() {
+        if (this.tab === 'files') return 'files';
         return this.tab === 'runs' || (this.tab === 'text' && this.text === 'list') ? 'list' : 'audit';
     }
 
-    /** The program's text: what `cdpatch audit` or `cdpatch list` prints. */
+    /** The program's text: what `cdpatch audit` or `cdpatch list` prints, or `cdscript files`. */
     report() {
         const { survey, image, calls } = this.app;
         if (survey === null || image === null) return '';
+        if (this.tab === 'files') return this.files.text();
         const report = this.reportName() === 'list' ? listText : auditText;
         return new TextDecoder().decode(report(calls, survey, image.tail).text);
     }
@@ -82,7 +86,9 @@ export class Findings {
         if (survey === null || this.part.hidden) return;
         const runs = [...kindRuns(survey)];
         this.drawTabs(counted(survey.marks.findings()), counted(runs.length));
-        const drawn = { findings: () => this.drawFindings(survey), runs: () => this.drawRuns(runs), text: () => this.drawText() };
+        this.files.tools.hidden = this.tab !== 'files';
+        const drawn = { findings: () => this.drawFindings(survey), files: () => this.drawFiles(), runs: () => this.drawRuns(runs),
+            text: () => this.drawText() };
         drawn[this.tab]();
     }
 
@@ -92,7 +98,8 @@ export class Findings {
      */
     drawTabs(findings, runs) {
         /** @type {[FindingsTab, string, string][]} */
-        const all = [['findings', 'Findings', findings], ['runs', 'Runs', runs], ['text', 'As text', '']];
+        const all = [['findings', 'Findings', findings], ['files', 'Files', this.files.count()], ['runs', 'Runs', runs],
+            ['text', 'As text', '']];
         fill(this.tabs, ...all.map(([name, label, count]) => keyed(name, element('button', {
             type: 'button', role: 'tab', 'data-tab': name, 'aria-selected': String(name === this.tab), 'aria-controls': 'findings-body',
             click: () => this.choose(name),
@@ -163,6 +170,18 @@ export class Findings {
             rows.push(element('tr', { class: 'sub' }, element('td', { colspan: 4 }, `and ${counted(left)} more: “As text” has all`)));
         }
         return rows;
+    }
+
+    /** @param {boolean} looked whether the files of the open image were looked for */
+    takeFiles(looked) {
+        this.files.take(looked);
+        this.draw();
+    }
+
+    drawFiles() {
+        this.files.draw();
+        fill(this.body, this.files.part);
+        fill(this.foot, element('span', {}, 'As the volume names them, by their blocks.'));
     }
 
     /** @param {{ first: number, last: number, kind: number }[]} runs */

@@ -1,5 +1,6 @@
 // The panel Disc.
 
+export { dumpWords } from './known_dumps.js';
 export { mountDisc } from './panel.js';
 export { otherBase, placesOf } from './places.js';
 export { modeOneSectors } from './sector_text.js';

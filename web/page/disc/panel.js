@@ -4,6 +4,7 @@ import { filesAt } from '../../core/iso/files.js';
 import { SecondCard } from '../second/index.js';
 import { button, element, fill, shownName } from '../ui/index.js';
 import { Findings } from './findings.js';
+import { mountDumps } from './known_dumps.js';
 import { Legend } from './legend.js';
 import { DiscMap } from './map.js';
 import { SectorCard } from './sector_card.js';
@@ -20,9 +21,11 @@ export function mountDisc(app, panel) {
     panel.append(element('h1', { class: 'hide' }, 'Disc'), disc.part);
     for (const name of /** @type {const} */ (['survey', 'panel', 'files'])) app.on(name, () => disc.drawMap());
     app.on('surveyed', () => disc.findings.draw());
+    app.on('files', () => disc.findings.takeFiles(true));
     app.on('image', () => disc.begin());
     app.on('place', ({ show, comes }) => disc.drawPlace(show, comes));
     app.on('second', job => disc.second.begin(job));
+    mountDumps(app);
 }
 
 class DiscPanel {
@@ -58,7 +61,7 @@ class DiscPanel {
         this.map.show(null);
         this.sector.close();
         this.findings.opened.clear();
-        this.findings.draw();
+        this.findings.takeFiles(false);
     }
 
     drawMap() {

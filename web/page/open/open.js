@@ -8,8 +8,8 @@ import { MOST_SCRIPT_BYTES } from '../../core/module/records.js';
 import { isMeantAsScript, isScript } from '../../core/script/script_start.js';
 import { MOST_SECTORS, SECTOR_SIZE, imageTooLong, sectorCount } from '../../core/sectors/sector.js';
 import { textOfFile } from '../../core/texts/encodings.js';
-import { byId, copyable, counted, element, endMessages, messageParts, nameOf, namesOf, refuseWhileSaving } from '../ui/index.js';
-import { showFailure, showNotice } from '../ui/index.js';
+import { button, byId, copyable, counted, element, endMessages, messageParts, nameOf, namesOf } from '../ui/index.js';
+import { refuseWhileSaving, showFailure, showNotice } from '../ui/index.js';
 import { mountChoosing } from './choosing.js';
 import { exampleFile } from './example.js';
 import { fileReader } from './file_reader.js';
@@ -95,7 +95,10 @@ async function takenAs(app, file) {
     app.showPanel('script');
     if (marked) {
         showNotice('warn', ['This file is ', marked.name, ', which cdpatch does not read: ', nameOf(file.name)],
-            'It was read here all the same. Save the script: then it is in plain UTF-8.');
+            'It was read here all the same.', element('div', { class: 'row' }, button('slim', () => {
+                endMessages();
+                app.services.saveScript();
+            }, 'Save it as plain UTF-8')));
     }
     return 'script';
 }

@@ -39,7 +39,7 @@ export class CheckCard {
         this.card = element('section', { class: 'card', 'aria-label': 'Check' }, this.head, this.body);
         this.carry = element('input', { type: 'checkbox', change: () => this.forget() });
         this.carryRow = element('label', { class: 'check' }, this.carry, element('span', {}, 'Patch damaged sectors too (',
-            term('carry', 'carry'), ')', element('br'), element('span', { class: 'small quiet' }, 'They keep their damage.')));
+            term('carry', 'carry'), ')', element('br'), element('span', { class: 'small quiet' }, 'They stay marked as damaged.')));
         this.saving = new SaveCard(app, () => this.draw());
     }
 
@@ -67,8 +67,7 @@ export class CheckCard {
     drawCard() {
         if (this.saving.shown()) return fill(this.card, ...this.saving.parts());
         const { lines } = this.owner;
-        fill(this.head, element('h2', {}, 'Check'), this.patched && element('span', { class: 'tag' },
-            `${this.seconds.toFixed(1)} s, status ${this.patched.status}`));
+        fill(this.head, element('h2', {}, 'Check'), this.patched && element('span', { class: 'tag' }, `${this.seconds.toFixed(1)} s`));
         fill(this.card, this.head, this.body);
         if (this.app.image === null) return fill(this.body, lines.faults > 0 && this.faults(),
             element('p', {}, 'Open the image that this script patches.'),
@@ -117,8 +116,8 @@ export class CheckCard {
         const first = lines.nextWrong(lines.lines.length - 1, 1);
         const { tone, head, rest } = this.fit(this.patched);
         return [notice(tone, head, rest, element('div', { class: 'row' }, apply)),
-            element('div', { class: 'tally' }, tally('good-ink', applied, 'would apply'),
-                tally('bad-ink', refused, 'refused')),
+            element('div', { class: 'tally' }, tally('good-ink', applied, applied === 1 ? 'fits' : 'fit'),
+                tally('bad-ink', refused, refused === 1 ? 'does not fit' : 'do not fit')),
             first >= 0 && element('div', { class: 'row next' },
                 button('slim', () => this.owner.goTo(first), `Go to line ${first + 1}`))];
     }
@@ -128,7 +127,7 @@ export class CheckCard {
      * @returns {Child[]}
      */
     footnote(ready) {
-        if (!ready) return ['Ready as soon as no line has a fault.'];
+        if (!ready) return ['Fix the errors to continue.'];
         const applied = this.patched ? this.patched.outcomes.filter(it => it.result === RESULT.OK).length : -1;
         const name = this.app.image ? this.app.image.name : '';
         const fitting = applied < 0 ? '' : ` with the ${countOf(applied, 'patch that fits', 'patches that fit')}`;

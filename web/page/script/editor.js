@@ -1,19 +1,19 @@
 // The script as one sees it: lines with numbers, marks and what is said of them. Only the visible ones are drawn, and the line with the
 // caret is the only one that can be typed in.
 
-import { CONTENT, RESULT, isFault } from '../../core/module/records.js';
-import { faultyWord, partOfWord, lineParts } from '../../core/script/line_words.js';
+import { VERB } from '../../core/module/records.js';
 import { element } from '../ui/index.js';
+import { colored } from './line_parts.js';
 
 /** @typedef {import('../app/script_lines.js').ScriptLines} ScriptLines */
 /** @typedef {import('../ui/fill.js').Child} Child */
 /** What helps with a line: a text, '' if there is none, and what a button after it says, or ''. */
 /** @typedef {{ text: string, says: string }} LineHelp */
 /**
- * What the editor asks of its panel: help for a line that is wrong, and its button; and who is told that the caret has moved to another
- * line, and that the text was changed.
- * @typedef {{ help: (line: number) => LineHelp, helpButton: (line: number) => Child, moved: () => void, changed: () => void,
- *     check: () => void }} EditorOwner
+ * What the editor asks of its panel: help for a line that is wrong, and its button; what a line sets as texts, if the encoding has any; and
+ * who is told that the caret has moved to another line, and that the text was changed.
+ * @typedef {{ help: (line: number) => LineHelp, helpButton: (line: number) => Child, texts: (line: number) => Child[],
+ *     hasTexts: () => boolean, moved: () => void, changed: () => void, check: () => void }} EditorOwner
  */
 
 export const ROW_HEIGHT = 24;
@@ -24,7 +24,6 @@ const WORDS_WIDTH = 7.6;
 const HELP_WIDTH = 6.6;
 const MOST_COLUMNS = 84;
 const NARROW_EDITOR = 700;
-const MOST_DRAWN = 600;
 const ABOVE_AND_BELOW = 6;
 
 /** The editor of a script. */
@@ -85,23 +84,28 @@ export class ScriptEditor {
         const { lines } = this.lines;
         const typed = Math.max(this.area.scrollHeight, ROW_HEIGHT) - ROW_HEIGHT;
         const { clientWidth: width } = this.box;
-        const [isNarrow, hasHelp] = [width < NARROW_EDITOR, this.helps.size > 0];
+        const [isNarrow, hasHelp, hasTexts] = [width < NARROW_EDITOR, this.helps.size > 0, this.owner.hasTexts()];
         this.tops = new Float64Array(lines.length + 1);
         for (let i = 0; i < lines.length; i++) {
-            const said = (isNarrow ? this.wordsHeight(i, width) : 0) + (hasHelp ? this.helpHeight(i) : 0);
+            const said = (isNarrow ? this.saidHeight(i, width, hasTexts) : 0) + (hasHelp ? this.helpHeight(i) : 0);
             this.tops[i + 1] = this.tops[i] + ROW_HEIGHT + said + (i === this.current ? typed : 0);
         }
         this.list.style.height = `${this.tops[lines.length]}px`;
     }
 
     /**
-     * How much higher a line is for what is said of it, which stands under it in a narrow editor.
+     * How much higher a line is for its texts and for what is said of it, which stand under it in a narrow editor. That it fits stands
+     * beside its texts.
      * @param {number} i
      * @param {number} width of the editor
+     * @param {boolean} hasTexts whether what lines set is shown as texts
      */
-    wordsHeight(i, width) {
-        if (!this.lines.outcomes.has(i + 1) && !this.lines.isWrong(i)) return 0;
-        return 6 + WORDS_HEIGHT * Math.ceil(this.lines.wordsAt(i).length * WORDS_WIDTH / (width - MARGIN));
+    saidHeight(i, width, hasTexts) {
+        const { patch } = this.lines.lines[i];
+        const wrong = this.lines.isWrong(i);
+        const beside = (hasTexts && patch !== null && patch.verb === VERB.SET) || (!wrong && this.lines.outcomes.has(i + 1));
+        const words = wrong ? WORDS_HEIGHT * Math.ceil(this.lines.wordsAt(i).length * WORDS_WIDTH / (width - MARGIN)) + 6 : 0;
+        return (beside ? WORDS_HEIGHT + 6 : 0) + words;
     }
 
     /**
@@ -153,7 +157,7 @@ export class ScriptEditor {
     row(i) {
         const chosen = this.isChosen(i) ? ' chosen' : '';
         const made = element('li', { class: (this.lines.isWrong(i) ? 'bad' : '') + chosen }, ...this.margin(i),
-            element('span', { class: 'src' }, ...colored(this.lines, i)), this.words(i));
+            element('span', { class: 'src' }, ...colored(this.lines, i)), ...this.said(i));
         made.dataset.line = String(i);
         made.style.top = `${this.tops[i]}px`;
         made.style.minHeight = `${this.tops[i + 1] - this.tops[i] - this.helpHeight(i)}px`;
@@ -163,18 +167,21 @@ export class ScriptEditor {
     /** @param {number} i */
     margin(i) {
         const wrong = this.lines.isWrong(i);
-        const refused = this.lines.outcomes.has(i + 1);
-        const applied = refused && !wrong;
-        const mark = applied ? '✓' : !wrong ? '' : refused ? '✕' : '!';
+        const tried = this.lines.outcomes.has(i + 1);
+        const fits = tried && !wrong;
+        const mark = fits ? '✓' : !wrong ? '' : tried ? '✕' : '!';
         return [element('span', { class: 'ln' }, i + 1),
-            element('span', { class: `mk ${applied ? 'good-ink' : 'bad-ink'}`, 'aria-hidden': 'true' }, mark)];
+            element('span', { class: `mk ${fits ? 'good-ink' : 'bad-ink'}`, 'aria-hidden': 'true' }, mark)];
     }
 
-    /** @param {number} i */
-    words(i) {
-        const outcome = this.lines.outcomes.get(i + 1);
-        const applied = outcome !== undefined && outcome.result === RESULT.OK;
-        return element('span', { class: `out ${applied ? 'good-ink' : 'bad-ink'}` }, this.lines.wordsAt(i));
+    /**
+     * What stands at the right of a line: what it sets as texts, and what is said of it.
+     * @param {number} i
+     */
+    said(i) {
+        const words = this.lines.wordsAt(i);
+        return [element('span', { class: 'texts' }, ...this.owner.texts(i)),
+            element('span', { class: `out ${this.lines.isWrong(i) ? 'bad-ink' : 'good-ink'}`, title: words || null }, words)];
     }
 
     /** @param {number} i */
@@ -200,7 +207,7 @@ export class ScriptEditor {
         while (source.previousSibling) source.previousSibling.remove();
         while (source.nextSibling) source.nextSibling.remove();
         source.before(...this.margin(i));
-        source.after(this.words(i));
+        source.after(...this.said(i));
         this.area.style.height = `${ROW_HEIGHT}px`;
         this.area.style.height = `${Math.max(this.area.scrollHeight, ROW_HEIGHT)}px`;
     }
@@ -267,23 +274,4 @@ export class ScriptEditor {
         context.font = getComputedStyle(this.area).font;
         return context.measureText('0').width || 8;
     }
-}
-
-/**
- * The words of a line in colours, the faulty one underlined.
- * @param {ScriptLines} lines
- * @param {number} i
- * @returns {Child[]}
- */
-function colored({ calls, lines }, i) {
-    const { text, content } = lines[i];
-    const drawn = text.slice(0, MOST_DRAWN);
-    if (content === CONTENT.NOTHING) return [element('span', { class: 'c' }, drawn)];
-    const parts = lineParts(drawn);
-    const wrong = isFault(content) ? faultyWord(calls, text, content) : -1;
-    return parts.map((part, k) => {
-        if (wrong >= 0 && k === partOfWord(parts, wrong)) return element('span', { class: 'e' }, part);
-        if (k === partOfWord(parts, 0)) return element('span', { class: 'v' }, part);
-        return part === 'was' ? element('span', { class: 'w' }, part) : part;
-    });
 }

@@ -40,7 +40,8 @@ function meaningOf(app, lines, i) {
             ...withTerms('which writes 5 bytes at [offset] 26 of [block] 4711, if the old ones are there.')];
     }
     const files = app.files ? filesAt(app.files.files, patch.block, patch.offset) : [];
-    return [...withTerms(patchInWords(patch, shownPaths(files, ' and '))), pairOf(app, patch)];
+    return [...withTerms(patchInWords(patch, shownPaths(files, ' and '))),
+        lines.isWrong(i) && element('b', { class: 'bad-ink' }, ` It ${lines.wordsAt(i)}.`), pairOf(app, patch)];
 }
 
 /**

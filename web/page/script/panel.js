@@ -2,12 +2,14 @@
 
 import { LONG } from '../app/index.js';
 import { downloadText } from '../save/index.js';
+import { chosenEncoding } from '../text/index.js';
 import { askBeforeLeaving, button, byId, clearNotices, copyButton, countOf, counted, element, fill, keyed, nameOf } from '../ui/index.js';
 import { notice, said, setDisabled, showNotice } from '../ui/index.js';
 import { CheckCard } from './check_card.js';
 import { ScriptEditor } from './editor.js';
 import { listenToEditor, takeBackBytes, turnBack } from './editor_input.js';
 import { explainLine } from './explain.js';
+import { textsOfLine } from './line_parts.js';
 import { helpOfFault, helpOfRefusal } from './plain_words.js';
 import { makeUndo } from './undo_file.js';
 
@@ -31,13 +33,18 @@ class ScriptPanel {
         this.editor = new ScriptEditor(this.lines, {
             help: line => this.help(line),
             helpButton: line => this.helpButton(line),
+            texts: line => textsOfLine(chosenEncoding(app), this.lines, line),
+            hasTexts: () => chosenEncoding(app).hasCharacters,
             moved: () => this.explain(),
             changed: () => this.changed(),
             check: () => void this.check.check(),
         });
         this.check = new CheckCard(app, {
             lines: this.lines,
-            redraw: () => this.editor.draw(),
+            redraw: () => {
+                this.editor.draw();
+                this.explain();
+            },
             goTo: line => this.goTo(line),
             log: text => this.showLog(text),
         });
@@ -61,7 +68,7 @@ class ScriptPanel {
     listen() {
         const { app } = this;
         askBeforeLeaving(() => this.isLost(), 'Your script is in no file yet.');
-        app.serve({ takeBackBytes: () => takeBackBytes(this.editor) });
+        app.serve({ takeBackBytes: () => takeBackBytes(this.editor), saveScript: () => this.save() });
         app.on('line', line => this.goTo(line));
         app.on('check', () => void this.check.checkAtOnce());
         app.on('script', change => change && this.load(change.back));
@@ -106,7 +113,7 @@ class ScriptPanel {
             this.load(null);
             turnBack(this.editor, line);
         };
-        showNotice('warn', 'Your script was in no file, and has made way for this one.', element('div', { class: 'row' },
+        showNotice('warn', 'Your script was not saved, and has made way for this one.', element('div', { class: 'row' },
             button('slim', back, 'Bring it back')));
     }
 
@@ -135,11 +142,11 @@ class ScriptPanel {
         const tag = fault ? countOf(lines.faults, 'fault') : lines.long ? countOf(lines.long.text.length, 'character')
             : `${countOf(lines.patches, 'patch', 'patches')}${lines.version ? `, version ${lines.version}` : ''}`;
         const undo = button('slim bare', () => void makeUndo(app, undo, this.undoing, lines, this.check.carry.checked),
-            'Make the undo script…');
+            'Undo script…');
         setDisabled(undo, fault || app.image === null || (lines.patches === 0 && !lines.long));
         fill(this.head, element('h2', { class: name ? 'mono' : '' }, name ? nameOf(name) : 'New script'),
             element('span', { class: `tag${fault ? ' bad' : ''}` }, tag),
-            this.isLost() && element('span', { class: 'tag warn' }, 'in no file yet'),
+            this.isLost() && element('span', { class: 'tag warn' }, 'not saved'),
             button('slim bare', () => this.opening.click(), 'Open…'),
             keyed('save', button('slim bare', () => this.save(), 'Save script…')), undo);
         const count = byId('count-script');
@@ -193,7 +200,8 @@ class ScriptPanel {
         const press = () => {
             if (outcome) return this.app.goTo(outcome.block, outcome.offset, true);
             const { fix } = helpOfFault(this.lines, line);
-            return this.editor.edit(line, 1, fix ? fix.lines : [], line, 0);
+            const at = fix && fix.head ? this.lines.head : line;
+            return this.editor.edit(at, 1, fix ? fix.lines : [], line, 0);
         };
         return says === '' ? null : button('slim bare', press, says);
     }

@@ -10,8 +10,8 @@ import { USER_SIZE, addressText } from '../../core/sectors/sector.js';
 /** @typedef {import('../../core/script/model.js').ScriptLine} ScriptLine */
 /** A faulty line: its words, and the version of its script. */
 /** @typedef {{ words: string[], version: number, line: string, calls: import('../../core/module/calls.js').Calls }} Faulty */
-/** A sentence, and perhaps what a button would put in place of the line, with what the button says. */
-/** @typedef {{ text: string, fix: { says: string, lines: string[] } | null }} Help */
+/** A sentence, and perhaps what a button would put in place of the line, or of the head line, with what the button says. */
+/** @typedef {{ text: string, fix: { says: string, lines: string[], head?: true } | null }} Help */
 
 /** @type {Record<string, string>} */
 const VERB_FORMS = {
@@ -76,7 +76,7 @@ function helped(text, says = '', ...lines) {
 
 /** @type {Record<number, (faulty: Faulty) => Help>} */
 const FAULT_HELP = {
-    [CONTENT.NO_HEAD]: ({ line }) => helped('A script begins with the line cdpatch 1.', 'Add it', 'cdpatch 1', line),
+    [CONTENT.NO_HEAD]: helpOfHead,
     [CONTENT.UNKNOWN_VERB]: helpOfVerb,
     [CONTENT.WORD_COUNT]: ({ words: [verb] }) =>
         helped(`The line has this form: ${VERB_FORMS[verb] || Object.values(VERB_FORMS).slice(0, 4).join('; ')}.`),
@@ -89,9 +89,22 @@ const FAULT_HELP = {
 };
 
 /** @param {Faulty} faulty */
+function helpOfHead({ words: [first, version], line }) {
+    if (first.toLowerCase() !== 'cdpatch') return helped('A script begins with the line cdpatch 1.', 'Add it', 'cdpatch 1', line);
+    const head = version === '1' ? 'cdpatch 1' : 'cdpatch 2';
+    return helped('A script begins with the line cdpatch 1, or cdpatch 2, and nothing else stands in it.', `Make it ${head}`, head);
+}
+
+/**
+ * @param {Faulty} faulty
+ * @returns {Help}
+ */
 function helpOfVerb({ words: [verb, ...rest], version }) {
     const small = verb.toLowerCase();
-    if (verb === 'address' && version < 2) return helped('The verb address needs the head line cdpatch 2.');
+    if (verb === 'address' && version < 2) {
+        const fix = { says: 'Make it cdpatch 2', lines: ['cdpatch 2'], head: /** @type {const} */ (true) };
+        return { text: 'The verb address needs the head line cdpatch 2.', fix };
+    }
     if (verb === 'cdpatch') return helped('A script has one head line, and it is the first.');
     if (verb !== small && Object.keys(VERB_FORMS).includes(small)) {
         return helped('Verbs are written in small letters.', `${small}?`, [small, ...rest].join(' '));

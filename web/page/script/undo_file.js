@@ -48,8 +48,8 @@ async function makeUndoAt(app, image, { bar: place, said }, lines, carry) {
             && `, but for the damage of ${blocksText(made.left, 8)}: their address and user data come back`;
         const how = carry && ' Apply it with carry, as this script.';
         const long = made.script.long && ' It is longer than cdpatch and this page take: cdscript applies it with --long.';
-        sayAt(said, notice(left || long ? 'warn' : 'good', ['Saved: ', nameOf(name)], 'On the patched image it makes the old one again',
-            left, '.', how, long));
+        sayAt(said, notice(left || long ? 'warn' : 'good', ['Saved: ', nameOf(name)],
+            'Apply it to the patched image to get the original back', left, '.', how, long));
     } catch (error) {
         const rest = 'No undo script was made.';
         sayAt(said, isCancelled(error) ? notice('plain', 'Cancelled.', rest) : notice('bad', sentence(error), rest));

@@ -2,10 +2,11 @@
 
 import { LAST_BASE, SECTOR_SIZE } from '../../core/sectors/sector.js';
 import { MARK } from '../app/index.js';
-import { modeOneSectors, otherBase, placesOf } from '../disc/index.js';
+import { dumpWords, modeOneSectors, otherBase, placesOf } from '../disc/index.js';
 import { changeBase, imageOfTrack, readImage } from '../open/index.js';
 import { button, byId, copyButton, countOf, counted, element, fill, jobEnd, keyed, nameOf, seen, shownName, term } from '../ui/index.js';
 import { closeImage } from './close_image.js';
+import { tracksInWords } from './tracks.js';
 
 /** @typedef {import('../app/state.js').App} App */
 /** @typedef {import('../app/state.js').Image} Image */
@@ -29,7 +30,7 @@ export function mountDiscLine(app) {
     };
     const soon = () => { drawn.waiting = drawn.waiting || requestAnimationFrame(draw); };
     drawn.redraw = soon;
-    for (const name of /** @type {const} */ (['survey', 'surveyed', 'panel', 'second'])) app.on(name, soon);
+    for (const name of /** @type {const} */ (['survey', 'surveyed', 'dumps', 'panel', 'second'])) app.on(name, soon);
     app.on('image', () => {
         document.title = app.image === null ? 'cdpatch' : `cdpatch: ${shownName(app.image.name)}`;
         Object.assign(drawn, { hashed: 0, changing: false });
@@ -89,7 +90,8 @@ function facts(app, image, drawn) {
     const close = button('slim bare tiny', () => void closeImage(app), 'Close', element('span', { class: 'hide' }, ' the image'));
     const name = element('div', { class: 'row' }, element('p', { class: 'name' }, nameOf(image.name)), close);
     return [element('div', {}, name, ...lineParts(app, image),
-        panel === 'disc' && element('p', { class: 'small quiet' }, 'SHA-1 ', ...shaOf(image, drawn, 40))), element('dl', {}, ...own)];
+        panel === 'disc' && element('p', { class: 'small quiet' }, 'SHA-1 ', ...shaOf(image, drawn, 40)), dumpWords(app, image)),
+    element('dl', {}, ...own)];
 }
 
 /**
@@ -100,7 +102,8 @@ function facts(app, image, drawn) {
 function lineParts(app, image) {
     const tail = image.tail === 0 ? 'no tail' : `a tail of ${countOf(image.tail, 'byte')}`;
     const parts = `${counted(image.reader.size)} bytes · ${countOf(image.sectors, 'sector')} · ${tail}`;
-    const from = image.from === '' ? [] : [' · from ', element('span', { class: 'mono' }, nameOf(image.from))];
+    const from = image.from === '' ? [] : [' · from ', element('span', { class: 'mono' }, nameOf(image.from)), ': ',
+        ...tracksInWords(image)];
     const tracks = image.disc.tracks.filter(track => track.image !== null);
     return [element('p', { class: 'small quiet num' }, parts, ...from), tracks.length > 1 && trackChoice(app, image)];
 }

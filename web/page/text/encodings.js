@@ -1,10 +1,22 @@
 // The encodings that can be chosen.
 
-import { ENCODINGS, USUAL_ENCODING, encodingOf, tableOf } from '../../core/texts/encodings.js';
+import { ENCODINGS, USUAL_ENCODING, encodingOf, tableTextOf } from '../../core/texts/encodings.js';
+import { tableEncoding } from '../../core/texts/table.js';
 import { element, fill, messageOf, nameOf, notice, shownName } from '../ui/index.js';
 
 /** @typedef {import('../app/state.js').App} App */
 /** @typedef {import('../../core/texts/encoding.js').Encoding} Encoding */
+
+/** @type {WeakMap<Encoding, string>} the texts of tables */
+const sources = new WeakMap();
+
+/**
+ * The text of the table that an encoding is, undefined if it is none.
+ * @param {Encoding} encoding
+ */
+export function tableSource(encoding) {
+    return sources.get(encoding);
+}
 
 /**
  * The chosen encoding.
@@ -67,7 +79,10 @@ export function bindEncodings(app, choice, isOffered = () => true) {
  */
 export async function takeTable(app, file) {
     try {
-        app.addTable(file.name, tableOf(new Uint8Array(await file.arrayBuffer())));
+        const text = tableTextOf(new Uint8Array(await file.arrayBuffer()));
+        const table = tableEncoding(text);
+        sources.set(table, text);
+        app.addTable(file.name, table);
         return notice('good', ['Loaded: ', nameOf(file.name)], 'It is the encoding now, here and where bytes are shown as text.');
     } catch (error) {
         return notice('bad', ['Not a table that can be read: ', nameOf(file.name)], messageOf(error));

@@ -9,6 +9,7 @@ import { linesForAll, linesReplacing } from './hits.js';
 import { HitsCard } from './hits_card.js';
 import { ReplaceCard } from './replace_card.js';
 import { SearchJob } from './search_job.js';
+import { TextsTable } from './texts_table.js';
 
 /** @typedef {import('../app/state.js').App} App */
 /** @typedef {import('../app/state.js').Image} Image */
@@ -47,9 +48,10 @@ class TextPanel {
         this.replace = new ReplaceCard(app, { add: (hit, fresh, old) => this.alone(() => this.add(hit, fresh, old)),
             addAll: (fresh, byte) => this.alone(() => this.addAll(fresh, byte)), skip: () => this.next() });
         this.around = new AroundCard(app);
+        this.texts = new TextsTable(app);
         this.results = element('div', { class: 'two even', hidden: true }, element('div', { class: 'side' }, this.hits.card),
             element('div', { class: 'side' }, this.replace.card, this.around.card));
-        panel.append(this.askCard(), this.state, this.results, this.table);
+        panel.append(this.askCard(), this.state, this.texts.results, this.results, this.table);
         app.addTaker(file => this.isTable(file));
         this.listen();
         this.drawHint();
@@ -74,21 +76,20 @@ class TextPanel {
         const label = (/** @type {string} */ target, /** @type {string} */ text) => element('label', { for: target }, text);
         return element('section', { class: 'card pad stack tight', 'aria-label': 'Find' }, element('div', { class: 'ask' },
             element('div', {}, label('find-text', 'Find this text'), this.field),
-                element('div', {}, label('find-encoding', 'In which encoding'), this.choice),
+                element('div', {}, label('find-encoding', 'Encoding'), this.choice),
             button('', () => this.table.click(), 'Load a table (.tbl)…'), button('main', () => this.find(), 'Find')),
-        this.hint, this.search.place);
+        this.hint, this.search.place, this.texts.part);
     }
 
     /** The bytes of the text that is searched for, or why it has none. */
     drawHint() {
-        const where = ['searched in the ', term('user', 'user data'), ' of all sectors, over the borders of blocks'];
-        if (this.field.value === '') return fill(this.hint, 'A text is ', ...where, '.');
+        if (this.field.value === '') return fill(this.hint, 'Searches the ', term('user', 'data'),
+            ' of every sector, including text that runs over into the next one.');
         try {
             const bytes = chosenEncoding(this.app).units(this.field.value).map(([usual]) => hexOf(usual).replace(/..(?=.)/g, '$& '));
-            const count = bytes.join(' ').split(' ').length;
             this.field.setAttribute('aria-invalid', 'false');
-            return fill(this.hint, `${countOf(count, 'byte')}: `, element('span', { class: 'mono' }, bytes.slice(0, 24).join(' ')),
-                bytes.length > 24 ? '…' : '', ' · ', ...where);
+            return fill(this.hint, `${countOf(bytes.join(' ').split(' ').length, 'byte')}: `, element('span', { class: 'mono' },
+                bytes.slice(0, 24).join(' ')), bytes.length > 24 ? '…' : '');
         } catch (error) {
             this.field.setAttribute('aria-invalid', 'true');
             return fill(this.hint, element('b', { class: 'bad-ink' }, messageOf(error)));
@@ -214,7 +215,7 @@ class TextPanel {
             return;
         }
         await this.choose(this.chosen < 0 ? 0 : this.chosen);
-        sayAt(this.replace.said, notice('good', 'All hits are in the script.', 'Script and Check say whether they fit.'));
+        sayAt(this.replace.said, notice('good', 'All hits are in the script.', 'Open Script and press Check to test them.'));
     }
 
     /** @param {() => Promise<void>} job that makes lines, of which one runs at a time */
@@ -261,7 +262,7 @@ class TextPanel {
             if (app.image !== image || this.found !== found) return;
             if (lines.length > 0) app.addLines(lines);
             await this.next();
-            const rest = left.length === 0 ? 'Script and Check say whether they fit.'
+            const rest = left.length === 0 ? 'Open Script and press Check to test them.'
                 : `${countOf(left.length, 'hit')} left: ${left.slice(0, 5).join('; ')}${left.length > 5 ? '; …' : '.'}`;
             sayAt(this.replace.said, notice(left.length > 0 ? 'warn' : 'good', `${countOf(lines.length, 'line')} added to the script.`,
                 rest));

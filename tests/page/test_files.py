@@ -1,0 +1,155 @@
+"""The tab Files of the panel Disc: what is listed, saved and replaced, beside what cdscript prints and writes; and the tracks of a cue sheet."""
+
+import subprocess
+from pathlib import Path
+
+import common
+import discs
+from pages import GATE, PageTest, applied
+
+MESSAGES = '/DATA/MSG00.DAT'
+SHOWN = "return [...document.querySelectorAll('#findings .files tbody tr')].map(row => [...row.cells].map(it => it.innerText.trim()).join(' '))"
+STOPS = "return document.querySelectorAll('#findings-body [tabindex=\"0\"], #findings-body tbody button:not([tabindex])').length"
+
+
+def many() -> bytes:
+    """An image of 900 files."""
+    return common.image_of(common.iso_of({f'DIR{i // 100}/FILE{i:03}.DAT': b'file %d' % i for i in range(900)}))
+
+
+class Files(PageTest):
+    def begin(self, image: bytes) -> Path:
+        """Opens an image, and shows its files."""
+        path = discs.written(game=image)['game']
+        self.open_image(path)
+        self.browser.click('#findings [data-tab=files]')
+        self.browser.wait('#findings .files tbody button')
+        return path
+
+    def shown(self) -> list[str]:
+        return list(self.browser.run(SHOWN))
+
+    def choose(self, name: str) -> None:
+        """Chooses a file by its row."""
+        self.press(name)
+        self.browser.wait('#findings .row b', name)
+
+    def give(self, data: bytes) -> Path:
+        """Replaces the chosen file."""
+        path = common.folder('fresh') / 'fresh.dat'
+        path.write_bytes(data)
+        self.browser.give('#findings input[type=file]', [path])
+        return path
+
+    def script_of(self, image: Path, fresh: Path) -> str:
+        """What cdscript writes."""
+        return subprocess.run([common.cdscript(), 'replace-file', image, MESSAGES, fresh], check=True, stdout=subprocess.PIPE).stdout.decode()
+
+    def test_the_files_are_those_that_cdscript_lists(self) -> None:
+        image = self.begin(discs.game())
+        printed = subprocess.run([common.cdscript(), 'files', image], check=True, stdout=subprocess.PIPE).stdout.decode()
+        rows = [line.split('\t') for line in printed.splitlines()]
+        self.assertEqual(self.shown(), [f'{path} {int(size):,} {block}' for block, size, path in rows])
+        self.assertEqual(self.browser.text('#findings [data-tab=files]'), f'Files {len(rows)}')
+        self.press('Save…')
+        self.assertEqual(common.waited(self.browser.downloaded('files.txt').read_text, 'the list is empty'), printed)
+
+    def test_a_press_on_a_file_opens_its_sector(self) -> None:
+        self.begin(discs.game())
+        self.choose(MESSAGES)
+        self.browser.wait('#sector-title', f'block {discs.first_block()}')
+        self.browser.wait('.disc-grid .foot', f'file {MESSAGES} at 0')
+        self.assertEqual(self.browser.run('return document.activeElement.innerText'), MESSAGES)
+
+    def test_some_hundred_rows_of_many_files_stand_there_and_stay(self) -> None:
+        image = self.begin(many())
+        printed = subprocess.run([common.cdscript(), 'files', image], check=True, stdout=subprocess.PIPE).stdout.decode()
+        names = [line.split('\t')[2] for line in printed.splitlines()]
+        self.assertEqual(self.browser.text('#findings [data-tab=files]'), 'Files 900')
+        self.assertEqual(len(self.shown()), 200)
+        self.assertEqual(self.browser.run(STOPS), 1)
+        self.browser.run("document.querySelector('#findings .files tbody tr:nth-child(3)').mine = true")
+        self.choose(names[1])
+        self.assertTrue(self.browser.run("return document.querySelector('#findings .files tbody tr:nth-child(3)').mine"))
+        self.press('Next')
+        self.assertEqual([row.split(' ')[0] for row in self.shown()], names[200:400])
+        self.assertIn('201–400 of 900', self.browser.text('#findings'))
+        self.browser.type('#files-filter', 'dir8/file89')
+        self.assertEqual([row.split(' ')[0] for row in self.shown()], [name for name in names if '/DIR8/FILE89' in name])
+        self.browser.type('#files-filter', 'nothing')
+        self.assertEqual(self.shown(), ['No name has this in it.'])
+
+    def test_a_file_is_saved_as_it_is_on_the_disc(self) -> None:
+        self.begin(discs.game())
+        self.choose(MESSAGES)
+        self.press('Extract')
+        self.browser.wait('#findings .say.good', 'Saved: MSG00.DAT')
+        self.assertEqual(common.waited(self.browser.downloaded('MSG00.DAT').read_bytes, 'the file is empty'), discs.messages())
+
+    def test_a_file_of_the_same_or_another_length_is_replaced_as_by_cdscript(self) -> None:
+        long = discs.messages().replace(discs.START, b'Start   ')
+        for fresh, said in ((long, ''), (long[:1500], f'{MESSAGES} had {len(long):,} bytes, and gets 1,500.'), (long + b'more', 'and gets')):
+            with self.subTest(size=len(fresh)):
+                self.setUp()
+                image = self.begin(discs.game())
+                self.choose(MESSAGES)
+                path = self.give(fresh)
+                self.browser.wait('#findings .say.good', 'added to the script.')
+                self.assertIn(said, self.browser.text('#findings .say.good'))
+                self.press('Open Script')
+                self.assertEqual(self.script_text(), self.script_of(image, path))
+        self.press('Apply and save')
+        saved = self.browser.downloaded('game (patched).bin').read_bytes()
+        self.assertEqual(saved, applied(image, discs.written(script=self.script_of(image, path))['script'])[2])
+
+    def test_what_cannot_be_replaced_is_said(self) -> None:
+        self.begin(discs.scratched())
+        self.choose(MESSAGES)
+        for data, why in ((bytes(5000), 'room for 4096, the new file 5000'), (discs.messages().replace(b'.', b'-'), 'is damaged in block')):
+            self.give(data)
+            self.browser.wait('#findings .say.bad', why)
+            self.assertIn('Nothing was added to the script.', self.browser.text('#findings .say.bad'))
+        self.setUp()
+        self.begin(discs.game())
+        self.choose(MESSAGES)
+        self.give(discs.messages())
+        self.browser.wait('#findings .say', 'The new file has the same bytes.')
+        self.assertTrue(self.browser.run('return document.querySelector("#count-script").hidden'))
+
+    def test_cancel_ends_the_reading_of_a_file(self) -> None:
+        self.begin(discs.game())
+        self.choose(MESSAGES)
+        self.browser.run(GATE)
+        self.browser.run('Worker.prototype.postMessage = () => {}')
+        self.press('Extract')
+        self.browser.wait('#findings .progress')
+        self.press('Cancel')
+        self.browser.run('openGate()')
+        self.browser.wait('#findings .say', 'No file was saved.')
+        self.assertEqual(list(self.browser.downloads.iterdir()), [])
+
+    def test_a_disc_without_files_says_so(self) -> None:
+        path = discs.written(plain=common.image_of([b'no volume'] * 30))['plain']
+        self.open_image(path)
+        self.browser.click('#findings [data-tab=files]')
+        self.browser.wait('#findings .files', 'No ISO 9660 volume was found here')
+
+    def test_all_tracks_of_a_cue_sheet_are_named(self) -> None:
+        files = discs.written(t1=discs.game(), t2=bytes(2352 * 300), t3=bytes(2352 * 300))
+        sheet = files['t1'].with_name('disc.cue')
+        kinds = {'t1': 'MODE1/2352', 't2': 'AUDIO', 't3': 'AUDIO'}
+
+        def named(*names: str) -> str:
+            return ''.join(f'FILE "{name}.bin" BINARY\n  TRACK 0{i + 1} {kinds[name]}\n    INDEX 01 00:00:00\n' for i, name in enumerate(names))
+
+        one_file = 'FILE "t1.bin" BINARY\n  TRACK 01 MODE1/2352\n    INDEX 01 00:00:00\n  TRACK 02 AUDIO\n    INDEX 01 00:02:00\n'
+        cases = ((named('t1', 't2'), ['t1', 't2'], '1 data track, 1 audio track (t2.bin, not opened for editing)'),
+                 (named('t1', 't2'), ['t1'], '1 data track, 1 audio track (t2.bin, which is not here)'),
+                 (named('t1', 't2', 't3'), ['t1', 't2', 't3'], '1 data track, 2 audio tracks (t2.bin, t3.bin, not opened for editing)'),
+                 (one_file, ['t1'], '1 data track, 1 audio track (in the same file)'), (named('t1'), ['t1'], 'from disc.cue: 1 data track'))
+        for text, given, said in cases:
+            with self.subTest(said):
+                self.setUp()
+                sheet.write_text(text)
+                self.open_files(sheet, *[files[name] for name in given])
+                self.browser.wait('#disc-line', said)

@@ -1,0 +1,149 @@
+"""The table of all texts of a disc, beside what cdscript prints and writes of it, and the lists of known dumps that name a disc."""
+
+import subprocess
+from pathlib import Path
+
+import common
+import discs
+from pages import GATE, PageTest, applied
+
+TEXTS = ['ゲームをはじめからスタートします。', 'セーブしますか？それともつづけますか？', 'ドアは鍵がかかっている。だれかいるのか？', '星空探偵、登場。事件はまだ終わらない。']
+
+
+def told() -> bytes:
+    """An image of a volume with sentences, each with a zero byte at its end, which are told from other bytes."""
+    data = b'\0'.join(text.encode('cp932') for text in TEXTS * 6) + b'\0'
+    return common.image_of(common.iso_of({'DATA/MSG00.DAT': data, 'README.TXT': b'Start of the game\n' * 20}))
+
+
+def dat_of(*dumps: tuple[str, bytes, str]) -> str:
+    rows = ''.join(f'<game name="x"><rom name="{name}" size="{len(data)}" sha1="{common.sha1(data).upper()}" {more}/></game>' for name, data, more in dumps)
+    return f'<?xml version="1.0"?><!-- a list --><!DOCTYPE datafile SYSTEM "x.dtd"><datafile>{rows}</datafile>'
+
+
+class TextsTable(PageTest):
+    def begin(self, image: bytes) -> Path:
+        path = discs.written(game=image)['game']
+        self.open_image(path)
+        self.browser.click('#tab-text')
+        return path
+
+    def printed(self, image: Path) -> str:
+        """The table that cdscript prints."""
+        return subprocess.run([common.cdscript(), 'texts', image], check=True, stdout=subprocess.PIPE, stderr=subprocess.DEVNULL).stdout.decode()
+
+    def table(self, image: Path, fresh: dict[int, str]) -> Path:
+        """That table with new texts in rows of these numbers, from 2."""
+        rows = [line.split('\t') for line in self.printed(image).splitlines()]
+        for number, text in fresh.items():
+            rows[number - 1][-1] = text
+        path = common.folder('table') / 'mine.tsv'
+        path.write_text(''.join('\t'.join(row) + '\n' for row in rows))
+        return path
+
+    def give(self, table: Path) -> None:
+        self.browser.give('#panel-text input[accept^=".tsv"]', [table])
+
+    def test_the_table_is_what_cdscript_prints(self) -> None:
+        image = self.begin(told())
+        self.press('Export texts')
+        self.browser.wait('#panel-text .say.good', 'Saved: game (texts).tsv')
+        saved = common.waited(self.browser.downloaded('game (texts).tsv').read_text, 'the table is empty')
+        self.assertEqual(saved, self.printed(image))
+        self.assertIn(f"It has {len(saved.splitlines()) - 1} texts.", self.browser.text('#panel-text .say.good'))
+        self.assertGreater(len(saved.splitlines()), len(TEXTS))
+        self.assertEqual(self.browser.attempts(), [])
+
+    def test_new_texts_become_the_lines_that_cdscript_writes(self) -> None:
+        image = self.begin(told())
+        table = self.table(image, {2: 'The game starts.', 3: 'Save?', 5: 'The end.'})
+        self.give(table)
+        self.browser.wait('#panel-text .say.good', '3 lines added to the script.')
+        self.browser.wait('#panel-text .say.good', 'All 3 new texts fit.')
+        written = subprocess.run([common.cdscript(), 'replace', image, '--list', table], check=True, stdout=subprocess.PIPE).stdout.decode()
+        self.press('Open Script')
+        self.assertEqual(self.script_text(), written)
+        self.press('Apply and save')
+        self.assertEqual(self.browser.downloaded('game (patched).bin').read_bytes(), applied(image, discs.written(script=written)['script'])[2])
+
+    def test_rows_that_do_not_fit_are_a_list_to_walk(self) -> None:
+        image = self.begin(told())
+        rows = self.printed(image).splitlines()
+        self.give(self.table(image, {2: 'The game starts.', 3: 'much too long ' * 9, 4: 'also too long ' * 9}))
+        self.browser.wait('#panel-text .say.warn', '1 line added to the script.')
+        self.browser.wait('#panel-text .say.warn', '1 new text fits, 2 do not.')
+        self.browser.wait('#panel-text h2', '2 rows do not fit')
+        cells = "return [...document.querySelectorAll('[aria-label=\"2 rows do not fit\"] tbody tr')].map(row => [...row.cells].map(it => it.innerText))"
+        (number, place, _, why), other = self.browser.run(cells)
+        block, offset = rows[2].split('\t')[:2]
+        self.assertEqual((number, place, other[0]), ('3', f'{block}, {offset}', '4'))
+        self.assertIn('more than the', why)
+        stops = "return document.querySelectorAll('[aria-label=\"2 rows do not fit\"] tbody [tabindex=\"0\"]').length"
+        self.assertEqual(self.browser.run(stops), 1)
+        self.press('3')
+        self.browser.wait(f'[aria-label="The bytes around block {block} offset {offset}"]')
+
+    def test_a_table_that_is_none_adds_nothing(self) -> None:
+        image = self.begin(told())
+        wrong = common.folder('wrong') / 'mine.csv'
+        for text, why in (('a,b\n1,2\n', 'names no column block, offset, text, new'), (self.printed(image).replace('\t', ','), 'o row of the list has a new text')):
+            wrong.write_text(text)
+            self.browser.drop('#panel-text', [wrong])
+            self.browser.wait('#panel-text .say.bad', why)
+            self.assertIn('Nothing was added to the script.', self.browser.text('#panel-text .say.bad'))
+        self.assertTrue(self.browser.run('return document.querySelector("#count-script").hidden'))
+
+    def test_cancel_ends_the_making_of_lines(self) -> None:
+        image = self.begin(told())
+        table = self.table(image, {2: 'The game starts.'})
+        self.browser.run(GATE)
+        self.give(table)
+        self.browser.wait('#panel-text .progress')
+        self.press('Cancel')
+        self.browser.run('openGate()')
+        self.browser.wait('#panel-text .say', 'Cancelled.')
+        self.assertTrue(self.browser.run('return document.querySelector("#count-script").hidden'))
+
+    def test_cancel_ends_the_looking_for_texts(self) -> None:
+        self.begin(told())
+        self.browser.run('Worker.prototype.postMessage = () => {}')
+        self.press('Export texts')
+        self.browser.wait('#panel-text .progress')
+        self.press('Cancel')
+        self.browser.wait('#panel-text .say', 'No table was saved.')
+        self.assertEqual(list(self.browser.downloads.iterdir()), [])
+
+    # ---- known dumps
+
+    def open_list(self, text: str, name: str = 'games.dat') -> None:
+        path = common.folder('dat') / name
+        path.write_text(text)
+        self.open_files(path)
+
+    def test_a_list_of_known_dumps_names_the_disc(self) -> None:
+        game, hurt = discs.game(), discs.scratched()
+        files = discs.written(game=game, hurt=hurt, other=common.image_of([b'other'] * 20))
+        self.open_list(dat_of(('Starlit Detective (Japan).bin', game, ''), ('Hurt.bin', hurt, 'status="baddump"')))
+        self.browser.wait('#start-message .say.good', 'It lists 2 known dumps.')
+        for name, said in (('game', 'verified: Starlit Detective (Japan).bin'), ('hurt', 'known as a bad dump: Hurt.bin'), ('other', 'in none of the lists')):
+            self.open_image(files[name])
+            self.browser.wait('#disc-line .tag', said)
+            for panel in ('text', 'disc'):
+                self.browser.click(f'#tab-{panel}')
+                self.browser.wait('#disc-line .tag', said)
+            if name != 'other':
+                self.setUp()
+                self.open_list(dat_of(('Starlit Detective (Japan).bin', game, ''), ('Hurt.bin', hurt, 'status="baddump"')))
+                self.browser.wait('#start-message .say.good')
+
+    def test_a_list_that_is_opened_later_names_the_open_disc(self) -> None:
+        self.open_image(discs.written(game=discs.game())['game'])
+        self.assertFalse(self.browser.run("return document.querySelector('#disc-line .tag') !== null"))
+        self.open_list(dat_of(('Starlit.bin', discs.game(), '')), 'games.xml')
+        self.browser.wait('#disc-line .tag.good', 'verified: Starlit.bin')
+
+    def test_a_list_that_is_cut_is_not_taken(self) -> None:
+        self.open_image(discs.written(game=discs.game())['game'])
+        self.open_list(dat_of(('Starlit.bin', discs.game(), ''))[:-8])
+        self.browser.wait('#messages .say.bad', 'it is cut')
+        self.assertFalse(self.browser.run("return document.querySelector('#disc-line .tag') !== null"))

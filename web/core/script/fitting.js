@@ -1,0 +1,22 @@
+// Whether a script that this core has written fits its image.
+
+import { Fault } from '../faults.js';
+import { STATUS } from '../module/records.js';
+import { passPatched } from './patches.js';
+import { Refusal, readScript } from './script.js';
+
+/** @typedef {import('../bytes.js').Reader} Reader */
+/** @typedef {import('../module/calls.js').Calls} Calls */
+/** @typedef {import('./script_writer.js').Script} Script */
+
+/**
+ * Throws a Fault if a patch of a script is refused.
+ * @param {Calls} calls
+ * @param {{ reader: Reader, base: number }} image
+ * @param {Script} script
+ */
+export async function assertFits(calls, image, script) {
+    const read = await readScript(calls, script.pieces, script.long);
+    const made = read instanceof Refusal ? null : await passPatched(calls, image.reader, read, { base: image.base });
+    if (made === null || made.status !== STATUS.DONE) throw new Fault('the patches conflict, so no script is written');
+}

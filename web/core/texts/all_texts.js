@@ -1,0 +1,124 @@
+// A table of all texts of a track, for translators.
+
+import { sliceOf } from '../bytes.js';
+import { cancelled } from '../faults.js';
+import { SECTOR_SIZE, USER_SIZE } from '../sectors/sector.js';
+import { rowText } from './cells.js';
+import { bytesBefore } from './context.js';
+import { BEYOND, keptOf } from './told.js';
+import { visible } from './visible.js';
+
+/** @typedef {import('../disc/disc.js').DiscImage} DiscImage */
+/** @typedef {import('../iso/files.js').FileEntry} FileEntry */
+/** @typedef {import('../jobs.js').Sharer} Sharer */
+/** @typedef {import('./range.js').Asked} Asked */
+/** @typedef {import('./range.js').Told} Told */
+/**
+ * A stretch of user bytes that is a file, or what lies between files: from a sector of the part on, in the order of files. `before` is how
+ * many bytes of the file come before it.
+ * @typedef {{ path: string, before: number, first: number, size: number }} Stretch
+ */
+/**
+ * What a table has: texts in what is asked for, of at least so many characters, and a tab or a comma between cells. `signal` ends the job;
+ * `progress` hears of sectors.
+ * @typedef {{ asked: Asked, least?: number, mark?: string, signal?: { aborted: boolean },
+ *     progress?: (done: number, all: number) => void }} TableHow
+ */
+
+const COLUMNS = ['block', 'offset', 'bytes', 'room', 'encoding', 'file', 'text', 'new'];
+
+const LEAST_CHARACTERS = 2;
+
+/** Stretches that are looked at side by side. */
+const STRETCHES_AT_ONCE = 64;
+
+/** @param {Stretch} stretch */
+function sectorsOf({ size }) {
+    return Math.ceil(size / USER_SIZE);
+}
+
+/**
+ * The stretches of a part, in the order of its files.
+ * @param {DiscImage} part
+ * @param {FileEntry[]} files
+ * @returns {Stretch[]}
+ */
+export function stretchesOf(part, files) {
+    /** @type {Stretch[]} */
+    const stretches = [];
+    let next = 0;
+    const between = (/** @type {number} */ end) => {
+        if (end > next) stretches.push({ path: '', before: 0, first: next, size: (end - next) * USER_SIZE });
+    };
+    const placed = files.map(it => ({ ...it, first: bytesBefore(part, { block: it.block, offset: 0 }) / USER_SIZE }));
+    for (const { path, before, first, size } of placed.sort((a, b) => a.first - b.first)) {
+        const count = Math.min(Math.ceil(size / USER_SIZE), part.sectors - first);
+        if (first < next || count <= 0) continue;
+        between(first);
+        const [last] = stretches.slice(-1);
+        const own = Math.min(size, count * USER_SIZE);
+        if (before > 0 && last && last.path === path && (first - last.first) * USER_SIZE === before) last.size += own;
+        else stretches.push({ path, before, first, size: own });
+        next = first + count;
+    }
+    between(part.sectors);
+    return stretches;
+}
+
+/**
+ * The texts of a stretch.
+ * @param {Sharer} crew
+ * @param {DiscImage} part
+ * @param {Stretch} stretch
+ * @param {Asked} asked
+ * @param {import('../jobs.js').Sharing} watch
+ */
+async function textsOf(crew, { reader, order }, stretch, asked, watch) {
+    /** @type {Told[]} */
+    const told = [];
+    const { first, size } = stretch;
+    const sectors = sliceOf(order ? order.reader : reader, first * SECTOR_SIZE, (first + sectorsOf(stretch)) * SECTOR_SIZE);
+    const take = (/** @type {Told[]} */ texts) => void told.push(...texts);
+    await crew.share('texts', [sectors], { ...asked, size }, { ...watch, beyond: BEYOND }, take);
+    return keptOf(told);
+}
+
+/**
+ * @param {DiscImage} part
+ * @param {Stretch} stretch
+ * @param {Told} told
+ */
+function cellsOf({ base, order }, { path, before, first }, { start, end, room, scores, text }) {
+    const index = first + Math.floor(start / USER_SIZE);
+    const file = path === '' ? '-' : `${visible(path)}+${before + start}`;
+    return [order ? order.blockOf(index) : base + index, start % USER_SIZE, end - start, room, scores, file, text, ''];
+}
+
+/**
+ * The table of the texts of some stretches, in pieces, with how many texts each has. The first one names the columns.
+ * @param {Sharer} crew
+ * @param {DiscImage} part whose order is that of its files
+ * @param {Stretch[]} stretches
+ * @param {TableHow} how
+ * @returns {AsyncGenerator<{ text: string, count: number }>}
+ */
+export async function* tableOfTexts(crew, part, stretches, { asked, least = LEAST_CHARACTERS, mark = '\t', signal, progress }) {
+    const all = stretches.reduce((sum, stretch) => sum + sectorsOf(stretch), 0);
+    let done = 0;
+    const watchOne = () => {
+        let own = 0;
+        return { signal, progress: (/** @type {number} */ sectors) => {
+            [done, own] = [done + sectors - own, sectors];
+            if (progress) progress(done, all);
+        } };
+    };
+    yield { text: rowText(COLUMNS, mark), count: 0 };
+    for (let i = 0; i < stretches.length; i += STRETCHES_AT_ONCE) {
+        if (signal && signal.aborted) throw cancelled();
+        const some = stretches.slice(i, i + STRETCHES_AT_ONCE);
+        const found = await Promise.all(some.map(stretch => textsOf(crew, part, stretch, asked, watchOne())));
+        const long = found.map(texts => texts.filter(({ text }) => [...text].length >= least));
+        const rows = long.flatMap((texts, k) => texts.map(it => cellsOf(part, some[k], it)));
+        yield { text: rows.map(cells => rowText(cells, mark)).join(''), count: rows.length };
+    }
+}

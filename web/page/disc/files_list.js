@@ -1,0 +1,241 @@
+// The tab Files: the files of the disc by their blocks. The chosen one is saved as a file, or replaced by one.
+
+import { joinedBytes } from '../../core/bytes.js';
+import { Fault } from '../../core/faults.js';
+import { passFile } from '../../core/images/convert.js';
+import { filesLines, wholeFile } from '../../core/iso/files.js';
+import { replaceFile } from '../../core/script/replace_file.js';
+import { leftText } from '../../core/script/sector_lines.js';
+import { blocksIn } from '../../core/sectors/runs.js';
+import { visible } from '../../core/texts/visible.js';
+import { fileReader } from '../open/index.js';
+import { downloadBytes } from '../save/index.js';
+import { announce, button, countOf, counted, element, fill, isCancelled, jobBar, keyed, messageParts, nameOf } from '../ui/index.js';
+import { notice, runAt, seen, stemOf, term } from '../ui/index.js';
+
+/** @typedef {import('../app/state.js').App} App */
+/** @typedef {import('../app/state.js').Image} Image */
+/** @typedef {import('../../core/iso/files.js').FileEntry} FileEntry */
+/** @typedef {import('../../core/script/script_writer.js').Script} Script */
+/** @typedef {import('../ui/fill.js').Child} Child */
+/** A file of the disc. */
+/** @typedef {{ path: string, shown: string, size: number, block: number, fault: string, entries: FileEntry[] }} Listed */
+
+/** Rows that stand in the document at a time, and runs of sectors that a message names. */
+const ROWS = 200;
+const MOST_RUNS = 8;
+
+/**
+ * The files of a volume, each with all its extents.
+ * @param {FileEntry[]} entries by their blocks
+ */
+function listed(entries) {
+    /** @type {Map<string, Listed>} */
+    const files = new Map();
+    for (const entry of entries) {
+        const { path, block, size, fault } = entry;
+        const file = files.get(path);
+        if (file === undefined) files.set(path, { path, shown: seen(path), size, block, fault, entries: [entry] });
+        else {
+            file.entries.push(entry);
+            file.size += size;
+        }
+    }
+    return [...files.values()];
+}
+
+/** @param {string} path */
+function lastName(path) {
+    return stemOf(path.replace(/^.*\//, '')) || 'file.bin';
+}
+
+export class FilesList {
+    /** @param {App} app */
+    constructor(app) {
+        this.app = app;
+        /** @type {Listed[]} */
+        this.all = [];
+        /** Whether the files of the open image were looked for, and found. */
+        this.looked = false;
+        this.known = false;
+        this.from = 0;
+        this.chosen = /** @type {Listed | null} */ (null);
+        this.filter = element('input', { type: 'text', class: 'slim', id: 'files-filter', autocomplete: 'off', spellcheck: 'false',
+            input: () => this.filtered() });
+        /** @type {HTMLInputElement} */
+        this.input = element('input', { type: 'file', class: 'hide', tabindex: -1, 'aria-label': 'The new file',
+            change: () => void this.replace() });
+        this.pages = element('span', { class: 'row small quiet to-end' });
+        this.actions = element('div', { class: 'row' });
+        this.job = element('div', { class: 'stack' });
+        this.said = element('div', { role: 'status' });
+        this.tools = element('div', { class: 'pad stack tight', hidden: true }, element('div', { class: 'row' },
+            element('label', { class: 'row small' }, 'Filter', this.filter), this.pages), this.actions, this.job, this.said, this.input);
+        this.table = element('tbody');
+        const head = element('tr', {}, element('th', {}, 'Name'), element('th', { class: 'n' }, 'Bytes'),
+            element('th', { class: 'n' }, term('block', 'Block')));
+        this.part = element('table', { class: 'files' }, element('thead', {}, head), this.table);
+    }
+
+    /** @param {boolean} looked whether the files of the open image were looked for */
+    take(looked) {
+        const { files } = this.app;
+        [this.looked, this.known, this.all] = [looked, files !== null, files === null ? [] : listed(files.files)];
+        [this.from, this.chosen, this.filter.value] = [0, null, ''];
+        fill(this.said);
+        this.draw();
+    }
+
+    /** What `cdscript files` prints. */
+    text() {
+        const { files } = this.app;
+        return files === null ? '' : filesLines(files.files, visible).map(line => `${line}\n`).join('');
+    }
+
+    /** How many files there are, as a tab says it. */
+    count() {
+        return this.known ? counted(this.all.length) : '';
+    }
+
+    filtered() {
+        this.from = 0;
+        this.draw();
+    }
+
+    /** The files whose names have what is asked for. */
+    wanted() {
+        const words = this.filter.value.toLowerCase();
+        return words === '' ? this.all : this.all.filter(({ shown }) => shown.toLowerCase().includes(words));
+    }
+
+    draw() {
+        const wanted = this.wanted();
+        this.drawPages(wanted.length);
+        this.drawActions();
+        const rows = wanted.slice(this.from, this.from + ROWS).map(file => this.row(file));
+        fill(this.table, ...rows.length > 0 ? rows : [element('tr', {}, element('td', { colspan: 3, class: 'wide' }, this.noneText()))]);
+    }
+
+    /** Why no file is listed. */
+    noneText() {
+        if (!this.looked) return 'The files are being listed.';
+        if (!this.known) return 'No ISO 9660 volume was found here, so no file can be named.';
+        return this.all.length === 0 ? 'The volume has no files.' : 'No name has this in it.';
+    }
+
+    /** @param {Listed} file */
+    row(file) {
+        const { path, shown, size, block, fault } = file;
+        const open = element('button', { type: 'button', class: 'fold', click: () => this.choose(file) }, element('bdi', {}, shown));
+        return keyed(path, element('tr', { 'aria-selected': file === this.chosen ? 'true' : null },
+            element('td', { class: 'wide path' }, open, fault !== '' && element('span', { class: 'tag warn' }, seen(fault))),
+            element('td', { class: 'n', 'data-l': 'bytes' }, counted(size)), element('td', { class: 'n', 'data-l': 'block' }, block)));
+    }
+
+    /** @param {number} count how many files are listed */
+    drawPages(count) {
+        const { from } = this;
+        const turn = (/** @type {number} */ to) => {
+            this.from = to;
+            this.draw();
+            const body = this.part.parentElement;
+            if (body) body.scrollTop = 0;
+        };
+        const to = Math.min(from + ROWS, count);
+        const all = countOf(this.all.length, 'file');
+        const shown = count === this.all.length ? all : `${counted(count)} of ${all}`;
+        fill(this.pages, element('span', {}, count > ROWS ? `${counted(from + 1)}–${counted(to)} of ${shown}` : shown),
+            from > 0 && keyed('back', button('slim', () => turn(Math.max(from - ROWS, 0)), '◂ Previous')),
+            to < count && keyed('on', button('slim', () => turn(to), 'Next ▸')));
+    }
+
+    drawActions() {
+        const { chosen } = this;
+        if (chosen === null) return fill(this.actions, this.all.length > 0 && element('p', { class: 'small quiet' },
+            'Choose a file: its first sector opens, and here it can be saved or replaced.'));
+        return fill(this.actions, element('b', { class: 'mono' }, nameOf(chosen.path)),
+            keyed('extract', button('slim', () => this.extract(chosen), 'Extract…')),
+            keyed('replace', button('slim', () => this.input.click(), 'Replace…')));
+    }
+
+    /** @param {Listed} file */
+    choose(file) {
+        this.chosen = file;
+        fill(this.said);
+        this.draw();
+        this.app.goTo(file.block);
+    }
+
+    /**
+     * Does a job with the chosen file, with its bar, and says what came of it.
+     * @param {string} name of the job
+     * @param {string} unmade what is said if it fails
+     * @param {(image: Image, watch: { signal: AbortSignal, progress: (done: number, all: number) => void }) => Promise<Child>} job
+     */
+    work(name, unmade, job) {
+        const { app } = this;
+        const { image } = app;
+        if (image === null) return undefined;
+        return runAt(this.job, async () => {
+            try {
+                fill(this.said);
+                const said = await app.runOnImage((signal, cancel) => {
+                    const bar = jobBar(name, cancel);
+                    fill(this.job, ...bar.parts);
+                    return job(image, { signal, progress: bar.sectors });
+                });
+                if (app.image === image) fill(this.said, said);
+            } catch (error) {
+                if (app.image === image) fill(this.said, isCancelled(error) ? notice('plain', 'Cancelled.', unmade)
+                    : notice('bad', unmade, ...messageParts(error, [image.name])));
+            } finally {
+                fill(this.job);
+            }
+        });
+    }
+
+    /** @param {Listed} file */
+    extract(file) {
+        return this.work('Reading the file', 'No file was saved.', async ({ part }, watch) => {
+            /** @type {Blob[]} */
+            const pieces = [];
+            const { extents } = wholeFile(file.entries);
+            const others = await passFile(this.app.crew, part, extents, watch, bytes => void pieces.push(new Blob([bytes])));
+            const name = lastName(file.path);
+            downloadBytes(pieces, name);
+            const doubt = others.length > 0 && `${countOf(blocksIn(others), 'sector')} of it not Mode 1: other bytes may stand there.`;
+            return notice(doubt ? 'warn' : 'good', ['Saved: ', nameOf(name)], doubt);
+        });
+    }
+
+    /** @returns {Promise<void>} */
+    async replace() {
+        const fresh = (this.input.files || [])[0];
+        this.input.value = '';
+        const { chosen, app: { files } } = this;
+        if (!fresh || chosen === null || files === null) return;
+        await this.work('Making the lines', 'Nothing was added to the script.', async ({ part }, watch) => {
+            const file = { ...wholeFile(chosen.entries), names: files };
+            const made = await replaceFile(this.app.calls, this.app.crew, part, file, fileReader(fresh), watch);
+            if (made.script === null) throw new Fault(leftText(made.left, part.name, MOST_RUNS));
+            return this.added(made.script, chosen, fresh.size);
+        });
+    }
+
+    /**
+     * Adds the lines that replace a file.
+     * @param {Script} script
+     * @param {Listed} file
+     * @param {number} size the new one
+     */
+    added({ pieces, patches, long }, { path, size: before }, size) {
+        const { app } = this;
+        if (long) throw new Fault('The script would be longer than cdpatch takes. cdscript replace-file makes it.');
+        if (patches === 0) return notice('plain', 'Nothing was added to the script.', 'The new file has the same bytes.');
+        app.addLines(new TextDecoder().decode(joinedBytes(pieces.slice(1))).trimEnd().split('\n'));
+        announce(`${countOf(patches, 'line')} added to the script.`);
+        const length = size === before ? '' : ` had ${counted(before)} bytes, and gets ${counted(size)}.`;
+        return notice('good', `${countOf(patches, 'line')} added to the script.`, length && nameOf(path), length,
+            element('div', { class: 'row' }, button('slim', () => app.showPanel('script'), 'Open Script')));
+    }
+}

@@ -1,0 +1,56 @@
+// Lists of known dumps (DAT, Logiqx XML): one that is opened names the disc, as long as the page is open.
+
+import { KnownDumps } from '../../core/disc/dat.js';
+import { fileReader } from '../open/index.js';
+import { countOf, element, messageOf, nameOf, seen, showNotice } from '../ui/index.js';
+
+/** @typedef {import('../app/state.js').App} App */
+/** @typedef {import('../app/state.js').Image} Image */
+
+/** Bytes of a list that are read at a time. */
+const STEP = 1 << 20;
+
+/** @param {App} app */
+export function mountDumps(app) {
+    app.addTaker(file => takeList(app, file));
+}
+
+/** @param {File} file */
+async function* piecesOf(file) {
+    const reader = fileReader(file);
+    for (let at = 0; at < file.size; at += STEP) yield await reader.read(at, STEP);
+}
+
+/**
+ * Takes a list of known dumps, and says so. Returns whether the file is one, by its name and what it begins with.
+ * @param {App} app
+ * @param {File} file
+ */
+async function takeList(app, file) {
+    if (!/\.(dat|xml)$/i.test(file.name)) return false;
+    const start = new TextDecoder().decode(await fileReader(file).read(0, 64));
+    if (!/^\s*<[?!d]/.test(start)) return false;
+    try {
+        const known = new KnownDumps();
+        await known.add(piecesOf(file));
+        app.addDumps(known);
+        const next = app.image === null ? 'Open a disc image, to see whether it is one of them.' : 'The open image is looked up in it.';
+        showNotice('good', ['Loaded: ', nameOf(file.name)], `It lists ${countOf(known.dumps.size, 'known dump')}. ${next}`);
+    } catch (error) {
+        showNotice('bad', ['Not a list of known dumps that can be read: ', nameOf(file.name)], messageOf(error));
+    }
+    return true;
+}
+
+/**
+ * What the lists say of the open image, as soon as its SHA-1 is known; null if there is no list.
+ * @param {App} app
+ * @param {Image} image
+ */
+export function dumpWords({ dumps }, { reader, sha1 }) {
+    if (dumps.length === 0 || sha1 === '') return null;
+    const found = dumps.flatMap(known => known.find(reader.size, sha1) || []);
+    if (found.length === 0) return element('span', { class: 'tag warn' }, 'in none of the lists of known dumps');
+    const [{ name, isBad }] = found;
+    return element('span', { class: `tag ${isBad ? 'bad' : 'good'} dump` }, isBad ? 'known as a bad dump: ' : 'verified: ', seen(name));
+}

@@ -1,0 +1,236 @@
+// All texts of the disc as a table: it is saved for a translator, and from one with new texts lines of the script are made.
+
+import { Fault } from '../../core/faults.js';
+import { joinedBytes } from '../../core/bytes.js';
+import { fileOrder } from '../../core/iso/file_order.js';
+import { filesIfAny } from '../../core/iso/files.js';
+import { assertFits } from '../../core/script/fitting.js';
+import { stretchesOf, tableOfTexts } from '../../core/texts/all_texts.js';
+import { usualBytes } from '../../core/texts/encoding.js';
+import { SEARCHED, encodingOf } from '../../core/texts/encodings.js';
+import { encodingsOfRows, leftRowText, replaceList, rowsOfList } from '../../core/texts/list.js';
+import { fileReader } from '../open/index.js';
+import { downloadBytes } from '../save/index.js';
+import { announce, button, countOf, counted, element, fill, isCancelled, jobBar, messageParts, nameOf, notice } from '../ui/index.js';
+import { runAt, showFailure, tableCard, visible } from '../ui/index.js';
+import { AroundCard, readAround } from './around_card.js';
+import { chosenEncoding, tableSource } from './encodings.js';
+
+/** @typedef {import('../app/state.js').App} App */
+/** @typedef {import('../app/state.js').Image} Image */
+/** @typedef {import('../../core/disc/disc.js').DiscImage} DiscImage */
+/** @typedef {import('../../core/texts/list.js').LeftRow} LeftRow */
+/** @typedef {import('../../core/texts/list.js').ListRow} ListRow */
+/** @typedef {import('../ui/fill.js').Child} Child */
+
+/** Rows that do not fit which stand in the document. */
+const MOST_ROWS = 200;
+
+/**
+ * A track whose texts are read in the order of its files, and these.
+ * @param {DiscImage} part
+ */
+async function inFileOrder(part) {
+    const { files } = await filesIfAny(part);
+    return { part: { ...part, order: fileOrder(part, files) }, files };
+}
+
+/** The buttons, what they say, and the rows that do not fit. */
+export class TextsTable {
+    /** @param {App} app */
+    constructor(app) {
+        this.app = app;
+        this.around = new AroundCard(app);
+        /** @type {HTMLInputElement} */
+        this.input = element('input', { type: 'file', class: 'hide', tabindex: -1, accept: '.tsv,.csv,.txt',
+            'aria-label': 'A table to import', change: () => this.chosen() });
+        this.job = element('div', { class: 'stack' });
+        this.said = element('div', { role: 'status' });
+        this.left = element('div', { class: 'side' });
+        this.part = element('div', { class: 'stack tight' }, element('div', { class: 'row texts-table' },
+            element('span', { class: 'small quiet' }, 'All texts of the disc, as a table for a spreadsheet:'),
+            button('slim', () => void this.save(), 'Export texts…'), button('slim', () => this.input.click(), 'Import a table…')), this.job,
+        this.said, this.input);
+        this.results = element('div', { class: 'two even', hidden: true }, this.left, element('div', { class: 'side' }, this.around.card));
+        app.on('image', () => this.forget());
+        app.addTaker(file => this.isTable(file));
+    }
+
+    forget() {
+        fill(this.said);
+        fill(this.left);
+        this.results.hidden = this.around.card.hidden = true;
+    }
+
+    /**
+     * Does a job with the open image, with its bar, and says what came of it.
+     * @param {string} name of the job
+     * @param {string} noun what it counts
+     * @param {string} unmade what is said if it fails
+     * @param {(image: Image, bar: ReturnType<typeof jobBar>, signal: AbortSignal) => Promise<Child>} job
+     */
+    async work(name, noun, unmade, job) {
+        const { app } = this;
+        const { image } = app;
+        if (image === null) return void fill(this.said, notice('warn', 'No image is open.', 'Open the disc image first.'));
+        return runAt(this.job, async () => {
+            this.forget();
+            try {
+                const said = await app.runOnImage((signal, cancel) => {
+                    const bar = jobBar(name, cancel, { noun });
+                    fill(this.job, ...bar.parts);
+                    return job(image, bar, signal);
+                });
+                if (app.image === image) fill(this.said, said);
+            } catch (error) {
+                if (app.image === image) fill(this.said, isCancelled(error) ? notice('plain', 'Cancelled.', unmade)
+                    : notice('bad', unmade, ...messageParts(error, [image.name])));
+            } finally {
+                fill(this.job);
+            }
+        });
+    }
+
+    /** In which encoding texts are told: those that are usual, if none of them or none with characters is chosen. */
+    asked() {
+        const encoding = chosenEncoding(this.app);
+        const table = tableSource(encoding);
+        if (table !== undefined) return { table };
+        return SEARCHED.includes(encoding) || !encoding.hasCharacters ? {} : { encoding: encoding.name };
+    }
+
+    /** Saves the table that `cdscript texts` prints. */
+    save() {
+        return this.work('Looking for texts', '', 'No table was saved.', async (image, bar, signal) => {
+            const { part, files } = await inFileOrder(image.part);
+            const how = { asked: this.asked(), signal, progress: bar.sectors };
+            const pieces = [];
+            let texts = 0;
+            for await (const { text, count } of tableOfTexts(this.app.crew, part, stretchesOf(part, files), how)) {
+                pieces.push(text);
+                texts += count;
+            }
+            if (texts === 0) {
+                return notice('plain', 'No text was found.', 'Another encoding? A game may also have its own table, or packed texts.');
+            }
+            const name = `${image.name.replace(/\.[^.]*$/, '')} (texts).tsv`;
+            downloadBytes(pieces, name);
+            const next = 'Write the new ones in its column “new”, and import it.';
+            return notice('good', ['Saved: ', nameOf(name)], `It has ${countOf(texts, 'text')}. ${next}`);
+        });
+    }
+
+    chosen() {
+        const file = (this.input.files || [])[0];
+        this.input.value = '';
+        if (file) void this.take(file);
+    }
+
+    /** @param {File} file that is opened */
+    async isTable(file) {
+        if (!/\.[tc]sv$/i.test(file.name)) return false;
+        this.app.showPanel('text');
+        await this.take(file);
+        return true;
+    }
+
+    /**
+     * Makes lines of a table in a file, and shows the rows that do not fit.
+     * @param {File} file
+     */
+    take(file) {
+        const { app } = this;
+        return this.work('Making the lines', 'rows', 'Nothing was added to the script.', async (image, bar, signal) => {
+            const rows = await rowsOfList(fileReader(file), file.name);
+            const { part } = await inFileOrder(image.part);
+            const encoding = chosenEncoding(app);
+            const isTable = app.tables.has(app.encoding);
+            const given = isTable ? [encoding] : [...new Set([...encoding.hasCharacters ? [encoding] : [], ...SEARCHED])];
+            const watch = { signal, progress: bar.things };
+            const { parts, left } = await replaceList(app.calls, part, rows, encodingsOfRows(given, isTable), null, watch);
+            const script = parts.script(app.calls);
+            if (script.patches > 0) await assertFits(app.calls, image, script);
+            if (script.long) throw new Fault('The script would be longer than cdpatch takes. cdscript replace --list makes it.');
+            if (app.image !== image) return null;
+            if (script.patches > 0) {
+                app.addLines(new TextDecoder().decode(joinedBytes(script.pieces.slice(1))).trimEnd().split('\n'));
+            }
+            this.showLeft(image, rows, left);
+            return this.madeNotice(rows.length - left.length, left.length, script.patches);
+        });
+    }
+
+    /**
+     * @param {number} fit
+     * @param {number} left
+     * @param {number} lines
+     */
+    madeNotice(fit, left, lines) {
+        const added = lines === 0 ? 'Nothing was added to the script.' : `${countOf(lines, 'line')} added to the script.`;
+        const rows = left === 0 ? `${fit === 1 ? 'The new text fits' : `All ${counted(fit)} new texts fit`}.`
+            : `${countOf(fit, 'new text')} ${fit === 1 ? 'fits' : 'fit'}, ${counted(left)} ${left === 1 ? 'does' : 'do'} not.`;
+        announce(`${added} ${rows}`);
+        return notice(left === 0 ? 'good' : 'warn', added, rows, lines > 0 && element('div', { class: 'row' },
+            button('slim', () => this.app.showPanel('script'), 'Open Script')));
+    }
+
+    /**
+     * Shows the rows that do not fit, each with its place.
+     * @param {Image} image
+     * @param {ListRow[]} rows
+     * @param {LeftRow[]} left
+     */
+    showLeft(image, rows, left) {
+        this.results.hidden = left.length === 0;
+        if (left.length === 0) return;
+        const byNumber = new Map(rows.map(row => [row.number, row]));
+        const names = ['Row', 'Block, offset', 'Text', 'Why it does not fit'];
+        const head = element('tr', {}, ...names.map(name => element('th', { scope: 'col' }, name)));
+        const shown = left.slice(0, MOST_ROWS).map(it => this.leftRow(image, /** @type {ListRow} */ (byNumber.get(it.number)), it.why));
+        const more = left.length > MOST_ROWS ? `and ${counted(left.length - MOST_ROWS)} more, which Copy has too. ` : '';
+        fill(this.left, tableCard(`${countOf(left.length, 'row')} ${left.length === 1 ? 'does' : 'do'} not fit`, head, shown,
+            left.map(it => `${leftRowText(it)}\n`).join(''),
+            `${more}Press a row to see the bytes at its place. Correct it in the table, and import that again.`));
+    }
+
+    /**
+     * @param {Image} image
+     * @param {ListRow} row
+     * @param {string} why
+     */
+    leftRow(image, row, why) {
+        const { number, block, offset, text, fresh } = row;
+        const open = element('button', { type: 'button', class: 'fold', click: () => void this.showPlace(image, row) }, number);
+        const place = element('td', { class: 'nowrap', 'data-l': 'at' }, block < 0 ? '–' : `${block}, ${offset}`);
+        return element('tr', {}, element('td', {}, open), place, element('td', { class: 'mono small wide' }, visible(text), ' → ',
+            visible(fresh)), element('td', { class: 'wide' }, visible(why)));
+    }
+
+    /**
+     * How many bytes the old text of a row would have, 1 if it has none.
+     * @param {ListRow} row
+     */
+    sizeOf({ encoding, text }) {
+        try {
+            return Math.max(usualBytes((encodingOf(encoding) || chosenEncoding(this.app)).units(text)).length, 1);
+        } catch {
+            return 1;
+        }
+    }
+
+    /**
+     * @param {Image} image
+     * @param {ListRow} row
+     */
+    async showPlace(image, row) {
+        const { block, offset } = row;
+        this.around.card.hidden = true;
+        if (block < image.base || block >= image.base + image.sectors || offset < 0) return;
+        try {
+            const hit = { block, offset, size: this.sizeOf(row) };
+            this.around.show(hit, await readAround(image, hit));
+        } catch (error) {
+            showFailure(error);
+        }
+    }
+}
