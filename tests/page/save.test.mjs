@@ -95,7 +95,24 @@ test('bytes of a region stay while they are written', async () => {
     };
     const parts = Array.from({ length: 34 }, (_, i) => ({ at: i * MiB, bytes: new Uint8Array(MiB).fill(i + 1) }));
     await saved(sink, {}, longReader, parts);
-    assert.deepEqual([...await writtenBy(sink.written)].filter((_, i) => i % MiB === 7), parts.map((_, i) => i + 1));
+    const written = await writtenBy(sink.written);
+    assert.deepEqual(parts.map(({ at }) => written[at + 7]), parts.map((_, i) => i + 1));
+});
+
+test('slices of a region that are far apart are read each, and near ones together', async () => {
+    const lengths = async sizes => {
+        const [reads, parts] = [[], []];
+        let at = 0;
+        for (const [i, size] of sizes.entries()) {
+            parts.push(i % 2 ? { at, bytes: new Uint8Array(size) } : { from: at, to: at + size });
+            at += size;
+        }
+        const source = { size: at, read: async (_, length) => { reads.push(length); return new Uint8Array(length); } };
+        await saved(sinkOf(), {}, source, parts);
+        return reads;
+    };
+    assert.deepEqual(await lengths([1000, MiB, 2000]), [1000, 2000]);
+    assert.deepEqual(await lengths([1000, 2352, 2000, 2352, 3000]), [10704]);
 });
 
 test('the next region is made while one is written', async () => {
