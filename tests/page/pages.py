@@ -50,13 +50,27 @@ globalThis.showSaveFilePicker = async ({ suggestedName }) => {
 '''
 
 # Reads wait until the gate is opened: so many, of so many bytes at least.
-GATE = '''const { arrayBuffer } = Blob.prototype;
+GATE = '''const { arrayBuffer, stream } = Blob.prototype;
 const gate = new Promise(done => { globalThis.openGate = done; });
 Object.assign(globalThis, { held: Infinity, least: 0, reads: 0 });
+async function passed(size) {
+    globalThis.reads += Number(size >= globalThis.least);
+    if (size >= globalThis.least && globalThis.reads <= globalThis.held) await gate;
+}
 Blob.prototype.arrayBuffer = async function () {
-    globalThis.reads += Number(this.size >= globalThis.least);
-    if (this.size >= globalThis.least && globalThis.reads <= globalThis.held) await gate;
+    await passed(this.size);
     return arrayBuffer.call(this);
+};
+Blob.prototype.stream = function () {
+    const [{ size }, made] = [this, stream.call(this)];
+    const { getReader } = made;
+    made.getReader = (...how) => {
+        const reader = getReader.apply(made, how);
+        const { read } = reader;
+        reader.read = (...views) => passed(size).then(() => read.apply(reader, views));
+        return reader;
+    };
+    return made;
 };'''
 
 # How far the first such element is out of the window, in pixels.

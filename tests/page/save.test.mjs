@@ -25,12 +25,15 @@ const DONE = [16 * MiB, 32 * MiB, 34 * MiB];
 const patched = Buffer.from(await long.arrayBuffer());
 for (const { at, bytes } of [first, near, apart, last]) patched.set(bytes, at);
 
+/** What is written, as it is then: its bytes may be others after that. */
+const kept = write => ({ ...write, data: write.data.slice() });
+
 /** A file that fails at a write (from 0), at the end (`close`), or not. */
 function sinkOf(failing) {
     const sink = { written: [], state: 'open', writes: 0 };
     sink.write = async write => {
         if (sink.writes++ === failing) throw Object.assign(new Error('no room'), { name: 'QuotaExceededError' });
-        sink.written.push(write);
+        sink.written.push(kept(write));
     };
     sink.close = async () => {
         if (failing === 'close') throw new Error('not closed');
@@ -66,9 +69,9 @@ test('a region goes out by one write, of parts of the file and what is patched b
     const slices = t.mock.method(long, 'slice');
     assert.deepEqual(await saved(sink), DONE);
     assert.deepEqual(sink.written.map(({ data }) => data.size ?? `${data.length} bytes`), [16 * MiB, 16 * MiB, `${2 * MiB} bytes`]);
-    const joined = [first.at, near.at + 9];
-    const parts = [0, 16 * MiB, 16 * MiB, joined[0], joined[1], apart.at, apart.at + 3, 32 * MiB];
-    const read = [...joined, 32 * MiB, 34 * MiB];
+    const parts = [0, 16 * MiB, 16 * MiB, first.at, near.at + 9, apart.at, apart.at + 3, 32 * MiB];
+    const read = [first.at + 7, near.at, 32 * MiB, last.at];
+    // `kept` makes one slice more of each write.
     assert.deepEqual(slices.mock.calls.flatMap(({ arguments: its }) => its).sort((a, b) => a - b), [...parts, ...read].sort((a, b) => a - b));
     assert.ok(patched.equals(await writtenBy(sink.written)));
     assert.equal(sink.state, 'closed');
@@ -80,6 +83,36 @@ test('bytes that pieces have are not read again', async () => {
     const parts = [0, 10, 20, 30, 40].map(at => ({ at, bytes: wanted.slice(at, at + 10) }));
     await saved(sink, {}, unread, parts);
     assert.deepEqual([...await writtenBy(sink.written)], [...wanted]);
+});
+
+test('bytes of a region stay while they are written', async () => {
+    const sink = sinkOf();
+    const write = sink.write;
+    let last = Promise.resolve();
+    sink.write = it => {
+        last = new Promise(done => { setTimeout(done, 20); }).then(() => write(it));
+        return last;
+    };
+    const parts = Array.from({ length: 34 }, (_, i) => ({ at: i * MiB, bytes: new Uint8Array(MiB).fill(i + 1) }));
+    await saved(sink, {}, longReader, parts);
+    const written = await writtenBy(sink.written);
+    assert.deepEqual(parts.map(({ at }) => written[at + 7]), parts.map((_, i) => i + 1));
+});
+
+test('slices of a region that are far apart are read each, and near ones together', async () => {
+    const lengths = async sizes => {
+        const [reads, parts] = [[], []];
+        let at = 0;
+        for (const [i, size] of sizes.entries()) {
+            parts.push(i % 2 ? { at, bytes: new Uint8Array(size) } : { from: at, to: at + size });
+            at += size;
+        }
+        const source = { size: at, read: async (_, length) => { reads.push(length); return new Uint8Array(length); } };
+        await saved(sinkOf(), {}, source, parts);
+        return reads;
+    };
+    assert.deepEqual(await lengths([1000, MiB, 2000]), [1000, 2000]);
+    assert.deepEqual(await lengths([1000, 2352, 2000, 2352, 3000]), [10704]);
 });
 
 test('the next region is made while one is written', async () => {
@@ -143,7 +176,7 @@ test('a file that shrinks aborts the sink', async () => {
 
 test('who looks on sees all bytes that are written', async () => {
     const seen = [];
-    await saved(sinkOf(), { seen: async bytes => { seen.push(bytes); } });
+    await saved(sinkOf(), { seen: async bytes => { seen.push(bytes.slice()); } });
     assert.ok(patched.equals(Buffer.concat(seen)));
 });
 

@@ -191,6 +191,20 @@ class Kept(PageTest):
         self.ends_well(made)
         self.browser.wait('#saved', 'Saved:')
 
+    def test_one_comes_back_from_the_player_to_a_save_that_runs(self) -> None:
+        files = self.patches()
+        made = applied(files['game'], files['english'])[2]
+        self.browser.click('#tab-publish')
+        self.browser.type('#patcher-title', 'Mine')
+        common.waited(lambda: not self.is_off('See it as a player'), 'nothing can be shown')
+        self.press('See it as a player')
+        self.browser.wait('#player h1', 'Mine')
+        self.press('Back to Publish')
+        self.browser.wait('#patcher-title')
+        self.browser.click('#tab-script')
+        self.browser.wait('#panel-script .job-end button', 'Cancel')
+        self.ends_well(made)
+
     def test_a_script_that_was_only_shown_to_players_is_in_no_file(self) -> None:
         self.open_image(discs.written(game=discs.game())['game'])
         self.browser.click('#tab-script')

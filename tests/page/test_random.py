@@ -229,7 +229,8 @@ class Random(PageTest):
 
     def back_to_check(self) -> None:
         """Closes what is said of the last save."""
-        self.browser.run('[...document.querySelectorAll("#panel-script button.back")].forEach(it => it.click())')
+        self.browser.run('''[...document.querySelectorAll("#panel-script .side button")].forEach(it => {
+            if (it.innerText.startsWith("Back")) it.click() })''')
 
     # ---- saving
 
@@ -251,7 +252,7 @@ class Random(PageTest):
 
     def save_repaired(self) -> None:
         due = random_model.repaired(self.images[self.model.image], self.images[self.model.second])
-        if due is None:
+        if due is None or self.model.saving and self.model.saving.card == 'script':
             return
         if self.model.saving is None:
             self.hold()

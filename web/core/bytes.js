@@ -4,9 +4,10 @@ import { FAULT, Fault, newBytes } from './faults.js';
 
 /**
  * What an image is read by: bytes from a place on, as many as were asked for or fewer, but none only if the image ends there. They may
- * be put into `room`, which then belongs to who reads. `lent` is what a worker of this door reads bytes by, as it can be posted.
+ * be put into `room`, which then belongs to who reads. `lent` is what a worker of this door reads bytes by, as it can be posted; `forward`
+ * gives a reader of the same bytes that takes less work if one alone reads with it, forward.
  * @typedef {{ size: number, read(at: number, length: number, room?: Uint8Array): Promise<Uint8Array>,
- *     lent?(at: number, length: number): unknown }} Reader
+ *     lent?(at: number, length: number): unknown, forward?(): Reader }} Reader
  */
 
 /**
@@ -16,6 +17,14 @@ import { FAULT, Fault, newBytes } from './faults.js';
 
 /** Bytes of a slice that are read at a time. */
 export const READ_SIZE = 1 << 22;
+
+/**
+ * A reader of the same bytes for one who reads them forward.
+ * @param {Reader} reader
+ */
+export function forwardOf(reader) {
+    return reader.forward ? reader.forward() : reader;
+}
 
 /**
  * Reads bytes, by more reads if the first are short. Throws a Fault, IMAGE_ENDED, if the image ends before.
@@ -34,6 +43,17 @@ export async function readBytes(reader, at, length, room) {
         done += part.length;
     }
     return parts.length === 1 ? parts[0] : joinedBytes(parts);
+}
+
+/**
+ * Fills room with bytes. Throws as readBytes does.
+ * @param {Reader} reader
+ * @param {number} at
+ * @param {Uint8Array} room
+ */
+export async function readInto(reader, at, room) {
+    const bytes = await readBytes(reader, at, room.length, room);
+    if (bytes.buffer !== room.buffer) room.set(bytes);
 }
 
 /**

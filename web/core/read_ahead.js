@@ -1,6 +1,6 @@
 // Reads of an image that are near one another, made as one.
 
-import { READ_SIZE, readBytes } from './bytes.js';
+import { READ_SIZE, forwardOf, readBytes, readInto } from './bytes.js';
 import { newBytes } from './faults.js';
 
 /** @typedef {import('./bytes.js').Reader} Reader */
@@ -12,7 +12,7 @@ const LEAST = 1 << 15;
 export class ReadAhead {
     /** @param {Reader} reader of the image, which is read forward */
     constructor(reader) {
-        this.reader = reader;
+        this.reader = forwardOf(reader);
         this.at = 0;
         this.bytes = new Uint8Array(0);
         this.room = new Uint8Array(0);
@@ -39,17 +39,47 @@ export class ReadAhead {
     }
 
     /**
-     * Reads bytes, and more after them.
+     * Bytes of the image that begin in what was read last, or where that ends: what is missing of them is read. Null if they begin
+     * elsewhere.
+     * @param {number} at
+     * @param {number} size
+     */
+    async bytesOn(at, size) {
+        const isOn = this.bytes.length > 0 && at >= this.at && at <= this.at + this.bytes.length;
+        return isOn ? this.bytesAt(at, size) : null;
+    }
+
+    /**
+     * Reads bytes, and more after them. What of them is here is not read again.
      * @param {number} at
      * @param {number} size
      */
     async read(at, size) {
-        const gap = at - this.at - this.bytes.length;
-        this.wanted = gap < this.wanted ? Math.min(2 * this.wanted, READ_SIZE) : LEAST;
-        const length = Math.min(Math.max(size, this.wanted), this.reader.size - at);
-        if (this.room.length < length) this.room = newBytes(length);
-        this.bytes = await readBytes(this.reader, at, length, this.room.subarray(0, length));
+        const end = this.at + this.bytes.length;
+        const kept = this.bytes.subarray(at < this.at ? this.bytes.length : at - this.at);
+        const from = at + kept.length;
+        this.wanted = from - end < this.wanted ? Math.min(2 * this.wanted, READ_SIZE) : LEAST;
+        const length = Math.min(Math.max(size - kept.length, this.wanted), this.reader.size - from);
+        const room = this.roomAfter(kept, length);
+        if (kept.length === 0) this.bytes = await readBytes(this.reader, from, length, room);
+        else {
+            await readInto(this.reader, from, room);
+            this.bytes = this.room.subarray(0, kept.length + length);
+        }
         this.at = at;
         return this.bytes.subarray(0, size);
+    }
+
+    /**
+     * Room for bytes after others, which are moved to its front.
+     * @param {Uint8Array} kept
+     * @param {number} length
+     */
+    roomAfter(kept, length) {
+        const size = kept.length + length;
+        const room = this.room.length < size ? newBytes(size) : this.room;
+        room.set(kept);
+        this.room = room;
+        return room.subarray(kept.length, size);
     }
 }

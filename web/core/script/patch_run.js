@@ -95,7 +95,8 @@ export async function runScript(calls, reader, script, { base, carry = false, wi
                 if (out !== null) await out.end();
                 return status;
             } else if (out !== null) {
-                const bytes = kind === STEP.WRITE ? calls.runBytes(run, step) : size <= near ? ahead.here(at, size) : null;
+                const bytes = kind === STEP.WRITE ? calls.runBytes(run, step) :
+                    size <= near ? ahead.here(at, size) || await ahead.bytesOn(at, size) : null;
                 await (bytes === null ? out.keep(size) : out.put(bytes));
             }
         }

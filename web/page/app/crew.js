@@ -1,6 +1,6 @@
 // The workers of the page. Each is started when it is first given something to do.
 
-import { readBytes } from '../../core/bytes.js';
+import { forwardOf, readBytes } from '../../core/bytes.js';
 import { Fault, cancelled } from '../../core/faults.js';
 import { Crew } from '../../core/jobs.js';
 import { hexOf } from '../ui/index.js';
@@ -209,9 +209,10 @@ export class RunningHash {
  */
 export async function sha1Of(parts, reader, signal, progress, seen = async () => {}) {
     const hash = new RunningHash(parts, 'sha1');
+    const ahead = forwardOf(reader);
     try {
         for (let at = 0; at < reader.size; at += HASH_STEP) {
-            const bytes = await readBytes(reader, at, Math.min(HASH_STEP, reader.size - at));
+            const bytes = await readBytes(ahead, at, Math.min(HASH_STEP, reader.size - at));
             const size = bytes.length;
             if (signal.aborted) throw cancelled();
             await seen(bytes);

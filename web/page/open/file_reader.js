@@ -2,6 +2,7 @@
 
 import { Fault } from '../../core/faults.js';
 import { shownName } from '../ui/index.js';
+import { ForwardFile } from './file_stream.js';
 
 /** @typedef {import('../../core/bytes.js').Reader} Reader */
 
@@ -19,17 +20,29 @@ function fileGone(name) {
  * @returns {Reader & { file: File }}
  */
 export function fileReader(file) {
-    return {
-        file,
-        size: file.size,
-        lent: (from, size) => ({ file, from, size }),
-        async read(at, length) {
-            try {
-                return new Uint8Array(await file.slice(at, at + length).arrayBuffer());
-            } catch {
-                throw fileGone(file.name);
-            }
-        },
+    const { size } = file;
+    const read = async (/** @type {number} */ at, /** @type {number} */ length) => {
+        return new Uint8Array(await file.slice(at, at + length).arrayBuffer());
+    };
+    return { file, size, lent: (at, length) => ({ file, from: at, size: length }), read: readingOf(file, read), forward() {
+        const own = new ForwardFile(file, read);
+        return { size, read: readingOf(file, (at, length, room) => own.read(at, length, room)) };
+    } };
+}
+
+/**
+ * The same reading, whose failure says that the file is gone.
+ * @param {File} file
+ * @param {Reader['read']} read
+ * @returns {Reader['read']}
+ */
+function readingOf(file, read) {
+    return async (at, length, room) => {
+        try {
+            return await read(at, length, room);
+        } catch {
+            throw fileGone(file.name);
+        }
     };
 }
 

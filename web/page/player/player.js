@@ -38,6 +38,7 @@ export class Player {
         this.files = /** @type {File[]} */ ([]);
         this.sheet = '';
         this.leaving = false;
+        this.saving = false;
         this.number = 0;
         /** The block of the image's first sector, as far as it is known. */
         this.base = /** @type {number | null} */ (null);
@@ -212,7 +213,7 @@ export class Player {
             const saved = await app.runSave((signal, cancel) => {
                 const bar = jobBar('Saving', cancel, { saves: true });
                 this.show(first, this.step('2', 'now', ['Saving ', nameOf(data.name)], ...bar.parts));
-                this.leaving = true;
+                this.leaving = this.saving = true;
                 this.stop = cancel;
                 const wanted = verdict === 'right' ? data.result : '';
                 return saveWork(app, { ...work, opened: this.files }, data.name, wanted, { signal, progress: bar.at });
@@ -226,6 +227,8 @@ export class Player {
             clearNotices();
             this.leaving = false;
             return this.show(first, this.again(image, { work, verdict }, first, failureOfSaving(error, work.reader.size)));
+        } finally {
+            this.saving = false;
         }
     }
 

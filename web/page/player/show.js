@@ -24,7 +24,8 @@ export function showPlayer(app, data, how) {
     const giveBack = app.serve({ open: files => player.open(files), dropSays });
     const refused = said();
     const leave = async (/** @type {boolean} */ full) => {
-        if (refuseWhileSaving(app, [], refused)) return undefined;
+        // A save of the panels goes on meanwhile, and can be cancelled only there.
+        if ((full || player.saving) && refuseWhileSaving(app, [], refused)) return undefined;
         player.stop();
         giveBack();
         document.body.classList.remove('player');

@@ -1,5 +1,6 @@
 // What is done with a script and an image: checking, and saving the patched image.
 
+import { forwardOf } from '../../core/bytes.js';
 import { Fault, cancelled } from '../../core/faults.js';
 import { MOST_SCRIPT_BYTES } from '../../core/module/records.js';
 import { baseFault } from '../../core/script/base_said.js';
@@ -58,14 +59,15 @@ export function assertNotTooLong({ size }) {
  * @param {PatchWatch} watch
  * @returns {Reader}
  */
-export function watched(reader, { signal, progress }) {
+export function watched(reader, watch) {
     return {
         size: reader.size,
-        async read(at, length) {
-            if (signal.aborted) throw cancelled();
-            progress(at, reader.size);
-            return reader.read(at, length);
+        async read(at, length, room) {
+            if (watch.signal.aborted) throw cancelled();
+            watch.progress(at, reader.size);
+            return reader.read(at, length, room);
         },
+        forward: () => watched(forwardOf(reader), watch),
     };
 }
 
@@ -136,7 +138,7 @@ async function streamWork(app, { reader, base, carry, script, opened = [] }, nam
  */
 function comparing(hash, wanted) {
     return {
-        seen: (/** @type {Uint8Array} */ bytes) => hash.add(bytes),
+        seen: (/** @type {Uint8Array} */ bytes) => hash.add(bytes.slice()),
         async accept() {
             if (await hash.end() !== wanted) throw wrongResult();
         },

@@ -1,6 +1,6 @@
 // An image that is only in pieces yet, read as if it were a file.
 
-import { extentOf, readBytes } from '../../core/bytes.js';
+import { extentOf, forwardOf, readBytes } from '../../core/bytes.js';
 
 /** @typedef {import('../../core/bytes.js').Reader} Reader */
 /** @typedef {import('../../core/bytes.js').Piece} Piece */
@@ -33,6 +33,7 @@ export function pieceReader(reader, pieces) {
             }
             return bytes;
         },
+        forward: () => pieceReader(forwardOf(reader), pieces),
     };
 }
 

@@ -1,18 +1,19 @@
 // Saving: a patched image as a stream to a file, or as a Blob of slices of the old file with the patched sectors between them.
 
-import { readBytes } from '../../core/bytes.js';
+import { forwardOf, readBytes } from '../../core/bytes.js';
 import { FAULT, Fault, cancelled } from '../../core/faults.js';
+import { fileOf } from '../open/index.js';
 import { RegionCutter, bytesOfRegion, dataOfRegion } from './regions.js';
 
 /** @typedef {import('../../core/bytes.js').Reader} Reader */
 /** @typedef {import('../../core/bytes.js').Piece} Piece */
 /** @typedef {import('./regions.js').Region} Region */
 /** @typedef {import('./regions.js').Write} Write */
-/** What a file is written by: FileSystemWritableFileStream, or a test's own. */
+/** What a file is written by: FileSystemWritableFileStream, or a test's own. Bytes may be others after they are written. */
 /** @typedef {{ write(write: Write): Promise<void>, close(): Promise<void>, abort(): Promise<void> }} Sink */
 /**
- * Who is told how many bytes are written, and what ends the saving. `seen` is given all bytes that are written, in turn, and `accept`
- * throws if they are not to be kept.
+ * Who is told how many bytes are written, and what ends the saving. `seen` is given all bytes that are written, in turn, which may be
+ * others after that, and `accept` throws if they are not to be kept.
  * @typedef {{ signal: { aborted: boolean }, progress: (done: number) => void, seen?: (bytes: Uint8Array) => Promise<void>,
  *     accept?: () => Promise<void> }} Watch
  */
@@ -38,6 +39,7 @@ class SinkWriter {
     constructor(sink, reader, watch) {
         this.sink = sink;
         this.reader = reader;
+        this.ahead = forwardOf(reader);
         this.watch = watch;
         this.done = 0;
         /** @type {Promise<unknown>} what is being written: null, or why it failed */
@@ -46,11 +48,11 @@ class SinkWriter {
 
     /** @param {Region} region */
     async push(region) {
-        const data = await dataOfRegion(this.reader, region);
+        const data = await dataOfRegion(fileOf(this.reader), this.ahead, region);
         await this.settle();
         if (this.watch.signal.aborted) throw cancelled();
         this.writing = this.write({ type: 'write', position: region.at, data }, region.size).then(() => null, error => error);
-        if (this.watch.seen) await this.watch.seen(await bytesOfRegion(this.reader, region));
+        if (this.watch.seen) await this.watch.seen(data instanceof Blob ? await bytesOfRegion(this.ahead, region) : data);
     }
 
     /**
