@@ -27,6 +27,11 @@ test('a cell in quotes may have line ends, what stands between cells, and quotes
     assert.deepEqual([...rowsOf('a,b\n"1\n2",3\n4,5\n')].map(row => row.number), [1, 2, 3]);
 });
 
+test('empty rows are counted and passed over', () => {
+    assert.deepEqual([...rowsOf('\n\r\na,b\n\n\r\r\n1,\n\n')], [{ number: 3, cells: ['a', 'b'] }, { number: 7, cells: ['1', ''] }]);
+    assert.deepEqual([...rowsOf(`a\tb\n${'\n'.repeat(1 << 20)}1\t2`)].map(row => row.number), [1, 2 + (1 << 20)]);
+});
+
 test('hostile tables take no longer than others', () => {
     const began = Date.now();
     const long = 'x'.repeat(1 << 24);

@@ -117,13 +117,13 @@ test('what is lent stays as it is until it is given back, and is used again', ()
     own.giveBack(second);
     assert.equal(own.lend(1), first);
     const script = new TextEncoder().encode(`cdpatch 1\n#${'x'.repeat(1e6)}\n`);
-    own.runEnd(own.runBegin(script, 0, 0, 0));
+    own.runEnd(own.runBegin([script], 0, 0, 0));
     const grown = own.memory.length;
-    for (let i = 0; i < 20; i++) own.runEnd(own.runBegin(script, 0, 0, 0));
+    for (let i = 0; i < 20; i++) own.runEnd(own.runBegin([script], 0, 0, 0));
     assert.equal(own.memory.length, grown);
-    for (const base of [449850, -1, 2 ** 32]) assert.throws(() => own.runBegin(script, base, 0, 0), RangeError);
-    assert.throws(() => own.runBegin(script, 0, 0, 8), RangeError);
-    own.runEnd(own.runBegin(script, 449849, 0, 7));
+    for (const base of [449850, -1, 2 ** 32]) assert.throws(() => own.runBegin([script], base, 0, 0), RangeError);
+    assert.throws(() => own.runBegin([script], 0, 0, 8), RangeError);
+    own.runEnd(own.runBegin([script], 449849, 0, 7));
     assert.equal(own.memory.length, grown);
 });
 

@@ -243,6 +243,25 @@ test('lines of sectors that differ in every other byte are tried a few sectors a
     assert.deepEqual(left, []);
 });
 
+test('sectors that lines for what differs make right are not surveyed', () => {
+    const dice = diceOf(14);
+    const old = soundImage(dice, 300, BASE);
+    const fresh = changedImage(dice, old, ['bytes', 'whole', 'address'], 1);
+    const counted = image => {
+        const asked = { survey: 0, runBegin: 0 };
+        const counting = Object.assign(Object.create(calls), Object.fromEntries(Object.keys(asked).map(name =>
+            [name, (...given) => { asked[name] += 1; return calls[name](...given); }])));
+        return { ...diffRange(counting, image, fresh, BASE), asked };
+    };
+    const { left, asked } = counted(old);
+    assert.deepEqual([left, asked], [[], { survey: 0, runBegin: 2 }]);
+    const hurt = old.slice();
+    hurt[280 * RAW + 2100] ^= 1;
+    const { patches, asked: more } = counted(hurt);
+    assert.deepEqual(more, { survey: 2, runBegin: 3 });
+    assert.ok(patches > 300);
+});
+
 test('lines that the module does not take, or that give other sectors, are not given out', async () => {
     const dice = diceOf(13);
     const old = soundImage(dice, 6, BASE);

@@ -43,7 +43,7 @@ test('a long script is the same if what is cut at a time ends at any byte of it'
     for (const script of [SCRIPTS[0], SCRIPTS[3], SCRIPTS[6]].map(encoded)) {
         const due = await read([encoded('#\n'), script], true);
         for (let at = 0; at <= script.length; at++) {
-            const before = encoded(`#${'x'.repeat((1 << 20) - at - 2)}\n`);
+            const before = encoded(`#${'x'.repeat((1 << 19) - at - 2)}\n`);
             assert.deepEqual(await read([Buffer.concat([before, script])], true), due, `at ${at}`);
         }
     }
@@ -103,6 +103,23 @@ test('patches of equal blocks of a long script stay in the order of their lines'
         const [a, b] = [patches[i - 1], patches[i]];
         assert.ok(a.block < b.block || (a.block === b.block && a.number < b.number), `patch ${i}`);
     }
+});
+
+test('of a long script only the lines that say something are read by a call each', async () => {
+    const empty = '\n'.repeat(3 << 20);
+    for (const [text, due, most] of [[`cdpatch 1\n${empty}`, [], 100], [`${empty}cdpatch 1\n#\nrebuild 3${empty}`, [(3 << 20) + 3], (1 << 20) + 100],
+        [`cdpatch 1\nset 9 0 00\n${empty}#\r\nrebuild 3\n${empty}rebuild 2`, [(6 << 20) + 5, (3 << 20) + 4, 2], 100]]) {
+        const counting = newCalls();
+        let count = 0;
+        for (const name of ['firstLine', 'readLine', 'runBegin']) {
+            const call = counting[name].bind(counting);
+            counting[name] = (...given) => { count += 1; return call(...given); };
+        }
+        const lines = readLines(counting, encoded(text));
+        assert.deepEqual(lines.patches.map(({ number }) => number), due);
+        assert.ok(count < most, `${count} calls`);
+    }
+    assert.equal(decoded(readLines(calls, encoded(`${empty}\nx`))), `script line ${(3 << 20) + 2}: no cdpatch 1 line\n`);
 });
 
 test('lines longer than what is cut at a time', async () => {

@@ -6,9 +6,11 @@ import { MOST_PATCHES, SECTORS_IN_HAND, STEP, VERB } from './records.js';
 import { SectorCalls } from './sector_calls.js';
 
 /**
- * A run, and the memory that is lent to it: where that begins, where its hand and its step do, and what the two calls are given.
- * @typedef {{ at: number, hand: number, step: number, script: bigint[], entries: bigint[], rooms: bigint[] }} Run
+ * A run, and the memory that is lent to it: where that begins, where its hand and its step do, and what the two calls are given; and
+ * how many patches its script has.
+ * @typedef {{ at: number, hand: number, step: number, script: bigint[], entries: bigint[], rooms: bigint[], patches: number }} Run
  */
+/** @typedef {{ number: number, start: number, size: number }} LinePlace a line's number, and where in the script its bytes stand */
 /**
  * Where a patch writes: its VERB; the block and the user byte at which it begins; how many user bytes it writes, 0 if none; and how many
  * old bytes it names, null if none.
@@ -98,27 +100,46 @@ export class Calls extends SectorCalls {
 
     /**
      * Begins a run of a script, to which memory is lent until `runEnd`.
-     * @param {Uint8Array} script
+     * @param {Uint8Array[]} script in pieces
      * @param {number} base
      * @param {number | null} imageSize null if it is not known
      * @param {number} flags
      * @returns {Run}
      */
     runBegin(script, base, imageSize, flags) {
-        const room = Math.min(script.length, MOST_PATCHES);
+        const length = script.reduce((sum, piece) => sum + piece.length, 0);
+        const room = Math.min(length, MOST_PATCHES);
         const [RUN, STEP_SIZE, ROOMS, ENTRY] = [RUN_STRUCT, STEP_STRUCT, ROOMS_STRUCT, ENTRY_STRUCT].map(struct => struct.BYTES);
-        const sizes = [RUN, STEP_SIZE, ROOMS, SECTORS_IN_HAND * SECTOR_SIZE, room * ENTRY, script.length];
+        const sizes = [RUN, STEP_SIZE, ROOMS, SECTORS_IN_HAND * SECTOR_SIZE, room * ENTRY, length];
         const at = this.lend(sizes.reduce((sum, size) => sum + size, 0));
         let end = at;
         const [run, step, rooms, hand, entries, text] = sizes.map(size => (end += size) - size);
-        this.memory.set(script, text);
-        const made = { at, hand, step, script: [text, script.length].map(BigInt), entries: [entries, room].map(BigInt),
-            rooms: [hand, SECTORS_IN_HAND, rooms, step].map(BigInt) };
+        let filled = text;
+        for (const piece of script) {
+            this.memory.set(piece, filled);
+            filled += piece.length;
+        }
+        const made = { at, hand, step, script: [text, length].map(BigInt), entries: [entries, room].map(BigInt),
+            rooms: [hand, SECTORS_IN_HAND, rooms, step].map(BigInt), patches: -1 };
         const given = [base, BigInt(imageSize === null ? -1 : imageSize), flags];
-        const begun = base === base >>> 0 && this.exports.cdpatch_run_begin(BigInt(run), ...made.script, ...given, ...made.entries) >= 0;
-        if (begun) return made;
+        const begin = this.exports.cdpatch_run_begin;
+        if (base === base >>> 0) made.patches = Number(begin(BigInt(run), ...made.script, ...given, ...made.entries));
+        if (made.patches >= 0) return made;
         this.runEnd(made);
         throw new RangeError(`no run from block ${base} on`);
+    }
+
+    /**
+     * The lines of the patches of a run, in the order of application.
+     * @param {Run} run
+     * @returns {LinePlace[]}
+     */
+    runLines({ entries: [first], patches }) {
+        const { BYTES, NUMBER, START, SIZE } = ENTRY_STRUCT;
+        return Array.from({ length: patches }, (_, i) => {
+            const number = (/** @type {number} */ place) => this.view.getUint32(Number(first) + i * BYTES + place, true);
+            return { number: number(NUMBER), start: number(START), size: number(SIZE) };
+        });
     }
 
     /**

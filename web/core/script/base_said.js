@@ -1,11 +1,12 @@
 // The base for which a script was written, as a comment in it says.
 
+import { LINE_FEED, endsOfLines } from './line_words.js';
+
 /** @typedef {{ line: number, base: number }} BaseSaid the comment's line, and the base that it says */
 
 const BASE_COMMENT = /^# base (\d{1,6})\s*$/;
 const LONGEST_BASE_COMMENT = 21;
 const HASH = 0x23;
-const LINE_FEED = 0x0A;
 
 /** @param {number} base for which a script is written */
 export function baseComment(base) {
@@ -26,7 +27,8 @@ export function basesSaid(text) {
         const comment = text.subarray(at, end < 0 ? text.length : end);
         const said = comment.length <= LONGEST_BASE_COMMENT && BASE_COMMENT.exec(String.fromCharCode(...comment));
         if (!said) continue;
-        for (; counted < at; counted++) line += Number(text[counted] === LINE_FEED);
+        line += endsOfLines(text, counted, at);
+        counted = at;
         found.push({ line, base: Number(said[1]) });
     }
     return found;

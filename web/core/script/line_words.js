@@ -4,6 +4,9 @@ import { CONTENT } from '../module/records.js';
 
 /** @typedef {import('../module/calls.js').Calls} Calls */
 
+/** What ends a line of bytes. CR before it belongs to it. */
+export const LINE_FEED = 0x0A;
+
 /** What ends a line, and what separates words. */
 const ENDS = /\r?\n/;
 const GAPS = /([ \t]+)/;
@@ -14,6 +17,18 @@ const SOUND = Object.fromEntries(['set 0 0 00 was 00', 'fill 0 0 1 00', 'rebuild
 
 /** The faults of one word, which is as wrong in any other line of its verb. */
 const FAULTS_OF_A_WORD = [CONTENT.BAD_NUMBER, CONTENT.BAD_HEX, CONTENT.BAD_OFFSET, CONTENT.BAD_ADDRESS];
+
+/**
+ * How many ends of lines a range of a text has.
+ * @param {Uint8Array} text
+ * @param {number} from
+ * @param {number} to
+ */
+export function endsOfLines(text, from, to) {
+    let count = 0;
+    for (let at = from; at < to; at++) count += Number(text[at] === LINE_FEED);
+    return count;
+}
 
 /** @param {string} text */
 export function linesOfText(text) {

@@ -2,6 +2,8 @@
 
 import { joinedBytes } from '../bytes.js';
 import { CONTENT, MOST_PATCHES, MOST_SCRIPT_BYTES, isFault } from '../module/records.js';
+import { LINE_FEED, endsOfLines } from './line_words.js';
+import { patchLines } from './patch_run.js';
 
 /** @typedef {import('../module/calls.js').Calls} Calls */
 /**
@@ -10,28 +12,86 @@ import { CONTENT, MOST_PATCHES, MOST_SCRIPT_BYTES, isFault } from '../module/rec
  */
 /** @typedef {{ head: Uint8Array, patches: PatchLine[] }} Lines the head line, and the patches in their order */
 
-/** Bytes of a text that are cut into lines at a time. */
-const TEXT_WINDOW = 1 << 20;
-const END_OF_LINE = Uint8Array.of(0x0A);
+/** Bytes of a text that are read at a time. Lines that fill them have no more patches than a run takes. */
+const TEXT_WINDOW = 1 << 19;
+const END_OF_LINE = Uint8Array.of(LINE_FEED);
+
+/** What stands before lines until their head line was found. */
+const ANY_HEAD = new TextEncoder().encode('cdpatch 1');
 
 /**
- * The lines of a text: where each begins, in the text and in what of it is held, and its bytes without its end. One that ends where what is
- * held does may go on: then twice as much is held.
- * @param {Calls} calls
+ * The whole lines of a text, as many at a time as a window takes, or one that is longer.
  * @param {Uint8Array} text
  */
-function* heldLines(calls, text) {
-    for (let at = 0, size = TEXT_WINDOW; at < text.length;) {
-        const held = text.subarray(at, at + size);
-        const isLast = at + held.length === text.length;
-        calls.hold(held);
+function* windowsOf(text) {
+    for (let at = 0, end = 0; at < text.length; at = end) {
+        const last = text.lastIndexOf(LINE_FEED, at + TEXT_WINDOW - 1);
+        const next = last < at ? text.indexOf(LINE_FEED, at) : last;
+        end = at + TEXT_WINDOW >= text.length || next < 0 ? text.length : next + 1;
+        yield text.subarray(at, end);
+    }
+}
+
+/** Reads the lines of a script, of those that say nothing as many by one call as there are. */
+class LineReader {
+    /** @param {Calls} calls */
+    constructor(calls) {
+        this.calls = calls;
+        this.version = 0;
+        this.head = ANY_HEAD;
+        /** How many lines were read. */
+        this.number = 0;
+        /** @type {PatchLine[]} */
+        this.patches = [];
+    }
+
+    /**
+     * Reads whole lines. Returns the program's line for a fault, null if they have none.
+     * @param {Uint8Array} lines
+     * @returns {Uint8Array | null}
+     */
+    read(lines) {
+        const found = patchLines(this.calls, [this.head, END_OF_LINE, lines]);
+        this.calls.hold(lines);
+        if (found === null || (this.version === 0 && found.length > 0)) return this.readEach(lines);
+        for (const { number, start, size } of found) this.readLine(lines, this.number + number - 1, start - this.head.length - 1, size);
+        const hasEnd = lines.length === 0 || lines[lines.length - 1] === LINE_FEED;
+        this.number += endsOfLines(lines, 0, lines.length) + Number(!hasEnd);
+        return null;
+    }
+
+    /**
+     * Reads lines one by one: a fault has to be named, or a head line was not found yet.
+     * @param {Uint8Array} lines
+     * @returns {Uint8Array | null}
+     */
+    readEach(lines) {
         let from = 0;
-        for (let line = calls.firstLine(0); line !== null && (isLast || from + line.taken < held.length); line = calls.firstLine(from)) {
-            yield { from, line: held.subarray(from, from + line.size) };
+        for (let line = this.calls.firstLine(0); line !== null; line = this.calls.firstLine(from)) {
+            this.number += 1;
+            const content = this.readLine(lines, this.number, from, line.size);
+            if (isFault(content)) return this.calls.faultLine(this.number, content);
+            if (content !== CONTENT.PATCH && content !== CONTENT.NOTHING) {
+                [this.version, this.head] = [content, lines.subarray(from, from + line.size)];
+                return this.read(lines.subarray(from + line.taken));
+            }
             from += line.taken;
         }
-        size = from > 0 ? TEXT_WINDOW : 2 * size;
-        at += from;
+        return null;
+    }
+
+    /**
+     * @param {Uint8Array} lines which are held
+     * @param {number} number
+     * @param {number} from
+     * @param {number} size
+     */
+    readLine(lines, number, from, size) {
+        const content = this.calls.readLine(this.version, number, 0, from, size);
+        if (content !== CONTENT.PATCH) return content;
+        const { block, old } = this.calls.patchRange();
+        this.patches.push({ number, block, old, line: lines.subarray(from, from + size) });
+        return content;
     }
 }
 
@@ -42,18 +102,12 @@ function* heldLines(calls, text) {
  * @returns {Lines | Uint8Array}
  */
 export function readLines(calls, text) {
-    /** @type {PatchLine[]} */
-    const patches = [];
-    let [version, number, head] = [0, 0, text];
-    for (const { from, line } of heldLines(calls, text)) {
-        number += 1;
-        const content = calls.readLine(version, number, 0, from, line.length);
-        if (content === CONTENT.PATCH) {
-            const { block, old } = calls.patchRange();
-            patches.push({ number, block, old, line });
-        } else if (isFault(content)) return calls.faultLine(number, content);
-        else if (content !== CONTENT.NOTHING) [version, head] = [content, line];
+    const reader = new LineReader(calls);
+    for (const lines of windowsOf(text)) {
+        const fault = reader.read(lines);
+        if (fault !== null) return fault;
     }
+    const { version, number, head, patches } = reader;
     if (version === 0) return calls.faultLine(number + 1, CONTENT.NO_HEAD);
     return { head, patches: patches.sort((a, b) => a.block - b.block) };
 }

@@ -81,7 +81,7 @@ class JoinedPieces {
  */
 export async function runScript(calls, reader, script, { base, carry = false, withoutOld = false, near = NEAR_SIZE }, log, take) {
     const [ahead, out] = [new ReadAhead(reader), take && new JoinedPieces(take)];
-    const run = calls.runBegin(script, base, reader.size, (carry ? RUN_FLAG.CARRY : 0) + (withoutOld ? RUN_FLAG.WITHOUT_OLD : 0));
+    const run = calls.runBegin([script], base, reader.size, (carry ? RUN_FLAG.CARRY : 0) + (withoutOld ? RUN_FLAG.WITHOUT_OLD : 0));
     try {
         for (let done = 0; ;) {
             const step = calls.runNext(run, done);
@@ -106,16 +106,38 @@ export async function runScript(calls, reader, script, { base, carry = false, wi
 }
 
 /**
- * The line that refuses a script, null if none does: on an image of unknown size the first step of a script without faults logs nothing.
+ * The line that refuses a script, or what is read of a run of it: on an image of unknown size the first step of a script without faults
+ * logs nothing.
+ * @template T
+ * @param {Calls} calls
+ * @param {Uint8Array[]} script in pieces
+ * @param {(run: import('../module/calls.js').Run) => T} read
+ */
+function faultOr(calls, script, read) {
+    const run = calls.runBegin(script, 0, null, 0);
+    try {
+        const step = calls.runNext(run, 0);
+        return step.kind === STEP.LOG ? calls.runBytes(run, step).slice() : read(run);
+    } finally {
+        calls.runEnd(run);
+    }
+}
+
+/**
+ * The line that refuses a script, null if none does.
  * @param {Calls} calls
  * @param {Uint8Array} script
  */
 export function scriptFault(calls, script) {
-    const run = calls.runBegin(script, 0, null, 0);
-    try {
-        const step = calls.runNext(run, 0);
-        return step.kind === STEP.LOG ? calls.runBytes(run, step).slice() : null;
-    } finally {
-        calls.runEnd(run);
-    }
+    return faultOr(calls, [script], () => null);
+}
+
+/**
+ * The lines of a script that have patches, null if a line has a fault.
+ * @param {Calls} calls
+ * @param {Uint8Array[]} script in pieces
+ */
+export function patchLines(calls, script) {
+    const lines = faultOr(calls, script, run => calls.runLines(run));
+    return Array.isArray(lines) ? lines : null;
 }

@@ -6,7 +6,8 @@ import { PATCH_SIZE, RECORD, RECORD_SIZE, SECTOR_KIND } from '../module/records.
 import { addToRuns, runOf } from '../sectors/runs.js';
 import { SECTOR_SIZE, USER_SIZE, addressIn, joinedUser, sectorCount, sectorsAt, userOf } from '../sectors/sector.js';
 import { isSound } from '../sectors/survey.js';
-import { LineList, assertLeads, linesBetween } from './sector_lines.js';
+import { LineList } from './line_list.js';
+import { assertLeads, linesBetween } from './sector_lines.js';
 
 /** @typedef {import('../module/calls.js').Calls} Calls */
 /** @typedef {import('../disc/disc.js').DiscImage} DiscImage */

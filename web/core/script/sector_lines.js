@@ -1,12 +1,12 @@
 // Lines of a script that make sectors others. They are applied by the calls before they are given out.
 
-import { ByteList, joinedBytes, sameBytes } from '../bytes.js';
+import { sameBytes } from '../bytes.js';
 import { Fault } from '../faults.js';
 import { CONTENT, RECORD, RECORD_SIZE, RESULT, RUN_FLAG, SECTOR_KIND, STATUS, STEP, kindName } from '../module/records.js';
-import { addToRuns, blocksText, runOf } from '../sectors/runs.js';
-import { LAST_BASE, SECTOR_SIZE, addressIn, addressText, asWords, differingSectors } from '../sectors/sector.js';
-import { hasZeroByte, sectorOf, userOf } from '../sectors/sector.js';
+import { blocksText } from '../sectors/runs.js';
+import { LAST_BASE, SECTOR_SIZE, addressIn, differingSectors, sectorOf, userOf } from '../sectors/sector.js';
 import { isDamaged } from '../sectors/survey.js';
+import { LineList } from './line_list.js';
 
 /** @typedef {import('../module/calls.js').Calls} Calls */
 
@@ -30,19 +30,11 @@ import { isDamaged } from '../sectors/survey.js';
  * @typedef {{ carry?: boolean, heal?: boolean }} How
  */
 
-/** Bytes that differ are in one patch if at most this many equal ones stand between them: a patch of their own costs more. */
-const JOINED_BYTES = 8;
-
 /** Sectors whose lines are tried at a time: a run has at most MOST_PATCHES. */
 const TRY_SIZE = 256;
 
 /** What stands in a block that is not looked at. */
 const NO_DATA = new Uint8Array(SECTOR_SIZE);
-
-const HEX_DIGITS = '0123456789ABCDEF';
-
-/** The two digits of each byte, the first one in the low half. */
-const DIGITS = Uint16Array.from({ length: 256 }, (_, i) => HEX_DIGITS.charCodeAt(i >> 4) | HEX_DIGITS.charCodeAt(i % 16) << 8);
 
 /**
  * Why sectors are left, all for one reason, as a clause.
@@ -55,117 +47,6 @@ export function leftText(runs, image, most) {
     if (runs[0].why === 'damaged') return `${image} is damaged in ${blocks}`;
     if (runs[0].why === 'address') return `no script can name the address of ${blocks} in ${image}`;
     return `${[...new Set(runs.flatMap(run => run.kinds))].map(kindName).join(' and ')} in ${blocks}, and a script changes only mode1`;
-}
-
-/** Lines of a script, as bytes, and what is left besides them. */
-export class LineList extends ByteList {
-    constructor() {
-        super();
-        this.patches = 0;
-        this.version = 1;
-        this.carry = false;
-        /** @type {Left[]} */
-        this.left = [];
-    }
-
-    /** @returns {Lines} */
-    lines() {
-        const { patches, version, carry, left } = this;
-        return { text: this.bytes().slice(), patches, version, carry, left };
-    }
-
-    /** @param {string} text in ASCII */
-    text(text) {
-        const at = this.grow(text.length);
-        for (let i = 0; i < text.length; i++) this.room[at + i] = text.charCodeAt(i);
-    }
-
-    /** @param {Uint8Array} bytes as digits */
-    hex(bytes) {
-        const at = this.grow(2 * bytes.length);
-        const view = new DataView(this.room.buffer, at);
-        for (let i = 0; i < bytes.length; i++) view.setUint16(2 * i, DIGITS[bytes[i]], true);
-    }
-
-    /**
-     * @param {number} block
-     * @param {number} offset
-     * @param {Uint8Array} fresh
-     * @param {Uint8Array} old
-     */
-    set(block, offset, fresh, old) {
-        this.text(`set ${block} ${offset} `);
-        this.hex(fresh);
-        this.text(' was ');
-        this.hex(old);
-        this.text('\n');
-        this.patches += 1;
-    }
-
-    /** @param {number} block */
-    rebuild(block) {
-        this.text(`rebuild ${block}\n`);
-        this.patches += 1;
-    }
-
-    /**
-     * @param {number} block
-     * @param {Uint8Array} address
-     */
-    address(block, address) {
-        this.text(`address ${block} ${addressText(address)}\n`);
-        this.patches += 1;
-        this.version = 2;
-    }
-
-    /**
-     * The lines that make a Mode 1 sector another.
-     * @param {number} block
-     * @param {Uint8Array} old
-     * @param {Uint8Array} fresh
-     * @param {boolean} rebuild whether its damage goes first
-     */
-    sector(block, old, fresh, rebuild) {
-        if (rebuild) this.rebuild(block);
-        if (!sameBytes(addressIn(old, 0), addressIn(fresh, 0))) this.address(block, addressIn(fresh, 0));
-        const [before, after] = [userOf(old, 0), userOf(fresh, 0)];
-        for (const { from, end } of differingRuns(before, after)) {
-            this.set(block, from, after.subarray(from, end), before.subarray(from, end));
-        }
-    }
-
-    /**
-     * @param {number} block
-     * @param {Left['why']} why
-     * @param {number[]} kinds
-     */
-    leave(block, why, kinds = []) {
-        addToRuns(this.left, { ...runOf(block), why, kinds });
-    }
-}
-
-/**
- * The runs of user bytes that differ, those that are near one another joined.
- * @param {Uint8Array} old
- * @param {Uint8Array} fresh
- */
-function differingRuns(old, fresh) {
-    const [before, after] = [asWords(old), asWords(fresh)];
-    const runs = [];
-    let [from, end] = [0, 0];
-    for (let word = 0; word < before.length; word++) {
-        const other = before[word] ^ after[word];
-        if (other === 0) continue;
-        const isNear = end > 0 && 4 * word - end <= JOINED_BYTES;
-        for (let at = isNear && !hasZeroByte(other) ? 4 * word + 3 : 4 * word; at < 4 * word + 4; at++) {
-            if (old[at] === fresh[at]) continue;
-            if (end > 0 && at - end > JOINED_BYTES) runs.push({ from, end });
-            if (end === 0 || at - end > JOINED_BYTES) from = at;
-            end = at + 1;
-        }
-    }
-    if (end > 0) runs.push({ from, end });
-    return runs;
 }
 
 /**
@@ -187,14 +68,43 @@ function canBeNamed(calls, address) {
  * @param {How} how
  * @returns {Lines}
  */
-export function linesBetween(calls, { blocks, old, fresh }, { carry = false, heal = false } = {}) {
-    const states = [old, fresh].map(sectors => calls.survey(sectors, 0));
+export function linesBetween(calls, { blocks, old, fresh }, how = {}) {
     const lines = new LineList();
+    for (let i = 0; i < blocks.length; i += TRY_SIZE) {
+        const [from, to] = [SECTOR_SIZE * i, SECTOR_SIZE * (i + TRY_SIZE)];
+        const pairs = { blocks: blocks.slice(i, i + TRY_SIZE), old: old.subarray(from, to), fresh: fresh.subarray(from, to) };
+        if (!addPlainly(calls, lines, pairs)) addJudged(calls, lines, pairs, how);
+    }
+    return lines.lines();
+}
+
+/**
+ * Adds lines for what differs in sectors. Returns whether they make these what they have to become, and adds none if they do not. If they
+ * do, the sectors need no survey.
+ * @param {Calls} calls
+ * @param {LineList} lines
+ * @param {Pairs} pairs
+ */
+function addPlainly(calls, lines, pairs) {
+    const { size, patches, version } = lines;
+    pairs.blocks.forEach((block, i) => lines.sector(block, sectorOf(pairs.old, i), sectorOf(pairs.fresh, i), false));
+    const isRight = firstWrong(calls, lines.textFrom(size), pairs, false) < 0;
+    if (!isRight) Object.assign(lines, { size, patches, version });
+    return isRight;
+}
+
+/**
+ * Adds the lines for sectors of which some may be damaged, or of no kind that a line changes, and what no line can do.
+ * @param {Calls} calls
+ * @param {LineList} lines
+ * @param {Pairs} pairs
+ * @param {How} how
+ */
+function addJudged(calls, lines, { blocks, old, fresh }, { carry = false, heal = false }) {
+    const states = [old, fresh].map(sectors => calls.survey(sectors, 0));
     const due = old.slice(); // what the sectors become: as they are if they are left
-    /** @type {number[]} where the lines of each begin */
-    const begins = [];
+    const { size } = lines;
     blocks.forEach((block, i) => {
-        begins.push(lines.size);
         const [from, to] = [old, fresh].map(bytes => sectorOf(bytes, i));
         const [before, after] = [addressIn(from, 0), addressIn(to, 0)];
         const kinds = states.map(records => records[RECORD_SIZE * i + RECORD.KIND]);
@@ -213,13 +123,7 @@ export function linesBetween(calls, { blocks, old, fresh }, { carry = false, hea
         lines.leave(block, 'damaged');
         return heal ? lead(calls.encode(after, userOf(to, 0)), damaged) : undefined;
     });
-    for (let i = 0; i < blocks.length; i += TRY_SIZE) {
-        const [from, to] = [SECTOR_SIZE * i, SECTOR_SIZE * (i + TRY_SIZE)];
-        const text = lines.bytes().subarray(begins[i], begins[i + TRY_SIZE]);
-        assertLeads(calls, { version: lines.version, text }, { blocks: blocks.slice(i, i + TRY_SIZE), old: old.subarray(from, to),
-            fresh: due.subarray(from, to) }, carry);
-    }
-    return lines.lines();
+    assertLeads(calls, lines.textFrom(size), { blocks, old, fresh: due }, carry);
 }
 
 /**
@@ -232,7 +136,7 @@ export function linesBetween(calls, { blocks, old, fresh }, { carry = false, hea
 function isCarried(calls, block, old, fresh) {
     const lines = new LineList();
     lines.sector(block, old, fresh, false);
-    return firstWrong(calls, lines.lines(), { blocks: [block], old, fresh }, true) < 0;
+    return firstWrong(calls, lines.textFrom(0), { blocks: [block], old, fresh }, true) < 0;
 }
 
 /**
@@ -251,8 +155,8 @@ function firstWrong(calls, { version, text }, { blocks, old, fresh }, carry) {
         while (blocks[i] < block) i += 1;
         return i;
     };
-    const script = joinedBytes([new TextEncoder().encode(`cdpatch ${version}\n`), text]);
-    const run = calls.runBegin(script, base, size, carry ? RUN_FLAG.CARRY : 0);
+    const head = new TextEncoder().encode(`cdpatch ${version}\n`);
+    const run = calls.runBegin([head, text], base, size, carry ? RUN_FLAG.CARRY : 0);
     try {
         for (let [done, read, written] = [0, 0, 0]; ;) {
             const step = calls.runNext(run, done);

@@ -121,7 +121,7 @@ export async function undoScript(calls, reader, script, { base, carry = false, l
     const fault = baseFault(read.bases, base);
     if (fault !== '') throw new Fault(fault);
     const back = new TakenBack(reader, base, (job, pieces, blocks) => crew.given(job, pieces, { blocks, how: { carry, heal: true } }));
-    const patched = await passPatched(calls, reader, read, { base, carry }, piece => back.take(piece));
+    const patched = await passPatched(calls, reader, read, { base, carry, near: 0 }, piece => back.take(piece));
     const parts = await back.end();
     const undo = { script: parts.script(calls), patched, left: parts.left };
     if (changesNothing(undo)) throw new Fault(NOTHING_TO_TAKE_BACK);

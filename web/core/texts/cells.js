@@ -20,18 +20,33 @@ function endOfQuoted(text, at, mark) {
 }
 
 /**
- * The cells of a table, row by row, each with the number of its row from 1. In quotes a cell may have line ends, and two quotes for one.
+ * Where the next row begins.
+ * @param {string} text
+ * @param {number} at where a row ends
+ */
+function rowAfter(text, at) {
+    return at + (text[at] === '\r' && text[at + 1] === '\n' ? 2 : 1);
+}
+
+/**
+ * The cells of a table, row by row, each with the number of its row from 1. Empty rows are counted and passed over. In quotes a cell may
+ * have line ends, and two quotes for one.
  * @param {string} text
  * @returns {Generator<{ number: number, cells: string[] }>}
  */
 export function* rowsOf(text) {
-    const [head] = /^.*/.exec(text) || [''];
+    const [head] = /.+/.exec(text) || [''];
     const mark = ['\t', ',', ';'].find(it => head.includes(it)) || '\t';
     const plain = new RegExp(`[^${mark}\\r\\n]*`, 'y');
     let number = 1;
     /** @type {string[]} */
     let cells = [];
     for (let at = 0; at < text.length;) {
+        if (cells.length === 0 && (text[at] === '\n' || text[at] === '\r')) {
+            at = rowAfter(text, at);
+            number += 1;
+            continue;
+        }
         const quoted = text[at] === '"' ? endOfQuoted(text, at, mark) : -1;
         plain.lastIndex = at;
         const cell = quoted < 0 ? (plain.exec(text) || [''])[0] : text.slice(at + 1, quoted - 1);
@@ -43,7 +58,7 @@ export function* rowsOf(text) {
             if (at < text.length && !/[\r\n]/.test(text[at])) continue;
             cells.push('');
         }
-        at += text.startsWith('\r\n', at) ? 2 : 1;
+        at = rowAfter(text, at);
         yield { number, cells };
         number += 1;
         cells = [];
