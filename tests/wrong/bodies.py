@@ -180,7 +180,7 @@ def main() -> int:
     reader.add_argument('--lanes', type=int, default=len(os.sched_getaffinity(0)))
     reader.add_argument('crates', nargs='*')
     given = reader.parse_args()
-    crates = [it for it in rt.rtlib.crates_below(str(TOP)) if not given.crates or it.name in given.crates]
+    crates = [it for it in rt.rtlib.crates_below(str(TOP)) if any(rt.edits_of(it)) and (not given.crates or it.name in given.crates)]
     unbuilt = {low.name for crate in crates for low in crate.below() if not os.path.isdir(low.rlib)}
     if unbuilt:
         sys.exit(f'not built: {", ".join(sorted(unbuilt))}; make builds them')
