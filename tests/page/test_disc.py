@@ -523,7 +523,7 @@ class Disc(unittest.TestCase):
         browser.wait('#findings table')
         browser.run("document.querySelector('.skip').focus()")
         stops = browser.tab_stops()
-        self.assertLess(stops.index('map'), 12, stops)
+        self.assertLess(stops.index('map'), 13, stops)
         self.assertLess(len(stops), 26, stops)
         for width in (360, 480, 620, 760, 900, 1180, 1366, 1600):
             self.assertLessEqual(browser.wider(width), 0, width)

@@ -25,7 +25,7 @@ import { visible } from './visible.js';
  *     progress?: (done: number, all: number) => void }} TableHow
  */
 
-const COLUMNS = ['block', 'offset', 'bytes', 'room', 'encoding', 'file', 'text', 'new'];
+const COLUMN_NAMES = ['block', 'offset', 'bytes', 'room', 'encoding', 'file', 'text', 'new'];
 
 const LEAST_CHARACTERS = 2;
 
@@ -112,7 +112,7 @@ export async function* tableOfTexts(crew, part, stretches, { asked, least = LEAS
             if (progress) progress(done, all);
         } };
     };
-    yield { text: rowText(COLUMNS, mark), count: 0 };
+    yield { text: rowText(COLUMN_NAMES, mark), count: 0 };
     for (let i = 0; i < stretches.length; i += STRETCHES_AT_ONCE) {
         if (signal && signal.aborted) throw cancelled();
         const some = stretches.slice(i, i + STRETCHES_AT_ONCE);
