@@ -12,36 +12,29 @@ const { fileReader } = await page('open/file_reader.js');
 const MiB = 2 ** 20;
 const bytes = Uint8Array.from({ length: 20 * MiB + 7 }, (_, i) => i ^ i >> 9);
 
-/** A file that counts how often it is cut; `fills` says whether its streams fill memory that they are given. */
-function fileOf(fills = true) {
+/** A file that counts how often it is cut, and how many of its streams were ended. */
+function fileOf() {
     const file = Object.assign(new Blob([bytes]), { name: 'game.bin', cuts: 0, ends: 0 });
     const slice = file.slice.bind(file);
     file.slice = (...given) => {
         file.cuts += 1;
         const part = slice(...given);
-        part.stream = () => streamOf(file, new Uint8Array(bytes.buffer.slice(given[0], given[1])), fills);
+        part.stream = () => streamOf(file, new Uint8Array(bytes.buffer.slice(given[0], given[1])));
         return part;
     };
     return file;
 }
 
-/** A stream that gives at most some bytes at a time, in memory that it is given if it fills that. */
-function streamOf(file, rest, fills) {
-    const getReader = how => {
-        if (how && !fills) throw new TypeError('no such reader');
-        return {
-            async read(view) {
-                assert.equal(view !== undefined, fills);
-                const size = Math.min(rest.length, 300001, view ? view.length : Infinity);
-                const buffer = view ? view.buffer.transfer?.() ?? structuredClone(view.buffer, { transfer: [view.buffer] }) : rest.slice(0, size).buffer;
-                const value = new Uint8Array(buffer, 0, size);
-                value.set(rest.subarray(0, size));
-                rest = rest.subarray(size);
-                return { done: size === 0, value };
-            },
-            cancel: async () => { file.ends += 1; },
-        };
-    };
+/** A stream that gives at most some bytes at a time. */
+function streamOf(file, rest) {
+    const getReader = () => ({
+        async read() {
+            const value = rest.slice(0, 300001);
+            rest = rest.subarray(value.length);
+            return { done: value.length === 0, value };
+        },
+        cancel: async () => { file.ends += 1; },
+    });
     return { getReader };
 }
 
@@ -57,10 +50,8 @@ async function cutsFor(file, places) {
 
 test('reads in a row are one stream', async () => {
     const row = Array.from({ length: 20 }, (_, i) => [i * MiB, MiB, i % 2]);
-    for (const fills of [true, false]) {
-        assert.equal(await cutsFor(fileOf(fills), row), 2);
-        assert.equal(await cutsFor(fileOf(fills), row.map(([at, length, room]) => [at + 20000, length - 20000, room])), 2);
-    }
+    assert.equal(await cutsFor(fileOf(), row), 2);
+    assert.equal(await cutsFor(fileOf(), row.map(([at, length, room]) => [at + 20000, length - 20000, room])), 2);
 });
 
 test('the end of a file is that of its stream', async () => {

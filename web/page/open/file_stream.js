@@ -1,14 +1,11 @@
 // A file that is read forward, by its stream.
 
 /** @typedef {import('../../core/bytes.js').Reader} Reader */
-/** @typedef {{ read(...views: Uint8Array[]): Promise<{ done: boolean, value?: Uint8Array }>, cancel(): Promise<unknown> }} Chunks */
 
-/** Bytes that a stream is asked for at a time, if the browser puts them into memory that is used again. */
-const CHUNK = 1 << 20;
 /** So many bytes between two reads are passed over in the stream: to begin a new one takes longer. */
 const PASSED_OVER = 1 << 20;
 
-/** A stream of a file's bytes from a place on, which come in chunks. */
+/** A stream of a file's bytes from a place on, which come in chunks. To lend the browser memory for them takes longer. */
 class FileStream {
     /**
      * @param {Blob} rest of the file
@@ -17,22 +14,13 @@ class FileStream {
     constructor(rest, at) {
         this.at = at;
         this.chunk = new Uint8Array(0);
-        const stream = /** @type {{ getReader(how?: { mode: string }): Chunks }} */ (/** @type {unknown} */ (rest.stream()));
-        this.fills = true;
-        try {
-            this.chunks = stream.getReader({ mode: 'byob' });
-        } catch {
-            this.fills = false;
-            this.chunks = stream.getReader();
-        }
+        this.chunks = rest.stream().getReader();
     }
 
     /** The next chunk, if the last one is used up. Returns whether the file goes on. */
     async next() {
         if (this.chunk.length > 0) return true;
-        const { buffer } = this.chunk;
-        const views = this.fills ? [new Uint8Array(buffer.byteLength > 0 ? buffer : new ArrayBuffer(CHUNK))] : [];
-        const { done, value } = await this.chunks.read(...views);
+        const { done, value } = await this.chunks.read();
         if (value) this.chunk = value;
         return !done;
     }
