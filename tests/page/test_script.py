@@ -349,7 +349,7 @@ class Script(PageTest):
         self.open_script(files['english'])
         self.browser.click('#panel-script input[type=checkbox]')
         self.press('Undo script')
-        self.browser.wait('#messages .say', 'Apply it with carry, as this script.')
+        self.browser.wait('#panel-script .said .say', 'Apply it with carry, as this script.')
         undo = self.browser.downloaded('english (undo).txt')
         _, _, patched = applied(files['game'], files['english'], '--carry')
         status, _, again = applied(discs.written(patched=patched)['patched'], undo, '--carry')
@@ -364,7 +364,7 @@ class Script(PageTest):
         self.browser.wait('#panel-script .progress')
         self.press('Cancel')
         self.browser.run('openGate()')
-        self.browser.wait('#messages .say', 'No undo script was made.')
+        self.browser.wait('#panel-script .said .say', 'No undo script was made.')
         self.assertEqual(list(self.browser.downloads.iterdir()), [])
 
     def test_the_undo_script_can_be_made_of_an_image_that_is_opened_later(self) -> None:
