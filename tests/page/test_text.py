@@ -277,7 +277,7 @@ class Text(PageTest):
         (place / 'game.tbl').write_text('10=あ\n11=い\n12=う\n20=A\n21=B\nFF=<end>\n')
         self.open_image(discs.written(table=image)['table'])
         self.browser.click('#tab-text')
-        self.browser.give('#panel-text input[type=file]', [place / 'game.tbl'])
+        self.browser.give('[aria-label="A table to load"]', [place / 'game.tbl'])
         self.browser.wait('#panel-text .say.good', 'Loaded: game.tbl')
         self.browser.click('#find-text')
         self.search('いう')
