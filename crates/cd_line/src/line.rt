@@ -88,7 +88,7 @@ impl Line {
     /// line.push_number(8);
     /// let mut text = [7; LINE_SIZE];
     /// assert_eq!(rt; line.write_to(&mut text), 1);
-    /// assert_eq!(rt; &text[..2], &[b'8', 7]);
+    /// assert_eq!(rt; &text[..2], [b'8', 7].as_slice());
     /// ```
     pub fn write_to(&self, text: &mut [u8; LINE_SIZE]) -> usize
         ensures size { result ≡ length self.now }

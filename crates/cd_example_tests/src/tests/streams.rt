@@ -93,7 +93,7 @@ fn a_line_in_lent_memory(rt: HostRuntime) {
     line.push_number(8);
     let mut text = [7; LINE_SIZE];
     assert_eq!(rt; line.write_to(&mut text), 1);
-    assert_eq!(rt; &text[..2], &[b'8', 7]);
+    assert_eq!(rt; &text[..2], [b'8', 7].as_slice());
 }
 
 #[test]
