@@ -74,6 +74,11 @@ def cdscript() -> Path:
     return made
 
 
+def cdscript_prints(*given: str | Path) -> str:
+    """What cdscript prints if it ends well. What it says beside that is no test's."""
+    return subprocess.run([cdscript(), *given], check=True, stdout=subprocess.PIPE, stderr=subprocess.DEVNULL).stdout.decode()
+
+
 def run_program(*given: str | Path) -> tuple[int, str]:
     """The program's status and what it prints on standard output."""
     ran = subprocess.run([PROGRAM, *map(str, given)], stdout=subprocess.PIPE, stderr=subprocess.PIPE, check=False)

@@ -1,6 +1,5 @@
 """The tab Files of the panel Disc: what is listed, saved and replaced, beside what cdscript prints and writes; and the tracks of a cue sheet."""
 
-import subprocess
 from pathlib import Path
 
 import common
@@ -43,11 +42,11 @@ class Files(PageTest):
 
     def script_of(self, image: Path, fresh: Path) -> str:
         """What cdscript writes."""
-        return subprocess.run([common.cdscript(), 'replace-file', image, MESSAGES, fresh], check=True, stdout=subprocess.PIPE).stdout.decode()
+        return common.cdscript_prints('replace-file', image, MESSAGES, fresh)
 
     def test_the_files_are_those_that_cdscript_lists(self) -> None:
         image = self.begin(discs.game())
-        printed = subprocess.run([common.cdscript(), 'files', image], check=True, stdout=subprocess.PIPE).stdout.decode()
+        printed = common.cdscript_prints('files', image)
         rows = [line.split('\t') for line in printed.splitlines()]
         self.assertEqual(self.shown(), [f'{path} {int(size):,} {block}' for block, size, path in rows])
         self.assertEqual(self.browser.text('#findings [data-tab=files]'), f'Files {len(rows)}')
@@ -63,7 +62,7 @@ class Files(PageTest):
 
     def test_some_hundred_rows_of_many_files_stand_there_and_stay(self) -> None:
         image = self.begin(many())
-        printed = subprocess.run([common.cdscript(), 'files', image], check=True, stdout=subprocess.PIPE).stdout.decode()
+        printed = common.cdscript_prints('files', image)
         names = [line.split('\t')[2] for line in printed.splitlines()]
         self.assertEqual(self.browser.text('#findings [data-tab=files]'), 'Files 900')
         self.assertEqual(len(self.shown()), 200)

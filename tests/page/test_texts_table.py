@@ -1,6 +1,5 @@
 """The table of all texts of a disc, beside what cdscript prints and writes of it, and the lists of known dumps that name a disc."""
 
-import subprocess
 from pathlib import Path
 
 import common
@@ -30,7 +29,7 @@ class TextsTable(PageTest):
 
     def printed(self, image: Path) -> str:
         """The table that cdscript prints."""
-        return subprocess.run([common.cdscript(), 'texts', image], check=True, stdout=subprocess.PIPE, stderr=subprocess.DEVNULL).stdout.decode()
+        return common.cdscript_prints('texts', image)
 
     def table(self, image: Path, fresh: dict[int, str]) -> Path:
         """That table with new texts in rows of these numbers, from 2."""
@@ -60,7 +59,7 @@ class TextsTable(PageTest):
         self.give(table)
         self.browser.wait('#panel-text .say.good', '3 lines added to the script.')
         self.browser.wait('#panel-text .say.good', 'All 3 new texts fit.')
-        written = subprocess.run([common.cdscript(), 'replace', image, '--list', table], check=True, stdout=subprocess.PIPE).stdout.decode()
+        written = common.cdscript_prints('replace', image, '--list', table)
         self.press('Open Script')
         self.assertEqual(self.script_text(), written)
         self.press('Apply and save')
