@@ -26,7 +26,6 @@ FAULTS = {'Head': 'NO_HEAD', 'Verb': 'UNKNOWN_VERB', 'Words': 'WORD_COUNT', 'Num
           'Length': 'BAD_LENGTH', 'Offset': 'BAD_OFFSET', 'Address': 'BAD_ADDRESS', 'TooMany': 'TOO_MANY',
           'NoMemory': 'NO_MEMORY'}
 KINDS = ('NOSYNC', 'MODE0', 'MODE1', 'MODE2', 'OTHER')
-OUTCOMES = {'Applied': 'OK', 'NotMode1': 'NOT_MODE1', 'Damaged': 'DAMAGED', 'NoBlock': 'NO_BLOCK', 'Differs': 'DIFFERS'}
 SIZES = {'CDPATCH_SECTOR_SIZE': ['SECTOR_SIZE'], 'CDPATCH_USER_SIZE': ['USER_SIZE'], 'CDPATCH_PATCH_SIZE': ['MAX_BYTES'],
          'CDPATCH_LINE_SIZE': ['LINE_SIZE'], 'CDPATCH_SECTORS_IN_HAND': ['MAX_BLOCKS_MET'],
          'CDPATCH_MOST_SECTORS': ['MAX_SECTORS'], 'CDPATCH_MOST_SCRIPT_BYTES': ['MAX_TEXT'], 'CDPATCH_MOST_PATCHES': ['MAX_PATCHES'],
@@ -117,8 +116,6 @@ def exports(source):
         made[f'struct {name}'] = [f'uint64_t state[{words_of(struct, source)}]']
     results = [(name, number) for name, number in re.findall(r'pub const (\w+): u32 = (\d+);', source)
                if name not in ('VERSION', *KINDS)]
-    results += [(OUTCOMES[name], number) for name, number in re.findall(r'Outcome::(\w+)(?:\([_.]+\))? => (\d+),', source)]
-    results += [('NO_PATCH', number) for name, number in constants if name == 'NO_PATCH']
     contents = [(FAULTS[name], number) for name, number in re.findall(r'ScriptFault::(\w+)(?:\(_\))? => (\d+),', source)]
     contents += [('NOTHING', number) for number in re.findall(r'LineContent::PassedOver\) => (\d+),', source)]
     contents += [(f'VERSION_{place}', number) for place, number in enumerate(re.findall(r'Version::\w+ => (\d+),', source), 1)]

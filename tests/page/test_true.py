@@ -80,7 +80,7 @@ class Sayings(PageTest):
         self.open_files(files['first'], files['second'])
         self.browser.answer('Repair first.bin from it')
         self.browser.wait('[aria-label="Cannot be repaired: 1"] td', str(discs.first_block()))
-        self.assertNotIn('not saved', self.browser.text('[aria-label="Cannot be repaired: 1"]'))
+        self.assertNotIn('in no file', self.browser.text('[aria-label="Cannot be repaired: 1"]'))
         self.browser.run('openFiles()')
         self.browser.wait('[aria-label="Cannot be repaired: 1"]', '/DATA/MSG00.DAT')
 
