@@ -201,25 +201,6 @@ pub(crate) fn status(refused: u32) -> u32
     if refused == 0 { 0 } else { 1 }
 }
 
-/// The fault of a number.
-fn fault_of(number: u32, line: u32) -> Option<ScriptFault>
-    ensures { result ≡ fault_of number line }
-{
-    match number {
-        4 => Some(ScriptFault::Head(line)),
-        5 => Some(ScriptFault::Verb(line)),
-        6 => Some(ScriptFault::Words(line)),
-        7 => Some(ScriptFault::Number(line)),
-        8 => Some(ScriptFault::Hex(line)),
-        9 => Some(ScriptFault::Length(line)),
-        10 => Some(ScriptFault::Offset(line)),
-        11 => Some(ScriptFault::Address(line)),
-        12 => Some(ScriptFault::TooMany(line)),
-        13 => Some(ScriptFault::NoMemory),
-        _ => None,
-    }
-}
-
 /// The line of an error, by its number and the script's line; empty if no error has the number.
 pub(crate) fn error_line(number: u32, line: u32) -> Line
     ensures line { result ≡ error_line number line }
@@ -228,7 +209,7 @@ pub(crate) fn error_line(number: u32, line: u32) -> Line
     if number == TOO_LONG {
         return text_line(LONG_SCRIPT.as_bytes());
     }
-    match fault_of(number, line) {
+    match ScriptFault::of_number(number, line) {
         None => Line::new(),
         Some(fault) => script_fault_line(fault),
     }
