@@ -1,5 +1,5 @@
 # What `make` can do: `make help` prints the targets, which are the lines with ## here. docs/INSTALL.md says what each needs.
-.PHONY: all help check quick test test-outside mutants fuzz bench wasm web pages map contracts audit clean
+.PHONY: all help check quick test test-outside mutants fuzz bench wasm web pages design map contracts audit clean
 
 # Goals come one after the other, as they are given. Crates are proved side by side, at most as many as `make -j N` says.
 .NOTPARALLEL:
@@ -90,6 +90,10 @@ bench:                      ## build what counts instructions
 pages:                      ## make anew what the man pages and the README repeat of cdpatch.h and of help
 	@python3 -B tools/header_pages.py make
 	@python3 -B tools/options.py pages ./cdpatch ./cdscript
+
+# By Chromium, of the page that was built.
+design:                     ## make anew the pictures of the page and the tables of docs/DESIGN.md
+	@PAGE='$(CURDIR)/cdpatch.html' PROGRAM='$(CURDIR)/cdpatch' /usr/bin/python3 -B tests/page/design.py
 
 # What the sources say of themselves, as Markdown.
 map:                        ## print what each file has

@@ -3,7 +3,7 @@
 DIRECTORY as the next word it does so in that tree.
 
 In a page a part stands between marks, as `made: declarations` and `end of declarations`, which has the versions, enums and structs of the
-header, and `made: LAST_BASE` and `end of LAST_BASE`, in which each number is CDPATCH_LAST_BASE."""
+header, `made: prototypes`, which has its calls, and `made: LAST_BASE` and `end of LAST_BASE`, in which each number is CDPATCH_LAST_BASE."""
 
 import re
 import sys
@@ -16,8 +16,7 @@ PAGES = ('man/cdpatch.1', 'man/libcdpatch.3')
 LONGEST_LINE = 76
 
 
-def declarations(header: str) -> str:
-    code = re.sub(r'/\*.*?\*/', '', header, flags=re.S)
+def declarations(code: str) -> str:
     found = re.findall(r'^(?:#define CDPATCH_V.*?$|(?:enum|struct) [^;{]*\{.*?\};)', code, re.S | re.M)
     # A line ends only between two enumerators or two fields.
     whole = [re.sub('(?<![,;{]) ', '\0', ' '.join(each.split())) for each in found]
@@ -25,15 +24,25 @@ def declarations(header: str) -> str:
     return '\n'.join(lines).replace('\0', ' ') + '\n'
 
 
+def prototypes(code: str) -> str:
+    """The calls. What points to one thing has no size there."""
+    code = re.sub(r'(\w+)\[CDPATCH_AT_LEAST 1\]', r'*\1', code).replace('CDPATCH_AT_LEAST ', '')
+    found = re.findall(r'^([a-z][\w ]*) (cdpatch_\w+)\(([^;]*)\);', code, re.M)
+    words = [(answer, name, ' '.join(f'"{" ".join(each.split())}"' for each in given.split(','))) for answer, name, given in found]
+    return ''.join(f'.Ft {answer}\n.Fn {name} {given}\n' for answer, name, given in words)
+
+
 def remade(page: str, header: str) -> str:
     """A page with its parts made anew; those of other tools stay."""
     numbers = header_numbers.read(header).numbers
+    code = re.sub(r'/\*.*?\*/', '', header, flags=re.S)
+    parts = {'declarations': declarations(code), 'prototypes': prototypes(code)}
 
     def make(found: re.Match[str]) -> str:
         begin, name, part, end = found.groups()
         if name in numbers:
             part = re.sub(r'\d+', str(numbers[name]), part)
-        return begin + (declarations(header) if name == 'declarations' else part) + end
+        return begin + parts.get(name, part) + end
 
     return re.sub(r'(?ms)(^\.\\" made: (\w+)\n)(.*?)(^\.\\" end of \2$)', make, page)
 

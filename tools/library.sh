@@ -14,7 +14,7 @@ trap 'rm -rf "$scratch"' EXIT
 
 # objects SUFFIX DIRECTORY: makes a directory with the objects of the crates as they were built with this suffix, and the toolchain's three
 # functions for memory, over malloc. Every library of this toolchain has these three by the same names. Here they get others, of the same length, so that
-# a program can use another such library too.
+# a program can use another such library too, and by sed, so that make wants no objcopy.
 objects() {
     local name
     mkdir "$2"

@@ -11,6 +11,7 @@ from ._running import UNKNOWN_SIZE, run
 if TYPE_CHECKING:
     from _typeshed import ReadableBuffer
 
+# As much as a pipe holds. Sector by sector what no patch looks at took four times as long.
 MOST_HELD = 65536
 
 

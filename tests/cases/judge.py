@@ -1,4 +1,4 @@
-"""Judges each line of worked cases by the model, a program, a library and a module: `run PROGRAM [FILE..]`, `run model [FILE..]`."""
+"""Judges each line of worked cases by the model, and by the clients that are named: `run PROGRAM [FILE..]`, `run model [FILE..]`."""
 
 import argparse
 import os
@@ -6,7 +6,7 @@ import sys
 from functools import partial
 from multiprocessing import Pool
 
-from answers import ByLines, Library, Model, Module, Program
+from clients import Model, Program, add_clients, clients_of
 from forms import SIZE, Answer, worked_lines
 
 SHOWN = 300  # so many characters of a text
@@ -75,18 +75,16 @@ def size(line):
 
 def judges_named():
     """The judges, and the arguments of the call."""
-    words = argparse.ArgumentParser(prog='tests/cases/run', description='Judges worked cases by model, program, library and module.')
-    words.add_argument('program', help="the program, or 'model' for only the model")
+    words = argparse.ArgumentParser(prog='tests/cases/run', description='Judges worked cases by the model and by clients.')
+    words.add_argument('asked', help="the program, or 'model' for only the model and the clients that options name")
     words.add_argument('files', nargs='*', help='files of cases; all if there are none')
     words.add_argument('--without-model', action='store_true', help='does not ask the model')
-    words.add_argument('--library', help='a shared library to ask too, for whole images and line by line')
-    words.add_argument('--module', help='a WebAssembly module to ask too')
     words.add_argument('--first', action='store_true', help='ends at the first failure, the shortest lines first')
+    add_clients(words)
     given = words.parse_args()
     judges = [] if given.without_model else [Model()]
-    judges += [] if given.program == 'model' else [Program(given.program)]
-    judges += [] if given.library is None else [Library(given.library), ByLines(given.library)]
-    return judges + ([] if given.module is None else [Module(given.module)]), given
+    judges += [] if given.asked == 'model' else [Program(given.asked)]
+    return judges + clients_of(given), given
 
 
 def main():

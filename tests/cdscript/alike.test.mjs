@@ -3,9 +3,8 @@
 
 import assert from 'node:assert/strict';
 import { test } from 'node:test';
-import { imageOf, inDirectory, run, tool, write } from './common.mjs';
+import { imageOf, inDirectory, program, run, tool, write } from './common.mjs';
 
-const program = process.env.PROGRAM;
 
 /** Writes `image`, whose blocks 2 to 5 are zeros but for bytes at places. */
 function writeImage(room, ...places) {

@@ -2,9 +2,8 @@
 
 import assert from 'node:assert/strict';
 import { test } from 'node:test';
-import { damaged, imageOf, inDirectory, read, run, sameFile, tool, write } from './common.mjs';
+import { damaged, imageOf, inDirectory, program, read, run, sameFile, tool, write } from './common.mjs';
 
-const program = process.env.PROGRAM;
 
 /** A later track of 40 sectors from block 150 on, whole and with two damaged sectors. */
 function writeLater(room) {

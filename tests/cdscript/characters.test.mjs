@@ -2,9 +2,8 @@
 
 import assert from 'node:assert/strict';
 import { test } from 'node:test';
-import { ENCODINGS_KNOWN, imageOf, inDirectory, run, tool, write } from './common.mjs';
+import { ENCODINGS_KNOWN, imageOf, inDirectory, program, run, tool, write } from './common.mjs';
 
-const program = process.env.PROGRAM;
 const INSIDE = 'perhaps in the middle of a character (byte before: 8A)';
 
 /** Writes `image`, whose blocks 2 to 5 are zeros but for bytes at places. */
@@ -33,10 +32,12 @@ test('a hit in the middle of a character is marked, and replaced only at its pla
     assert.deepEqual([each.status, each.out, each.errors],
         [0, `cdpatch 1\n${['2 101', '4 0', '4 502'].map(place => `set ${place} 7878 was 6B7A\n`).join('')}`, '']);
     const long = await run(['replace', 'image', 'kz', 'xxx', '--all', '--encoding', 'CP932'], { cwd: room });
-    assert.deepEqual([long.status, long.out, long.errors], [2, '', 'cdscript: the new bytes are 3, the old ones 2\n']);
+    assert.deepEqual([long.status, long.out, long.errors], [2, '', 'cdscript: the new text has 3 bytes in CP932, 1 more than the 2 that are there\n']);
     const many = await run(['replace', 'image', 'kz', 'xx', '--encoding', 'CP932'], { cwd: room });
-    assert.deepEqual(many.errors.split('\n').slice(0, 3), [`cdscript: it stands at block 2 offset 101, ${INSIDE}`,
-        `cdscript: it stands at block 4 offset 0, ${INSIDE}`, 'cdscript: it stands at block 4 offset 502']);
+    const dots = count => '.'.repeat(count);
+    assert.deepEqual(many.errors.split('\n').slice(0, 3), [`cdscript: it stands at block 2 offset 101, ${INSIDE}: ${dots(23)}kz${dots(24)}`,
+        `cdscript: it stands at block 4 offset 0, ${INSIDE}: ${dots(23)}kz${dots(24)}`,
+        `cdscript: it stands at block 4 offset 502: ${dots(22)}クkz${dots(24)}`]);
     const placed = await run(['replace', 'image', '2', '101', 'kz', 'xx', '--encoding', 'CP932'], { cwd: room });
     assert.deepEqual([placed.status, placed.out, placed.errors], [0, 'cdpatch 1\nset 2 101 7878 was 6B7A\n', `cdscript: ${why}\n`]);
     const begun = await run(['replace', 'image', '4', '502', 'kz', 'xx', '--encoding', 'CP932'], { cwd: room });

@@ -10,6 +10,7 @@ import { fileURLToPath } from 'node:url';
 
 export const top = fileURLToPath(new URL('../..', import.meta.url));
 export const command = process.env.COMMAND ?? join(top, 'cdscript');
+export const program = process.env.PROGRAM ?? join(top, 'cdpatch');
 export const vectors = readFileSync(join(top, 'crates/cd_low_tests/data/cdrkit-8.bin'));
 const { main } = createRequire(import.meta.url)(command);
 
@@ -90,7 +91,6 @@ export function sameFile(came, due, name) {
 
 /** The image of the eight sectors of other software, over and over, with the addresses of the blocks from a base on by the program. */
 export function imageOf(directory, count, base = 0) {
-    const program = process.env.PROGRAM ?? join(top, 'cdpatch');
     const image = Buffer.concat(Array.from({ length: count }, (_, i) => vectors.subarray(2352 * (i % 8), 2352 * (i % 8 + 1))));
     const digits = number => String(number).padStart(2, '0');
     const lines = Array.from({ length: count }, (_, i) => {

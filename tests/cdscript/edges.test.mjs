@@ -5,7 +5,7 @@ import { spawn, spawnSync } from 'node:child_process';
 import { existsSync, truncateSync } from 'node:fs';
 import { join } from 'node:path';
 import { test } from 'node:test';
-import { command, damaged, imageOf, inDirectory, read, run, tool, write } from './common.mjs';
+import { command, damaged, imageOf, inDirectory, program, read, run, tool, write } from './common.mjs';
 import { files, makeDisc } from './discs.mjs';
 
 const hasDisc = tool('genisoimage', ['--version']) !== null;
@@ -43,7 +43,7 @@ test('info says what is wrong with a standard input that is closed', () => inDir
 
 test('an address that no script can name is said by undo, and not taken for damage', () => inDirectory(async room => {
     write(room, { hurt: damaged(imageOf(room, 8), 0, [3, 14]), fix: 'cdpatch 1\nrebuild 3\n', edit: 'cdpatch 2\naddress 3 00:02:03\n' });
-    tool(process.env.PROGRAM, ['apply', 'hurt', 'fix', 'odd'], { cwd: room });
+    tool(program, ['apply', 'hurt', 'fix', 'odd'], { cwd: room });
     const { status, out, errors } = await run(['undo', 'odd', 'edit'], { cwd: room });
     assert.deepEqual([status, out], [1, 'cdpatch 1\n']);
     assert.match(errors, /^cdscript: no script can name the address of block 3 in odd\n/);
@@ -51,7 +51,7 @@ test('an address that no script can name is said by undo, and not taken for dama
 
 test('a signal ends what waits for its reader', () => inDirectory(async room => {
     write(room, { image: imageOf(room, 60), zeros: `cdpatch 1\n${Array.from({ length: 60 }, (_, i) => `fill ${i} 0 2048 00\n`).join('')}` });
-    tool(process.env.PROGRAM, ['apply', 'image', 'zeros', 'empty'], { cwd: room });
+    tool(program, ['apply', 'image', 'zeros', 'empty'], { cwd: room });
     const words = ['find', 'empty', '00', '--encoding', 'hex', '--limit', '100000'];
     const child = spawn(process.execPath, [command, ...words], { cwd: room, stdio: ['ignore', 'pipe', 'ignore'] });
     const ended = new Promise(resolve => child.on('exit', (_, by) => resolve(by)));
@@ -67,7 +67,7 @@ test('a signal ends what waits for its reader', () => inDirectory(async room => 
 test('a text is replaced in the spelling that the disc has, at its place and at all', () => inDirectory(async room => {
     // Row 13 of NEC and IBM's rows have kanji twice: ED40 and FA5C are both 纊.
     write(room, { plain: imageOf(room, 8), edit: 'cdpatch 1\nset 2 10 ED408261\nset 3 2047 FA5C8261\n' });
-    tool(process.env.PROGRAM, ['apply', 'plain', 'edit', 'image'], { cwd: room });
+    tool(program, ['apply', 'plain', 'edit', 'image'], { cwd: room });
     const [one, two] = ['set 2 10 889F8261 was ED408261', 'set 3 2047 889F8261 was FA5C8261'];
     for (const [words, lines] of [[['2', '10', '纊Ｂ', '亜Ｂ'], [one]], [['3', '2047', '纊Ｂ', '亜Ｂ'], [two]], [['纊Ｂ', '亜Ｂ', '--all'], [one, two]]]) {
         const { status, out } = await run(['replace', 'image', ...words], { cwd: room });
@@ -79,7 +79,7 @@ test('a text is replaced in the spelling that the disc has, at its place and at 
 
 test('a table without a space asks for --fill', () => inDirectory(async room => {
     write(room, { plain: imageOf(room, 8), edit: 'cdpatch 1\nset 2 10 414243\n', table: '41=a\n4243=b\n' });
-    tool(process.env.PROGRAM, ['apply', 'plain', 'edit', 'image'], { cwd: room });
+    tool(program, ['apply', 'plain', 'edit', 'image'], { cwd: room });
     const words = ['replace', 'image', '2', '10', 'ab', 'a', '--table', 'table'];
     const { status, out, errors } = await run(words, { cwd: room });
     assert.deepEqual([status, out, errors], [2, '', 'cdscript: the table has no space to fill up with: give --fill\n']);

@@ -11,7 +11,7 @@ import { fileURLToPath } from 'node:url';
 
 // Before cdscript is loaded, which takes the calls as they are then.
 const faults = createRequire(import.meta.url)('./faulty.cjs');
-const { call, command, damaged, imageOf, inDirectory, read, runProcess, sameFile, tool, write } = await import('./common.mjs');
+const { call, command, damaged, imageOf, inDirectory, program, read, runProcess, sameFile, tool, write } = await import('./common.mjs');
 const { makeDisc } = await import('./discs.mjs');
 
 const preload = fileURLToPath(new URL('./faulty.cjs', import.meta.url));
@@ -31,7 +31,7 @@ async function makeRoom(room) {
     const image = read(room, 'disc.bin');
     write(room, { 'hurt.bin': damaged(image, 0, [18, 100]), 'disc.cue': 'FILE "disc.bin" BINARY\n TRACK 01 MODE1/2352\n INDEX 01 00:00:00\n',
         'script': 'cdpatch 1\nset 20 5 414243\nfill 100 0 4096 00\nset 16 1 00 was 00\n' });
-    tool('sh', ['-c', `"${process.env.PROGRAM}" apply disc.bin script other.bin > log || true; rm log`], { cwd: room });
+    tool('sh', ['-c', `"${program}" apply disc.bin script other.bin > log || true; rm log`], { cwd: room });
 }
 
 /** Calls main with what is named in a room, while `hit` says which calls fail. */

@@ -7,9 +7,8 @@ import { mkdirSync, writeFileSync } from 'node:fs';
 import { join } from 'node:path';
 import { test } from 'node:test';
 import { harmlessVolume, recordOf, volumeOf } from '../core/strangers.mjs';
-import { command, damaged, imageOf, inDirectory, read, run, runProcess, sameFile, tool, write } from './common.mjs';
+import { command, damaged, imageOf, inDirectory, program, read, run, runProcess, sameFile, tool, write } from './common.mjs';
 
-const program = process.env.PROGRAM;
 const hasDisc = tool('genisoimage', ['--version']) !== null;
 
 /** A copy of an image with blocks that a dumper has filled. */
@@ -125,20 +124,33 @@ test('a file that only seems to be empty is read', () => inDirectory(async room 
     assert.equal((await run(['audit', 'empty'], { cwd: room })).out, 'sectors 0 mode1 0 damaged 0 tail 0\n');
 }));
 
+/** What a job does with another class in place of node's threads. */
+function withThreads(room, name, maker, words, input) {
+    write(room, { [name]: `require('node:worker_threads').Worker = ${maker};` });
+    const { status, stdout, stderr } = spawnSync(process.execPath, ['-r', `./${name}`, command, ...words], { cwd: room, encoding: 'utf8', timeout: 20000, input });
+    return [status, stdout, stderr];
+}
+
 test('without threads a job is done all the same', () => inDirectory(room => {
     const sector = imageOf(room, 1);
-    write(room, { image: Buffer.concat(Array.from({ length: 9000 }, () => sector)) });
+    write(room, { image: damaged(Buffer.concat(Array.from({ length: 9000 }, () => sector)), 0, [3, 2200], [8999, 2200]) });
     const why = "Object.assign(new Error('EAGAIN'), { code: 'ERR_WORKER_INIT_FAILED' })";
     const MAKERS = { 'throws.cjs': `class { constructor() { throw ${why}; } }`, 'fails.cjs': `class extends require('node:events') {
         constructor() { super(); setTimeout(() => this.emit('error', ${why}), 20); }
         terminate() {} postMessage() {} }` };
+    const due = [0, 'cdpatch 1\nrebuild 3\nrebuild 8999\n'];
     for (const [name, maker] of Object.entries(MAKERS)) {
-        write(room, { [name]: `require('node:worker_threads').Worker = ${maker};` });
-        const { status, stdout, stderr } = spawnSync(process.execPath, ['-r', `./${name}`, command, 'list', 'image'], { cwd: room, encoding: 'utf8', timeout: 20000 });
-        assert.deepEqual([status, stdout, stderr], [0, '0-8999 mode1\nsectors 9000 tail 0\n', ''], name);
-        const piped = spawnSync(process.execPath, ['-r', `./${name}`, command, 'list', '-'], { cwd: room, encoding: 'utf8', timeout: 20000, input: read(room, 'image') });
-        assert.equal(piped.stdout, '0-8999 mode1\nsectors 9000 tail 0\n', name);
+        assert.deepEqual(withThreads(room, name, maker, ['rebuilds', 'image', '--base', '0']), [...due, ''], name);
+        assert.deepEqual(withThreads(room, name, maker, ['rebuilds', '-', '--base', '0'], read(room, 'image')), [...due, ''], name);
     }
+}));
+
+test('a list of kinds begins no threads', () => inDirectory(room => {
+    const sector = imageOf(room, 1);
+    write(room, { image: Buffer.concat(Array.from({ length: 9000 }, () => sector)) });
+    const maker = "class { constructor() { console.log('a thread'); throw new Error('EAGAIN'); } }";
+    assert.deepEqual(withThreads(room, 'counts.cjs', maker, ['list', 'image']), [0, '0-8999 mode1\nsectors 9000 tail 0\n', '']);
+    assert.match(withThreads(room, 'counts.cjs', maker, ['rebuilds', 'image'])[1], /^a thread\n/);
 }));
 
 test('an undo names the block whose damage is gone, also if nothing else is taken back', () => inDirectory(async room => {

@@ -5,10 +5,9 @@ import { createHash } from 'node:crypto';
 import { existsSync } from 'node:fs';
 import { join } from 'node:path';
 import { test } from 'node:test';
-import { ENCODINGS_KNOWN, damaged, imageOf, inDirectory, read, run, sameFile, tool, write } from './common.mjs';
+import { ENCODINGS_KNOWN, damaged, imageOf, inDirectory, program, read, run, sameFile, tool, write } from './common.mjs';
 import { files, makeDisc } from './discs.mjs';
 
-const program = process.env.PROGRAM;
 const skip = tool('genisoimage', ['--version']) === null && 'no genisoimage';
 const sheet = (name, type = 'MODE1/2352') => `FILE "${name}" BINARY\n  TRACK 01 ${type}\n    INDEX 01 00:00:00\n`;
 
@@ -176,11 +175,23 @@ test('a repair of many places names the first of them', () => inDirectory(async 
     sameFile(read(room, 'out'), due2, 'the repaired image');
 }));
 
+test('dumps that begin or end elsewhere repair the blocks that both have', () => inDirectory(async room => {
+    const good = imageOf(room, 300, 30);
+    write(room, { old: damaged(good, 30, [40, 100], [320, 100], [327, 100]), short: good.subarray(0, 2352 * 295), later: good.subarray(2352 * 20),
+        long: Buffer.concat([good, Buffer.alloc(2352)]) });
+    const short = await run(['merge', 'old', 'short', 'out'], { cwd: room });
+    assert.deepEqual([short.status, short.errors], [1, 'cdscript: short has only blocks 30 to 324 of old\n']);
+    assert.equal(short.out, '40-40 from short\n320-320 from short\n327-327 damaged in all\ntaken 2 damaged 1 disputed 0 different 0\n');
+    const later = await run(['merge', 'old', 'later', 'long', 'all'], { cwd: room });
+    assert.deepEqual([later.status, later.errors], [0, 'cdscript: later has only blocks 50 to 329 of old\n']);
+    assert.equal(later.out, '40-40 from long\n320-320 from later\n327-327 from later\ntaken 3 damaged 0 disputed 0 different 0\n');
+    sameFile(read(room, 'all'), good, 'the repaired image');
+}));
+
 test('what no repair takes', () => inDirectory(async room => {
     const good = imageOf(room, 300, 30);
-    write(room, { old: damaged(good, 30, [40, 100]), long: Buffer.concat([good, Buffer.alloc(1)]), later: imageOf(room, 300, 31) });
-    await fails(['merge', 'old', 'long', 'out'], `old has ${good.length} bytes and long ${good.length + 1}: they are not dumps of one disc`, room);
-    await fails(['merge', 'old', 'later', 'out'], 'old begins with block 30, later with block 31: they are not the same part of a disc', room);
+    write(room, { old: damaged(good, 30, [40, 100]), later: imageOf(room, 300, 330) });
+    await fails(['merge', 'old', 'later', 'out'], 'old begins with block 30, later with block 330: they are not the same part of a disc', room);
     const other = Buffer.concat([good.subarray(2352 * 8), good.subarray(0, 2352 * 8)]);
     write(room, { other, edited: Buffer.concat([other.subarray(0, 3 * 2352), good.subarray(3 * 2352)]) });
     const { status, errors } = await run(['merge', 'old', 'other', 'out', '--base', '30'], { cwd: room });

@@ -6,9 +6,8 @@ import { join } from 'node:path';
 import { test } from 'node:test';
 import { recordOf, volumeOf } from '../core/strangers.mjs';
 import { encoded, noise } from './discs.mjs';
-import { damaged, inDirectory, read, run, sameFile, tool, write } from './common.mjs';
+import { damaged, inDirectory, program, read, run, sameFile, tool, write } from './common.mjs';
 
-const program = process.env.PROGRAM;
 const USER = 2048;
 const skip = tool('genisoimage', ['--version']) === null && 'no genisoimage';
 

@@ -5,9 +5,8 @@ import { spawnSync } from 'node:child_process';
 import { truncateSync } from 'node:fs';
 import { join } from 'node:path';
 import { test } from 'node:test';
-import { command, imageOf, inDirectory, read, run, tool, write } from './common.mjs';
+import { command, imageOf, inDirectory, program, read, run, tool, write } from './common.mjs';
 
-const program = process.env.PROGRAM;
 
 /** Writes `image`, whose blocks 2 to 5 are zeros but for bytes at places. */
 function writeImage(room, ...places) {

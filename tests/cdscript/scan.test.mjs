@@ -60,7 +60,7 @@ test('what could not be read is named, and the status is 2', () => inDirectory(a
     symlinkSync('nowhere', join(set, 'broken.bin'));
     const { status, out, errors } = await run(['scan', 'good.bin', 'gone.cue', 'text.txt', 'missing.bin', '.'], { cwd: set });
     assert.deepEqual([status, out.split('\t')[0], out.split('\n').length], [2, 'good.bin', 2]);
-    for (const text of ['gone.cue names nothing.bin. It is not in the directory of the cue sheet.', 'text.txt is no image that is known here',
+    for (const text of ['gone.cue names nothing.bin. It is not in the directory of the cue sheet.', 'text.txt is not recognised',
         'cannot read missing.bin: there is no such file or directory', 'cannot read broken.bin: there is no such file or directory']) {
         assert.equal(errors.split(`cdscript: ${text}\n`).length, 2, text);
     }
@@ -90,15 +90,16 @@ test('of a sheet of which the list has some files the others are told', () => in
 
 test('a killed scan goes on', () => inDirectory(async room => {
     const rows = writeCollection(room).map(row => row.replace(/\tverified.*/, '\t-'));
-    for (let i = 0; i < 50 && (read(room, 'list') || '').toString().split('\n').length <= 40; i++) {
+    const listed = () => (read(room, 'list') || '').toString().split('\n').filter(Boolean);
+    for (const most of [5, 15, Infinity]) {
         const child = spawn(process.execPath, ['-r', preload, command, 'scan', 'one', 'two', '--resume', 'list'],
-            { cwd: room, env: { ...process.env, SLOW: '40' }, stdio: 'ignore' });
-        const ended = new Promise(resolve => child.on('exit', resolve));
-        const late = setTimeout(() => child.kill('SIGKILL'), i < 3 ? 600 + 200 * i : 20000);
-        await ended;
-        clearTimeout(late);
+            { cwd: room, env: { ...process.env, SLOW: most === Infinity ? '0' : '150' }, stdio: 'ignore' });
+        const ended = new Promise(resolve => child.on('exit', (status, signal) => resolve(signal || status)));
+        const watch = setInterval(() => listed().length >= most && child.kill('SIGKILL'), 5);
+        assert.equal(await ended, most === Infinity ? 1 : 'SIGKILL');
+        clearInterval(watch);
     }
-    assert.deepEqual(read(room, 'list').toString().split('\n').filter(Boolean).sort(), rows);
+    assert.deepEqual(listed().sort(), rows);
 }));
 
 test('an image that vanishes is named, and a full disk leaves whole lines', () => inDirectory(room => inDirectory(async streams => {

@@ -5,10 +5,9 @@ import assert from 'node:assert/strict';
 import { existsSync } from 'node:fs';
 import { join } from 'node:path';
 import { test } from 'node:test';
-import { damaged, imageOf, inDirectory, read, run, sameFile, tool, write } from './common.mjs';
+import { damaged, imageOf, inDirectory, program, read, run, sameFile, tool, write } from './common.mjs';
 import { TEXTS, encoded, files, makeDisc, noise } from './discs.mjs';
 
-const program = process.env.PROGRAM;
 const skip = tool('genisoimage', ['--version']) === null && 'no genisoimage';
 
 /** What a job has printed, as lines of words between tabs. */
@@ -114,7 +113,7 @@ test('a text is replaced at its place, filled up', { skip }, () => inDirectory(a
         due.copy(user, block * 2048 + offset);
         sameFile(userOf(applied(room, 'disc.bin', 'script')), user, 'the user data');
     }
-    await refuses(room, ['replace', 'disc.bin', '村人', '村人たち'], 'the new bytes are 12, the old ones 6');
+    await refuses(room, ['replace', 'disc.bin', '村人', '村人たち'], 'the new text has 12 bytes in UTF-8, 6 more than the 6 that are there');
     await refuses(room, ['replace', 'disc.bin', '16', '1', 'CD002', 'CD003'], 'old bytes differ at block 16 offset 5');
     await refuses(room, ['replace', 'disc.bin', 'ABSENT TEXT', 'X'], 'the text is not found');
 }));

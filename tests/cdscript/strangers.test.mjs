@@ -36,7 +36,7 @@ test('a cue sheet costs as much as a harmless one', () => inDirectory(room => {
     const due = measured(room, ['info', 'harmless.cue']);
     for (const [what, sheet] of Object.entries(SHEETS)) {
         write(room, { 'sheet.cue': sheet });
-        costsAsMuch(room, ['info', 'sheet.cue'], due, 2, what.startsWith('nothing') ? /^1 .*no image that is known/ : /^[012] /);
+        costsAsMuch(room, ['info', 'sheet.cue'], due, 2, what.startsWith('nothing') ? /^1 .*not recognised/ : /^[012] /);
     }
 }));
 
@@ -61,6 +61,20 @@ test('a volume costs as much as a harmless one', () => inDirectory(async room =>
         costsAsMuch(room, ['files', `${i}.bin`], due, 2, /^1 [^]*: (its directories are not read|the directory|from here on)/);
         costsAsMuch(room, ['find', `${i}.bin`, 'FILE'], due, 2, /^[01] /);
     }
+}));
+
+test('a difference costs no more memory if there is more of it', () => inDirectory(async room => {
+    const [few, many] = [4000, 16000];
+    const lines = Array.from({ length: many }, (_, block) => `fill ${block} 0 2048 41`);
+    write(room, { old: imageOf(room, many), script: ['cdpatch 1', ...lines, ''].join('\n') });
+    tool(process.env.PROGRAM, ['apply', 'old', 'script', 'new'], { cwd: room });
+    const changed = read(room, 'new').subarray(0, 2352 * few);
+    write(room, { some: Buffer.concat([changed, read(room, 'old').subarray(2352 * few)]) });
+    const due = measured(room, ['diff', 'old', 'some', '-o', 'short']);
+    const came = measured(room, ['diff', 'old', 'new', '-o', 'long']);
+    const size = read(room, 'long').length;
+    assert.deepEqual([due.status, came.status], [0, 0]);
+    assert.ok(came.memory < due.memory + 0.8 * size / 1e6, `${came.memory} MB, ${due.memory} MB for ${size} bytes`);
 }));
 
 test('what is no regular file is refused if only a cue sheet names it', () => inDirectory(async room => {

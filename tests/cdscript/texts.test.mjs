@@ -6,9 +6,8 @@ import { mkdirSync, readFileSync, writeFileSync } from 'node:fs';
 import { join } from 'node:path';
 import { test } from 'node:test';
 import { deflateRawSync } from 'node:zlib';
-import { ENCODINGS_KNOWN, inDirectory, read, run, tool, write } from './common.mjs';
+import { ENCODINGS_KNOWN, inDirectory, program, read, run, tool, write } from './common.mjs';
 
-const program = process.env.PROGRAM;
 const HEAD = 'block\toffset\tbytes\troom\tencoding\tfile\ttext\tnew';
 
 /** Numbers below a limit, the same for the same seed. */

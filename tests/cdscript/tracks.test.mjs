@@ -2,7 +2,7 @@
 
 import assert from 'node:assert/strict';
 import { test } from 'node:test';
-import { damaged, imageOf, inDirectory, read, run, sameFile, tool, write } from './common.mjs';
+import { damaged, imageOf, inDirectory, program, read, run, sameFile, tool, write } from './common.mjs';
 
 const TRACK_3 = 'cdscript: track 3 has data too and was not looked at: --track 3\n';
 
@@ -73,7 +73,7 @@ test('a script for a later track, by the cue sheet and by its BIN', () => inDire
     write(room, { script: 'cdpatch 1\nrebuild 185\nset 185 84 00\n', sound: last });
     const { status, out, errors } = await run(['apply', '--track', '3', 'game.cue', 'script', 'new.bin'], { cwd: room });
     assert.deepEqual([status, out, errors], [0, 'line 2: applied\nline 3: applied\napplied 2 refused 0\n', '']);
-    tool(process.env.PROGRAM, ['apply', '--base', '180', 'three.bin', 'script', 'due.bin'], { cwd: room });
+    tool(program, ['apply', '--base', '180', 'three.bin', 'script', 'due.bin'], { cwd: room });
     sameFile(read(room, 'new.bin'), read(room, 'due.bin'), 'the patched track');
     const alone = await run(['check', 'three.bin', 'script'], { cwd: room });
     assert.deepEqual([alone.status, alone.out], [2, '']);

@@ -2,6 +2,27 @@
 
 /** A class of calls that has a method for each of them. */
 export const withAllCalls = (Calls, sized) => class extends Calls {
+    /** What a command prints of an image, and its status. */
+    report(name, image, base) {
+        const room = 100 + 40 * Math.floor(image.length / 2352);
+        const [at, text] = this.put(image, room);
+        const status = Number(this.exports[name](at, BigInt(image.length), base, text, BigInt(room), this.places.answer));
+        return { status, text: this.copied(text, this.view.getUint32(this.answer, true)) };
+    }
+
+    list(image, base) {
+        return this.report('cdpatch_list', image, base);
+    }
+
+    audit(image, base) {
+        return this.report('cdpatch_audit', image, base);
+    }
+
+    /** What is held, not copied. */
+    held(from, to) {
+        return this.memory.subarray(this.arena + this.within(from), this.arena + this.within(to));
+    }
+
     edc(bytes) {
         return this.exports.cdpatch_edc(this.put(bytes)[0], BigInt(bytes.length)) >>> 0;
     }

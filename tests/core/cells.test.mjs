@@ -2,12 +2,12 @@
 
 import assert from 'node:assert/strict';
 import { test } from 'node:test';
-import { core } from './common.mjs';
+import { calls, core, readerOf } from './common.mjs';
 
 const { rowText, rowsOf } = await core('texts/cells.js');
 const { cellOf, unitsOfCell } = await core('texts/codes.js');
 const { encodingOf, tableOf, textOfFile } = await core('texts/encodings.js');
-const { listRows } = await core('texts/list.js');
+const { listRows, replaceList } = await core('texts/list.js');
 
 const cells = text => [...rowsOf(text)].map(row => row.cells);
 const hex = bytes => Buffer.from(bytes).toString('hex').toUpperCase();
@@ -66,6 +66,19 @@ test('a list has the rows with a new text, by the names of its columns', () => {
     assert.deepEqual(rows, [{ number: 2, block: 1, offset: 5, room: -1, encoding: '', text: 'old', fresh: 'x' },
         { number: 4, block: 1, offset: -1, room: -1, encoding: '', text: 'a,b', fresh: 'y' }]);
     assert.throws(() => [...listRows('1\t2\told\tnew\n')], { message: 'the first row of the list names no column block, offset, text' });
+});
+
+test('of rows in one block that can not be patched each is left by its own number, and the others are replaced', async () => {
+    const sectors = calls.encodeBlocks(0, new Uint8Array(3 * 2048).fill(0x41));
+    sectors[2352 + 2351] ^= 1;
+    const image = { name: 'image', base: 0, sectors: 3, reader: readerOf(sectors) };
+    const rows = [[2, 0, 4], [3, 1, 4], [4, 1, 90], [7, 2, 4], [8, 2, 2047]].map(([number, block, offset]) =>
+        ({ number, block, offset, room: -1, encoding: '', text: 'A', fresh: 'B' }));
+    const made = list => replaceList(calls, image, list, () => [encodingOf('CP932')], null);
+    const damaged = 'block 1 is damaged: repair it first';
+    const { parts, left } = await made(rows);
+    assert.deepEqual([parts.patches, left], [3, [{ number: 3, why: damaged }, { number: 4, why: damaged }]]);
+    assert.deepEqual((await made(rows.slice(2, 3))).left, [{ number: 4, why: damaged }]);
 });
 
 test('files in UTF-16 with a mark are read as that', () => {

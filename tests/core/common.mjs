@@ -6,6 +6,8 @@ import { join } from 'node:path';
 import { fileURLToPath, pathToFileURL } from 'node:url';
 import { withAllCalls } from './calls.mjs';
 
+export { diceOf } from '../lib/dice.mjs';
+
 export const top = fileURLToPath(new URL('../..', import.meta.url));
 const folder = process.env.CORE ?? join(top, 'web/core');
 
@@ -35,17 +37,6 @@ export const encoded = text => new TextEncoder().encode(text);
 
 /** @param {Uint8Array} bytes */
 export const decoded = bytes => new TextDecoder('latin1').decode(bytes);
-
-/** Numbers below a limit, the same ones for the same seed. */
-export function diceOf(seed) {
-    let state = seed >>> 0;
-    return limit => {
-        state = (state + 0x6D2B79F5) >>> 0;
-        let mixed = Math.imul(state ^ (state >>> 15), state | 1);
-        mixed ^= mixed + Math.imul(mixed ^ (mixed >>> 7), mixed | 61);
-        return ((mixed ^ (mixed >>> 14)) >>> 0) % limit;
-    };
-}
 
 /** @param {Uint8Array} a */
 export function sameBytes(a, b, name) {

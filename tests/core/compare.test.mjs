@@ -125,6 +125,12 @@ test('runs with at most eight equal bytes between them are one patch', async () 
     assert.deepEqual(await linesFor(2047), [`set ${BASE} 2047 A5 was 00`]);
     assert.deepEqual(await linesFor(3, 12), [`set ${BASE} 3 A5${'00'.repeat(8)}A5 was ${'00'.repeat(10)}`]);
     assert.deepEqual(await linesFor(3, 13), [`set ${BASE} 3 A5 was 00`, `set ${BASE} 13 A5 was 00`]);
+    // The last four bytes are a word, all of which differs.
+    for (const equal of [4, 5, 6, 7, 8]) {
+        const [first, zeros] = [11 - equal, '00'.repeat(equal)];
+        assert.deepEqual(await linesFor(first, 12, 13, 14, 15), [`set ${BASE} ${first} A5${zeros}A5A5A5A5 was ${zeros}${'00'.repeat(5)}`]);
+    }
+    assert.deepEqual(await linesFor(2, 12, 13, 14, 15), [`set ${BASE} 2 A5 was 00`, `set ${BASE} 12 A5A5A5A5 was 00000000`]);
     assert.deepEqual(await linesFor(3, 12, 2046, 2047), [`set ${BASE} 3 A5${'00'.repeat(8)}A5 was ${'00'.repeat(10)}`, `set ${BASE} 2046 A5A5 was 0000`]);
 });
 
@@ -272,7 +278,7 @@ test('lines that the module does not take, or that give other sectors, are not g
         step(it => ({ ...it, status: STATUS.FAILED })),
         step(it => ({ ...it, status: STATUS.FOUND })),
         step(it => ({ ...it, at: it.kind === STEP.WRITE ? it.at + RAW : it.at })),
-        { runBytes: (run, it) => it.kind === STEP.WRITE ? new Uint8Array(RAW) : calls.runBytes(run, it) },
+        { stepBytes: it => it.kind === STEP.WRITE ? new Uint8Array(RAW) : calls.stepBytes(it) },
     ];
     for (const wrong of wrongs) {
         const broken = Object.assign(Object.create(calls), wrong);

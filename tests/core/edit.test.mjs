@@ -7,7 +7,7 @@ import { localCrew, withThreads } from './crews.mjs';
 import { isoOf } from './discs.mjs';
 import { CHANGES, RAW, countOf, patchedBy, sectorAt, sound, soundImage, textOf } from './pairs.mjs';
 
-const { filledUp, replaceBytes } = await core('script/replace_bytes.js');
+const { filledUp, replaceBytes, replaceEach } = await core('script/replace_bytes.js');
 const { replaceFile } = await core('script/replace_file.js');
 const { filesOf, wholeFile } = await core('iso/files.js');
 
@@ -54,6 +54,15 @@ test('old bytes that differ are refused by the words of the program', async () =
     const old = Uint8Array.from(userOf(image).subarray(2040, 2060));
     old[12] ^= 1;
     await assert.rejects(replaceBytes(calls, imageOf(image), { block: BASE, offset: 2040 }, old, old), { message: `old bytes differ at block ${BASE + 1} offset 4` });
+});
+
+test('bytes that a run would not replace so are not given out, unless they are tried with others later', async () => {
+    const image = soundImage(diceOf(1), 3, BASE);
+    const [place, old] = [{ block: BASE, offset: 7 }, Uint8Array.from(userOf(image).subarray(7, 9))];
+    const broken = Object.assign(Object.create(calls), { runNext: (run, done) => ({ ...calls.runNext(run, done), status: 2 }) });
+    await assert.rejects(replaceBytes(broken, imageOf(image), place, old, old.map(byte => byte ^ 1)), { message: /would not give the right sector/ });
+    const later = await replaceEach(broken, imageOf(image), [{ place, old, fresh: old.map(byte => byte ^ 1) }], true);
+    assert.equal(later.patches, 1);
 });
 
 test('damaged sectors, sectors of another kind, and places that are not there', async () => {

@@ -129,6 +129,20 @@ test('names of many scripts, and names that need a continuation', async t => {
     assert.ok(joliet.files.some(file => file.path === '/漢字.txt'));
 });
 
+test('each record is where the file says, in a directory of many sectors too', async t => {
+    const iso = made(t, MANY, [], []);
+    if (!iso) return;
+    const { files } = await filesOf(readerOf(rawOf(iso.bytes)), 0);
+    const blocks = new Set(files.map(({ record }) => record.block));
+    assert.ok(blocks.size >= 3, `${blocks.size} sectors`);
+    for (const { path, block, record } of files) {
+        const at = 2048 * record.block + record.offset;
+        const bytes = Buffer.from(iso.bytes.subarray(at, at + iso.bytes[at]));
+        assert.equal(bytes.readUInt32LE(2), block, path);
+        assert.ok(bytes.toString('latin1', 33).startsWith(path.slice(path.lastIndexOf('/') + 1)), path);
+    }
+});
+
 test('a file is found by block and offset, and what is after its last byte is in none', async t => {
     const iso = made(t, FEW, ['-R'], ['-R']);
     if (!iso) return;

@@ -7,6 +7,7 @@ import { localCrew, withThreads } from './crews.mjs';
 import { CHANGES, RAW, blocksOf, changedImage, countOf, sectorAt, sound, soundImage } from './pairs.mjs';
 
 const { mergeImages } = await core('images/merge.js');
+const { isSameRange, shiftOf } = await core('images/common_part.js');
 
 const BASE = 500;
 const imageOf = (bytes, base = BASE) => ({ name: 'image.bin', reader: readerOf(bytes), base, addressed: base, sectors: countOf(bytes), tail: bytes.length % RAW });
@@ -176,13 +177,50 @@ test('tails that differ are said, and the tail stays as it is', async () => {
     sameBytes(joinedPieces(old, pieces), image, 'the repaired image');
 });
 
-test('another length and another base are refused', async () => {
+test('another part of a disc is refused', async () => {
     const image = soundImage(diceOf(56), 5, BASE);
-    const lengths = `image.bin has ${5 * RAW} bytes and image.bin ${4 * RAW}: they are not dumps of one disc`;
-    await assert.rejects(merged([image, image, image.slice(0, 4 * RAW)]), { name: 'Fault', message: lengths });
-    const other = { ...imageOf(image), name: 'other.bin', base: BASE + 1 };
-    const message = `image.bin begins with block ${BASE}, other.bin with block ${BASE + 1}: they are not the same part of a disc`;
+    const other = { ...imageOf(image, BASE + 5), name: 'other.bin' };
+    const message = `image.bin begins with block ${BASE}, other.bin with block ${BASE + 5}: they are not the same part of a disc`;
     await assert.rejects(repaired(localCrew(), imageOf(image), [other]), { name: 'Fault', message });
+});
+
+test('dumps that begin or end elsewhere repair what they have, as if the rest were nothing', async () => {
+    const ranges = [[0, 60], [0, 55], [7, 60], [-3, 70], [20, 90]];
+    for (let seed = 0; seed < 20; seed++) {
+        const [old, ...whole] = someDumps(diceOf(seed), ranges.length, 60);
+        const others = whole.map((other, k) => {
+            const [from, to] = ranges[k + 1];
+            const around = Buffer.concat([new Uint8Array(3 * RAW), other, new Uint8Array(30 * RAW)]);
+            return imageOf(Uint8Array.from(around.subarray((from + 3) * RAW, (to + 3) * RAW)), BASE + from);
+        });
+        const nothing = whole.map((other, k) => other.map((byte, at) =>
+            at >= ranges[k + 1][0] * RAW && at < ranges[k + 1][1] * RAW ? byte : 0));
+        const told = [];
+        const how = { step: 1 + seed, progress: (done, all) => { told.push(done); assert.equal(all, 60); } };
+        const { pieces, parts, tails, refused, sectors, ...rest } = await repaired(localCrew(), imageOf(old), others, how);
+        const { out, found } = due([old, ...nothing]);
+        assert.deepEqual(foundOf(rest), found);
+        sameBytes(joinedPieces(old, pieces), out, `seed ${seed}`);
+        assert.deepEqual(parts, [[0, 55, 0], [7, 60, 7], [0, 60, -3], [20, 60, 20]].map(([from, to, later]) => ({ from, to, later })));
+        assert.deepEqual([tails, refused, told.at(-1), [...told].sort((a, b) => a - b)], [[false, true, false, false], false, 60, told]);
+    }
+});
+
+test('a dump in which sectors are missing or too many is refused, and it is found by how many and where', async () => {
+    const image = soundImage(diceOf(62), 120, BASE);
+    const gone = Buffer.concat([image.subarray(0, 70 * RAW), image.subarray(73 * RAW), new Uint8Array(3 * RAW)]);
+    const more = Buffer.concat([image.subarray(0, 65 * RAW), image.subarray(64 * RAW, 119 * RAW)]);
+    const edited = image.slice();
+    for (let i = 30; i < 90; i++) edited.set(sound(BASE + i, new Uint8Array(2048).fill(i)), RAW * i);
+    const due = [{ by: 3, first: BASE + 70 }, { by: -1, first: BASE + 65 }, null];
+    for (const [i, bytes] of [gone, more, edited].entries()) {
+        const [old, other] = [imageOf(image), imageOf(Uint8Array.from(bytes))];
+        const { refused, differing } = await repaired(localCrew(), old, [other]);
+        assert.ok(refused);
+        const shift = await shiftOf(calls, old, other, differing[0]);
+        assert.deepEqual(shift && { by: shift.by, first: shift.first }, due[i]);
+        assert.ok(isSameRange(old, other) && !isSameRange(old, imageOf(image, BASE + 1)));
+    }
 });
 
 test('merge by ranges of 1 to 4096 sectors, and by threads, is the same', async () => {

@@ -4,7 +4,7 @@ import assert from 'node:assert/strict';
 import { test } from 'node:test';
 import { calls, core, decoded, diceOf, encoded, joinedPieces, newCalls, readerOf, sameBytes, someImage } from './common.mjs';
 
-const { readScript } = await core('script/script.js');
+const { Refusal, readScript } = await core('script/script.js');
 const { Part, readLines } = await core('script/long_script.js');
 const { applyPatches, passPatched } = await core('script/patches.js');
 const { bytesOfPieces } = await core('bytes.js');
@@ -265,4 +265,17 @@ test('several patchings at the same time by the same calls', async () => {
         assert.equal(decoded(text), due[i].text);
         sameBytes(joinedPieces(image, pieces), due[i].out, 'the image');
     });
+});
+
+test('a run gives back its memory, however it ends', async () => {
+    const own = newCalls();
+    const { arena } = own;
+    const script = await readScript(own, [someScript(diceOf(15), 5, BASE, 2600)]);
+    const how = { base: BASE, carry: true };
+    const failing = { size: image.length, read: async () => { throw new Error('no read'); } };
+    await passPatched(own, readerOf(image), script, how);
+    await assert.rejects(passPatched(own, failing, script, how), /no read/);
+    await assert.rejects(passPatched(own, readerOf(image), script, how, () => { throw new Error('disk full'); }), /disk full/);
+    assert.ok(await readScript(own, [encoded('faulty')]) instanceof Refusal);
+    assert.deepEqual([own.arena, own.lent], [arena, []]);
 });

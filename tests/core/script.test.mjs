@@ -74,6 +74,8 @@ test('a later version of the language is no fault', async () => {
         const head = decoded(later.held(from, from + size)) === 'cdpatch 9';
         return version === 0 && head ? 256 : readLine(version === 256 ? 2 : version, number, earlier, from, size);
     };
+    const runBegin = later.runBegin.bind(later);
+    later.runBegin = (script, ...how) => runBegin(script.map(it => decoded(it) === 'cdpatch 9' ? encoded('cdpatch 2') : it), ...how);
     const lines = readLines(later, encoded('cdpatch 9\naddress 3 00:02:05\n'));
     assert.deepEqual(lines.patches, readLines(calls, encoded('cdpatch 2\naddress 3 00:02:05\n')).patches);
     assert.equal(decoded(scriptParts(lines)[0].text()), 'cdpatch 9\naddress 3 00:02:05\n');

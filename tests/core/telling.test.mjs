@@ -89,6 +89,17 @@ test('a text after a picture is found', () => {
 test('the first characters of a file are a text', () => {
     assert.deepEqual(found(Buffer.concat([bytesOf('CP932', 'おわり'), Buffer.alloc(2), bytesOf('CP932', 'つづきからはじめる'), Buffer.alloc(2)])),
         [[0, 6, 'CP932'], [8, 26, 'CP932']]);
+    // The beginning of a file counts as 00 before a text of kanji only.
+    for (const name of ['CP932', 'EUC-JP', 'UTF-16LE']) {
+        assert.equal(found(Buffer.concat([bytesOf(name, '全国大会'), Buffer.alloc(2), noise(300, 3)])).length, 1, name);
+    }
+});
+
+test('a text is found at each of the four bytes of a word', () => {
+    for (const name of ['CP932', 'EUC-JP', 'UTF-8']) for (const text of ['前代未聞', 'です']) for (let shift = 0; shift < 4; shift++) {
+        const bytes = Buffer.concat([Buffer.alloc(40 + shift, 0x15), Buffer.alloc(4), bytesOf(name, text), Buffer.alloc(4), Buffer.alloc(60, 0x15)]);
+        assert.equal(found(bytes).length, 1, `${name} ${text} ${shift}`);
+    }
 });
 
 test('texts in UTF-16 with one 00 00 after each are not read with the other byte first', () => {

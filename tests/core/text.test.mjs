@@ -7,6 +7,7 @@ import { ENCODINGS_KNOWN, core } from './common.mjs';
 
 const { ENCODINGS, encodingOf, tableOf, textOfFile } = await core('texts/encodings.js');
 const { encodeText, fillsOf, spaceIn } = await core('texts/encoding.js');
+const { unitsAlike } = await core('texts/alike.js');
 
 /** @param {Uint8Array} bytes */
 const hex = bytes => Buffer.from(bytes).toString('hex').toUpperCase();
@@ -223,6 +224,17 @@ test('UTF-8 and UTF-16 are those of the system, line ends and all', () => {
     assert.strictEqual(encoded('utf8', text), hex(Buffer.from(text)));
     assert.strictEqual(encoded('UTF-16LE', text), hex(Buffer.from(text, 'utf16le')));
     assert.strictEqual(encoded('UTF-16BE', text), hex(Buffer.from(text, 'utf16le').swap16()));
+});
+
+test('loosely each half-width form is one with its full-width one, from the first to the last, and no others', () => {
+    const forms = (text, loose) => unitsAlike(encodingOf('CP932'), text, loose)[0].map(hex);
+    for (const [wide, half] of [['。', '｡'], ['「', '｢'], ['ヲ', 'ｦ'], ['ア', 'ｱ'], ['ン', 'ﾝ'], ['ー', 'ｰ'], ['！', '!'], ['～', '~'], ['Ａ', 'A'], ['\u3000', ' ']]) {
+        assert.ok(forms(wide, true).includes(encoded('CP932', half)), wide);
+        assert.ok(forms(half, true).includes(encoded('CP932', wide)), half);
+        assert.ok(!forms(wide, false).includes(encoded('CP932', half)), wide);
+    }
+    assert.deepStrictEqual([forms('ガ', true), forms('ガ', false)].map(it => it.includes('B6DE')), [true, false]);
+    assert.deepStrictEqual(forms('Ａ', true).sort(), ['41', '61', '8260', '8281']);
 });
 
 test('hex is read in any case and with spaces, and written in capitals', () => {

@@ -4,6 +4,7 @@
 
 import { readFileSync, writeFileSync } from 'node:fs';
 import { deflateSync } from 'node:zlib';
+import { diceOf } from '../lib/dice.mjs';
 import { calls, core, page } from '../page/page.mjs';
 
 const { Fault } = await core('faults.js');
@@ -19,17 +20,6 @@ const { checksum, readPatcherText } = await page('player/patcher.js');
 const LONGEST = 3000;
 const encoded = text => new TextEncoder().encode(text);
 const decoded = bytes => new TextDecoder().decode(bytes);
-
-/** Numbers below a limit, the same ones for the same seed. */
-export function diceOf(seed) {
-    let state = seed >>> 0;
-    return limit => {
-        state = (state + 0x6D2B79F5) >>> 0;
-        let mixed = Math.imul(state ^ (state >>> 15), state | 1);
-        mixed ^= mixed + Math.imul(mixed ^ (mixed >>> 7), mixed | 61);
-        return ((mixed ^ (mixed >>> 14)) >>> 0) % limit;
-    };
-}
 
 /** A volume of a directory in a directory, a file of two extents, Rock Ridge's mark and Joliet's descriptor: its user data. */
 function volume() {

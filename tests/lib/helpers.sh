@@ -9,6 +9,17 @@ vectors=$top/crates/cd_low_tests/data/cdrkit-8.bin
 . "$tests/lib/judging.sh"
 cd "$scratch" || exit 1
 
+# The numbers for JavaScript and Python, of the header, if it has changed since `make`.
+fresh_numbers() { ! command -v python3 > /dev/null || python3 -B "$top/tools/header_numbers.py"; }
+
+# holds COMMAND.., refuses COMMAND..: whether a command succeeds, and says why if not; whether it fails.
+holds() { { "$@" > log; } 2>> log || { tail -n 5 log; false; }; }
+refuses() { ! { "$@" > log; } 2> errors; }
+
+# by_cases WORD.., by_random WORD..: the worked cases by clients that these words name, and random ones by one (tests/cases/clients.py).
+by_cases() { bash "$tests/cases/run" model --without-model "$@"; }
+by_random() { TMPDIR=$PWD bash "$tests/model/run" "$@"; }
+
 # compiled NAME PURPOSE: whether a library of the C source of this name could be made, as NAME.so; else its purpose is skipped.
 compiled() {
     gcc -shared -fPIC -O2 -o "$1.so" "$tests/process/$1.c" -ldl 2> compiler_errors ||

@@ -1,4 +1,4 @@
-# Clients of the library as it is installed from a tarball, and clients of release 1.1.0. tests/library/run has what these use.
+# Clients of the library as it is installed from a tarball, and clients of earlier releases. tests/library/run has what these use.
 
 # with_package PREFIX COMMAND..: a command that finds the installed package.
 with_package() {
@@ -190,12 +190,18 @@ test_editable() {
     judge 'and what is edited is taken' eval "[ \"\$(LD_LIBRARY_PATH=root/usr/lib venv/bin/python -B -c 'import cdpatch; print(*cdpatch.KINDS)')\" = edited ]"
 }
 
+# library_of MAP DIRECTORY: the calls of this library that a version script names, as the shared library of an earlier release had them.
+library_of() {
+    mkdir "$2"
+    gcc -shared -Wl,-soname,libcdpatch.so.1 -Wl,--version-script="$1" -Wl,--whole-archive library/libcdpatch.a -Wl,--no-whole-archive \
+        -o "$2/libcdpatch.so.1"
+}
+
 # A program that was linked to 1.1.0 asks for no version of a call, as its library had none.
-test_old_clients() {
-    local test build linker=(gcc -shared '-Wl,-soname,libcdpatch.so.1')
-    mkdir old
-    printf '{ global: cdpatch_*; local: *; };' > old/calls
-    "${linker[@]}" -Wl,--version-script=old/calls -Wl,--whole-archive library/libcdpatch.a -Wl,--no-whole-archive -o old/libcdpatch.so.1
+test_clients_of_1_1() {
+    local test build
+    printf '{ global: cdpatch_*; local: *; };' > calls.map
+    library_of calls.map old
     for test in check images; do
         compiled_test "$test" old/libcdpatch.so.1 "old/$test"
         judge "a client of a library without versions asks for none: $test.c" eval \
@@ -205,15 +211,45 @@ test_old_clients() {
         done
     done
     # One in which a call of 1.1.0 is gone.
-    mkdir gone
-    printf '{ global: cdpatch_[!k]*; local: *; };' > old/calls
-    "${linker[@]}" -Wl,--version-script=old/calls -Wl,--whole-archive library/libcdpatch.a -Wl,--no-whole-archive -o gone/libcdpatch.so.1
+    printf '{ global: cdpatch_[!k]*; local: *; };' > calls.map
+    library_of calls.map gone
     judge 'a library in which a call is gone is refused' refuses env LD_LIBRARY_PATH=gone old/check "$vectors"
+}
+
+# compiled_before DIRECTORY TEST: a test in C by the header of 1.2.0 there, and by the calls of that release.
+compiled_before() {
+    gcc -std=c99 -O2 -Wall -Wextra -Werror -pedantic -I "$1" "$tests/library/$2.c" before/libcdpatch.so.1 \
+        "-DCDPATCH_MOST_PATCHES=$(limit 'patches of a script')" "-DCDPATCH_MOST_SCRIPT_BYTES=$(limit 'bytes of a script')" \
+        -o "before/$2" 2> errors
+}
+
+# A program that was made with the header of 1.2.0 and its library asks for the versions that the calls had there.
+test_clients_of_1_2() {
+    local test build
+    library_of "$tests/library/1.2.0/calls.map" before
+    for test in check images scripts digest; do
+        compiled_before "$tests/library/1.2.0" "$test"
+        judge "a client of 1.2.0 asks for its versions: $test.c" eval \
+            "readelf -VW before/$test | grep -q CDPATCH_1.[12] && ! readelf -VW before/$test | grep -qE 'CDPATCH_1.([3-9]|[12][0-9])'"
+        for build in "${builds[@]}"; do
+            judge "it runs with $build" holds env LD_LIBRARY_PATH="${build%/*}" "before/$test" "$vectors"
+        done
+    done
+    # One in which a call of 1.2.0 has a later version, and a struct that has changed since.
+    sed 's/cdpatch_read_line;//; s/cdpatch_run_next;/& cdpatch_read_line;/' "$top/tools/libcdpatch.map" > calls.map
+    library_of calls.map raised
+    judge 'a library in which a call has another version is refused' refuses env LD_LIBRARY_PATH=raised before/scripts "$vectors"
+    mkdir exchanged
+    sed 's/uint16_t offset; uint16_t count;/uint16_t count; uint16_t offset;/' "$tests/library/1.2.0/cdpatch.h" > exchanged/cdpatch.h
+    compiled_before exchanged scripts
+    judge 'a header with another record is another' refuses cmp -s "$tests/library/1.2.0/cdpatch.h" exchanged/cdpatch.h
+    judge 'a library whose records were others is refused' refuses env LD_LIBRARY_PATH=library before/scripts "$vectors"
 }
 
 test_installed() {
     compiler gcc 'gcc and libc6-dev' || return
-    test_old_clients
+    test_clients_of_1_1
+    test_clients_of_1_2
     missing make make 'an installed library' && return
     install_tarball
     test_python_client

@@ -64,8 +64,9 @@ has_the_structs() {
 }
 
 test_page_of_modules() {
-    judge 'docs/MODULES.md has the structs as the compiler lays them out' holds has_the_structs "$page_of_modules"
-    [ ${#modules[@]} = 0 ] || judge 'its example runs' runs_the_example "$page_of_modules"
+    [ ${#modules[@]} = 0 ] || judge 'the example of docs/MODULES.md runs' runs_the_example "$page_of_modules"
+    compiler gcc 'gcc and libc6-dev' || return
+    judge 'it has the structs as the compiler lays them out' holds has_the_structs "$page_of_modules"
     wrong_versions 'a wrong page on the modules' || return
     sed 's/`value` 10/`value` 11/' "$page_of_modules" > wrong.md
     judge 'a page with another place is refused' refuses has_the_structs wrong.md

@@ -88,6 +88,8 @@ static void check_texts(const struct room *it) {
     judge(has_text(it->text, cdpatch_last_line(UINT32_MAX, 0, it->text), "applied 4294967295 refused 0\n"), "last_line", 0);
 }
 
+/* This is compiled with the header of 1.2.0 too, which has neither this macro nor the lines of reports. */
+#ifdef CDPATCH_AT_LEAST
 /* The lines of `list` and of `audit`: the longest, each part alone, and those that there are not. */
 static void check_report_lines(const struct room *it, bool at_end) {
     static const char *const kinds[] = {"nosync", "mode0", "mode1", "mode2", "other"};
@@ -123,6 +125,7 @@ static void check_report_lines(const struct room *it, bool at_end) {
     judge(has_text(it->text, cdpatch_audit_end(UINT32_MAX, 3, 2, UINT16_MAX, it->text),
                    "sectors 4294967295 mode1 3 damaged 2 tail 65535\n"), "audit_end", 0);
 }
+#endif
 
 /* ---- lines */
 
@@ -424,7 +427,9 @@ int main(int count, char **arguments) {
     for (int at_end = 0; at_end < 2; at_end++) {
         struct room room = rooms(at_end);
         check_texts(&room);
+#ifdef CDPATCH_AT_LEAST
         check_report_lines(&room, at_end);
+#endif
         check_cutting(&room, at_end);
         check_contents(&room, at_end);
         check_patches_read(&room, at_end);

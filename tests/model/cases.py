@@ -237,6 +237,27 @@ def some_case(seed, number):
     return Case(command, image, base, carry, text, piped, words, note)
 
 
+# Bytes that mean something in scripts, and others.
+HARM = [b'\n', b'\r', b'\r\n', b' ', b'\t', b'#', b'0', b'9', b'f', b':', b'was', b'\0', b'\xff', b'\xef\xbb\xbf', b'cdpatch 2\n',
+        b'999999999']
+
+
+def harmed_bytes(dice, data, pieces):
+    """Bytes of which some are changed, cut out, doubled, or come between."""
+    for _ in range(dice.choice([1, 1, 2, 4, 16])):
+        at, count = dice.randint(0, len(data)), dice.choice([0, 1, 1, 2, 8])
+        data = data[:at] + dice.choice([b'', dice.choice(pieces), data[at:at + count] * 2]) + data[at + count:]
+    return data
+
+
+def harmed(seed, number):
+    """The case of this number with changes that nobody makes, in its script, or in its image if it has none."""
+    case, dice = some_case(seed, number), random.Random(f'{seed}/{number}/harm')
+    if case.command in ('check', 'apply'):
+        return case._replace(script=harmed_bytes(dice, case.script, HARM))
+    return case._replace(image=harmed_bytes(dice, case.image, [bytes(1), SYNC, dice.randbytes(3)]))
+
+
 def image_kinds(case):
     """What kinds of case an image makes of a case."""
     sectors, tail = cut(case.image)

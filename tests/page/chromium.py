@@ -43,6 +43,31 @@ addEventListener('error', event => caught.push(`error: ${event.message}`));
 addEventListener('unhandledrejection', event => caught.push(`rejection: ${event.reason}`));
 '''
 
+# What does not fit its window, when the page has drawn itself anew: how far it goes on below its footer and at its right, controls that
+# are cut at a side, and controls that lie over one another.
+MISFITS = '''const [width, done] = arguments, within = '.scroll, .hex, .editor, .hide, .fields, .log';
+    const drawn = () => {
+        const root = document.documentElement, words = it => (it.innerText || it.id).trim();
+        const foot = document.querySelector('footer').getBoundingClientRect().bottom + scrollY;
+        const shown = [...document.querySelectorAll('button, input, select, textarea, summary, dd, h1, h2, .tag')].filter(it =>
+            it.checkVisibility({ visibilityProperty: true }) && it.closest(within) === null && it.getBoundingClientRect().width > 1);
+        const cut = shown.filter(it => {
+            const { right, left } = it.getBoundingClientRect();
+            return right > width + 1 || left < -1;
+        });
+        const sheet = document.querySelector('dialog[open], :popover-open');
+        const controls = shown.filter(it => it.matches('button, input, select, textarea') && (!sheet || sheet.contains(it)));
+        const over = controls.flatMap((one, i) => controls.slice(i + 1).filter(other => {
+            const [a, b] = [one, other].map(it => it.getBoundingClientRect());
+            return !one.contains(other) && Math.min(a.right, b.right) - Math.max(a.left, b.left) > 1 &&
+                Math.min(a.bottom, b.bottom) - Math.max(a.top, b.top) > 1;
+        }).map(other => `${words(one)} lies over ${words(other)}`));
+        const [below, wide] = [root.scrollHeight - Math.max(Math.ceil(foot), innerHeight), root.scrollWidth - width];
+        done([...below > 0 ? [`goes on ${below} below its footer`] : [], ...wide > 0 ? [`is ${wide} too wide`] : [],
+            ...cut.map(it => `cut: ${words(it)}`), ...over]);
+    };
+    requestAnimationFrame(() => requestAnimationFrame(drawn))'''
+
 
 class Chromium:
     """One window. `downloads` is where it saves files."""
@@ -195,6 +220,13 @@ class Chromium:
             over.append(int(self.driver.execute_async_script(drawn)) - width)
         self.size(1280)
         return max(over)
+
+    def misfits(self, width: int) -> list[str]:
+        """What does not fit a window of this width."""
+        self.size(width)
+        found: list[str] = self.driver.execute_async_script(MISFITS, width)
+        self.size(1280)
+        return found
 
     def nameless(self) -> list[str]:
         """The controls that have no name in the accessibility tree."""

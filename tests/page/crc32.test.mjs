@@ -6,7 +6,7 @@ import { gzipSync } from 'node:zlib';
 
 import { page } from './page.mjs';
 
-const { crc32 } = await page('app/crc32.js');
+const { crc32, joinedCrc } = await page('app/crc32.js');
 
 test('the CRC-32 is that of gzip, in whatever parts the bytes come', () => {
     assert.equal(crc32(0, new TextEncoder().encode('123456789')), 0xCBF43926);
@@ -17,5 +17,14 @@ test('the CRC-32 is that of gzip, in whatever parts the bytes come', () => {
         const due = packed.readUInt32LE(packed.length - 8);
         assert.equal(crc32(0, part), due, `${from} to ${to}`);
         assert.equal(crc32(crc32(0, part.subarray(0, cut)), part.subarray(cut)), due, `${from} to ${to}, cut at ${cut}`);
+    }
+});
+
+test('the CRC-32 of parts gives that of all', () => {
+    const bytes = Uint8Array.from({ length: 70000 }, (_, i) => i * i >>> 3);
+    for (const [size, cut] of [[0, 0], [9, 0], [9, 9], [10, 9], [70000, 1], [70000, 2352], [70000, 4464]]) {
+        const part = bytes.subarray(0, size);
+        const joined = joinedCrc(crc32(0, part.subarray(0, cut)), crc32(0, part.subarray(cut)), size - cut);
+        assert.equal(joined, crc32(0, part), `${size} bytes, cut at ${cut}`);
     }
 });

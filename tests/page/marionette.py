@@ -102,6 +102,11 @@ class Firefox:
         for file in files:
             self.command('WebDriver:ElementSendKeys', id=self.element(css), text=str(file))
 
+    def memory(self) -> int:
+        """The bytes of memory that its first process has, which saves files."""
+        [size] = [row.split()[1] for row in Path(f'/proc/{self.process.pid}/status').read_text().splitlines() if row.startswith('VmRSS:')]
+        return int(size) * 1024
+
     def downloaded(self, name: str, seconds: float = PATIENCE) -> Path:
         """A file that was downloaded under this name. It is there and empty while its bytes come as NAME.part."""
         path = self.downloads / name

@@ -25,11 +25,11 @@ class HashWorker {
         this.sha1 = new Sha1(calls);
     }
 
-    postMessage({ module, bytes }) {
+    postMessage({ module, sum }) {
         if (module) return;
-        if (bytes) this.sha1.add(bytes);
-        const digest = bytes ? null : this.sha1.digest();
-        setImmediate(() => this.onmessage({ data: { digest, crc: 0 } }));
+        if (sum) this.sha1.add(sum);
+        const digest = sum ? null : this.sha1.digest();
+        setImmediate(() => this.onmessage({ data: { digest } }));
     }
 
     terminate() {}
@@ -37,6 +37,12 @@ class HashWorker {
 
 /** The parts of a page whose workers hash. */
 export const parts = { module: true, newWorker: () => new HashWorker() };
+
+const { Crew, JOBS, localHand } = await core('jobs.js');
+JOBS.sums = (await page('app/sums_job.js')).sumsJob;
+
+/** What hashes images and surveys them, without workers but for the SHA-1. */
+export const summing = { crew: new Crew([localHand(calls)]), parts };
 
 /** An image of sound sectors with this user data, which are filled up with zeros. */
 export function imageOf(users) {

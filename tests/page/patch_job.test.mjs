@@ -7,7 +7,8 @@ import { MESSAGES } from '../lib/messages.mjs';
 import { calls, imageOf, page, parts, writtenBy } from './page.mjs';
 
 const { checkWork, saveWork } = await page('save/patch_job.js');
-const { savePieces } = await page('save/pieces.js');
+const { saveImage } = await page('save/pieces.js');
+const { fileReader } = await page('open/file_reader.js');
 
 const game = imageOf([new Uint8Array(4), Uint8Array.of(1, 2, 3)]);
 const file = Object.assign(new Blob([game.bytes]), { name: 'game.bin', lastModified: 7 });
@@ -48,11 +49,22 @@ beforeEach(() => {
     globalThis.document = { createElement: anchor, body: { append() {} } };
 });
 
+/** Who gives pieces when the file is chosen. */
+const making = pieces => async () => async take => { for (const piece of pieces) await take(piece); };
+
 const work = (more = {}) => ({ reader, base: 0, script, carry: false, ...more });
 
 test('a check counts blocks from the base of the image', async () => {
     const { outcomes } = await checkWork(app, work({ base: 1, script: 'cdpatch 1\nset 1 0 41 was 00\nset 0 0 41\n' }), watch);
     assert.deepEqual(outcomes.map(it => it.result), [4, 0]);
+});
+
+test('a check of a file says how far it has come, and can be cancelled', async () => {
+    const told = [];
+    const ask = signal => checkWork(app, work({ reader: fileReader(file) }), { signal, progress: (...given) => told.push(given) });
+    assert.equal((await ask({ aborted: false })).status, 0);
+    assert.deepEqual(told[0], [0, game.bytes.length]);
+    await assert.rejects(ask({ aborted: true }), { name: 'Fault', code: 'cancelled' });
 });
 
 test('a script that says another base is refused', async () => {
@@ -68,20 +80,20 @@ test('what is downloaded is the patched image, with carry as it was chosen', asy
     const hurt = { size: damaged.length, read: async (at, length) => damaged.slice(at, at + length), file: blob };
     for (const [carry, bytes] of [[false, [0, 0x42]], [true, [0x41, 0x42]]]) {
         const saved = await saveWork(app, work({ reader: hurt, carry }), 'out.bin', '', watch);
-        const made = new Uint8Array(await saved.blob.arrayBuffer());
+        const made = new Uint8Array(await saved.file.arrayBuffer());
         assert.deepEqual([made[16], made[2352 + 16]], bytes);
     }
     assert.equal(given.downloads.length, 2);
 });
 
 test('an image that is not the one that is wanted is neither downloaded nor kept', async () => {
-    await assert.rejects(saveWork(app, work(), 'out.bin', '0'.repeat(40), watch), { message: /its SHA-1 is another one/ });
+    await assert.rejects(saveWork(app, work(), 'out.bin', '0'.repeat(40), watch), { message: /its SHA-1 does not match/ });
     assert.equal(given.downloads.length, 0);
-    const { blob } = await saveWork(app, work(), 'out.bin', '', watch);
-    const right = shaOf(new Uint8Array(await blob.arrayBuffer()));
+    const { file: made } = await saveWork(app, work(), 'out.bin', '', watch);
+    const right = shaOf(new Uint8Array(await made.arrayBuffer()));
     assert.equal((await saveWork(app, work(), 'out.bin', right, watch)).sha1, right);
     const chosen = choosing(chosenFile());
-    await assert.rejects(saveWork(app, work(), 'out.bin', '0'.repeat(40), watch), { message: /its SHA-1 is another one/ });
+    await assert.rejects(saveWork(app, work(), 'out.bin', '0'.repeat(40), watch), { message: /its SHA-1 does not match/ });
     assert.deepEqual([chosen.state, chosen.removed], ['aborted', true]);
     await saveWork(app, work(), 'out.bin', right, watch);
     assert.equal(chosen.state, 'closed');
@@ -90,7 +102,7 @@ test('an image that is not the one that is wanted is neither downloaded nor kept
 test('the open image is never written over', async () => {
     const chosen = choosing(chosenFile({ name: 'game.bin', size: file.size, lastModified: 7 }));
     await assert.rejects(saveWork(app, work(), 'out.bin', '', watch), { message: /is the open image itself/ });
-    await assert.rejects(savePieces([reader], [], 'out.bin', [], watch), { message: /is the open image itself/ });
+    await assert.rejects(saveImage([reader], making([]), 'out.bin', [], watch), { message: /is the open image itself/ });
     assert.deepEqual([chosen.state, chosen.written, chosen.removed], ['none', [], false]);
 });
 
@@ -99,7 +111,7 @@ test('a chosen file that has the name of another open one is refused, and a new 
     const refused = { message: 'Another open file has this name: out.bin' };
     const fresh = choosing(chosenFile());
     await assert.rejects(saveWork(app, work({ opened }), 'out.bin', '', watch), refused);
-    await assert.rejects(savePieces([reader], [], 'out.bin', opened, watch), refused);
+    await assert.rejects(saveImage([reader], making([]), 'out.bin', opened, watch), refused);
     assert.deepEqual([fresh.state, fresh.written, fresh.removed], ['none', [], true]);
     const old = choosing(chosenFile({ size: 7 }));
     await assert.rejects(saveWork(app, work({ opened }), 'out.bin', '', watch), refused);
@@ -140,11 +152,11 @@ test('a repaired image is saved whole', async () => {
     const blobs = [];
     const { createObjectURL } = URL;
     URL.createObjectURL = blob => { blobs.push(blob); return 'blob:x'; };
-    await savePieces([reader], pieces, 'out.bin', [], watch);
+    await saveImage([reader], making(pieces), 'out.bin', [], watch);
     URL.createObjectURL = createObjectURL;
     const wanted = [...game.bytes.slice(0, 2352), ...pieces[1].bytes];
     assert.deepEqual([...new Uint8Array(await blobs[0].arrayBuffer())], wanted);
     const chosen = choosing(chosenFile());
-    await savePieces([reader], pieces, 'out.bin', [], watch);
+    await saveImage([reader], making(pieces), 'out.bin', [], watch);
     assert.deepEqual([...await writtenBy(chosen.written)], wanted);
 });

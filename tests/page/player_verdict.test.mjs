@@ -10,8 +10,9 @@ const { reasonForPlayer, reasonsOf } = await page('player/reason.js');
 const { applyPatches } = await page('../core/script/patches.js');
 const { bytesOfPieces } = await page('../core/bytes.js');
 const { scriptFor } = await page('save/patch_job.js');
+const { Crew, localHand } = await page('../core/jobs.js');
 
-const app = { calls, parts };
+const app = { calls, parts, crew: new Crew([localHand(calls)]) };
 const ascii = text => new TextEncoder().encode(text);
 const game = imageOf([ascii('hello'), ascii('world'), ascii('again')]);
 
@@ -84,7 +85,7 @@ test('only the SHA-1 says that an image is right or patched', async () => {
     const image = { size: author.bytes.length, sha1: sha1(author) };
     const [verdict, words] = await said(zeros, script, { image });
     assert.equal(verdict, 'changed');
-    assert.equal(words, 'There is nothing to patch. But this is not the image that the author made: its SHA-1 is another one. ' +
+    assert.equal(words, 'There is nothing to patch. But this is not the image that the author made: its SHA-1 does not match. ' +
         'Your image has 16,464 bytes, and the author’s has 11,760.');
     assert.equal((await said(zeros, script, { image, result: sha1(zeros) }))[0], 'patched');
     assert.equal((await said(author, 'cdpatch 1\nset 3 0 42\n', { image }))[0], 'right');
@@ -98,13 +99,13 @@ test('an image fits only if it is as long as the author’s and all that is writ
     const image = { size, sha1: '' };
     const set = 'set 0 0 4A was 68\n';
     const rows = [
-        [`${set}set 1 0 41 was 77\n`, image, 'fits', /^All 2 places hold the bytes that the author saw\. The rest of the disc differs/],
-        [set, image, 'fits', /^The place holds/],
-        [`${set}set 1 0 41\n`, image, 'unknown', /^1 of 2 changes names no old bytes, so nothing shows whether it fits\.$/],
-        ['set 0 0 41\nfill 1 0 100 00\n', image, 'unknown', /^2 of 2 changes name no old bytes, so nothing shows whether they fit\.$/],
+        [`${set}set 1 0 41 was 77\n`, image, 'fits', /^All 2 places match\. The rest of the disc differs from the author’s\. 1 sector of your image is damaged\.$/],
+        [set, image, 'fits', /^The place matches\./],
+        [`${set}set 1 0 41\n`, image, 'unknown', /^1 of 2 changes names no old bytes, so nothing shows whether it fits\. 1 sector of your image is damaged\.$/],
+        ['set 0 0 41\nfill 1 0 100 00\n', image, 'unknown', /^2 of 2 changes name no old bytes, so nothing shows whether they fit\. 1 sector/],
         [`${set}fill 1 0 1 41\n`, image, 'unknown', /^1 of 2/],
         [`${set}rebuild 1\n`, image, 'unknown', /^1 of 2/],
-        [set, { size: size + 2352, sha1: '' }, 'unknown', /^The place holds .* Your image has 7,056 bytes, and the author’s has 9,408\.$/],
+        [set, { size: size + 2352, sha1: '' }, 'unknown', /^The place matches, but .* Your image has 7,056 bytes, and the author’s has 9,408\. 1 sector/],
     ];
     for (const [lines, wanted, verdict, words] of rows) {
         const [it, text] = await said(other, `cdpatch 1\n${lines}`, { image: wanted });
@@ -112,4 +113,12 @@ test('an image fits only if it is as long as the author’s and all that is writ
         assert.match(text, words);
     }
     assert.equal((await said(other, 'cdpatch 2\naddress 1 00:02:05\n', { image }))[0], 'unknown');
+});
+
+test('how much of an image that fits is damaged is counted', async () => {
+    const script = 'cdpatch 1\nset 0 0 4A was 68\n';
+    const image = { size: game.bytes.length, sha1: '' };
+    const sound = imageOf([ascii('hello'), ascii('earth'), ascii('again')]);
+    assert.match((await said(sound, script, { image }))[1], /differs from the author’s: perhaps its music is shifted\.$/);
+    assert.match((await said(changed(changed(sound, 2352 + 20), 2 * 2352 + 20), script, { image }))[1], / 2 sectors of your image are damaged\.$/);
 });

@@ -203,6 +203,22 @@ test('while a Blob is made of many pieces, others get their turn', async () => {
     assert.ok(most <= 250, `${most} slices at once`);
 });
 
+test('in Firefox an image that is downloaded comes from a file of its own, if that can be written', async t => {
+    const asked = [];
+    const own = t.mock.method(Response.prototype, 'blob', async function () {
+        asked.push(this);
+        return new Blob(['own']);
+    });
+    const textOf = async () => (await blobOfPieces(new Blob([old]), [{ from: 0, to: 3 }])).text();
+    assert.equal(await textOf(), '\0\x01\x02');
+    globalThis.mozInnerScreenX = 0;
+    t.after(() => { delete globalThis.mozInnerScreenX; });
+    assert.equal(await textOf(), 'own');
+    assert.equal(asked.length, 1);
+    own.mock.mockImplementation(async () => { throw new Error('no room'); });
+    assert.equal(await textOf(), '\0\x01\x02');
+});
+
 test('the pace says percent, rate and time left', () => {
     const pace = new Pace(1000, 5000);
     assert.deepEqual(pace.at(250, 7000), { percent: 25, rate: 125, left: 6 });

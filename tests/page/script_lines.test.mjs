@@ -3,8 +3,9 @@
 import assert from 'node:assert/strict';
 import { test } from 'node:test';
 import { MESSAGES } from '../lib/messages.mjs';
-import { calls, page } from './page.mjs';
+import { calls, core, page } from './page.mjs';
 
+const { modelInParts } = await core('script/model.js');
 const { ScriptLines } = await page('app/script_lines.js');
 
 function linesOf(text) {
@@ -70,6 +71,30 @@ test('another text is one edit of the lines that differ, with its name', () => {
     lines.redo();
     lines.redo();
     assert.deepEqual([lines.name, lines.text()], ['other.txt', 'cdpatch 2\naddress 0 00:02:00\nrebuild 2\n']);
+});
+
+test('a long script is read in parts, with a turn for others between them, as all of it at once', async () => {
+    const row = i => i % 1000 === 7 ? 'rebuild x' : i % 3 ? `fill ${i} 5 2 41` : '# é';
+    for (const head of ['cdpatch 1', '# no head', 'cdpatch 2']) {
+        const text = [head, '', ...Array.from({ length: 12000 }, (_, i) => row(i)), ''].join('\n');
+        let turns = 0;
+        const known = await modelInParts(calls, text, async () => {
+            turns += 1;
+            calls.hold(new Uint8Array(9)); // what others do meanwhile
+        });
+        assert.equal(turns, 2);
+        const [lines, due] = [linesOf('cdpatch 1\nrebuild 1\n'), linesOf(text)];
+        lines.take(text, 'long.txt', known);
+        const facts = ({ lines: all, head: at, version, patches, faults, size, blocks }) => [all, at, version, patches, faults, size, blocks];
+        assert.deepEqual(facts(lines), facts(due));
+        assert.equal(lines.text(), text);
+        lines.edit(3, 1, ['rebuild 4']);
+        due.edit(3, 1, ['rebuild 4']);
+        assert.deepEqual(facts(lines), facts(due));
+        lines.undo();
+        lines.undo();
+        assert.equal(lines.text(), 'cdpatch 1\nrebuild 1\n');
+    }
 });
 
 test('lines that are added stay among those before, and bytes that are typed on are one step', () => {

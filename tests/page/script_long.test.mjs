@@ -7,6 +7,7 @@ import { calls, page } from './page.mjs';
 
 const { ScriptLines } = await page('app/script_lines.js');
 const { isLong } = await page('app/script_long.js');
+const { MOST_HELPED, chosenHelps } = await page('script/helps.js');
 
 test('a script is too long above 4 MB, or 150,000 lines', () => {
     assert.equal(isLong(`cdpatch 1\n${'#'.repeat(3999990)}`), false);
@@ -35,7 +36,7 @@ test('of the longest script whose lines are shown each line is read once, and on
 
 test('the words of a fault are made once, however many lines have it', () => {
     const lines = new ScriptLines(calls);
-    lines.replace(`cdpatch 1\n${'x\nset 0 0\n'.repeat(500)}`, '', '');
+    lines.replace(`cdpatch 1\n${'x\nset 0 0\n'.repeat(500)}`, '');
     let made = 0;
     const faultLine = calls.faultLine.bind(calls);
     calls.faultLine = (number, fault) => { made += 1; return faultLine(number, fault); };
@@ -48,6 +49,17 @@ test('the words of a fault are made once, however many lines have it', () => {
         calls.faultLine = faultLine;
     }
     assert.equal(made, 2);
+});
+
+test('of many wrong lines only the first have help under them, one for several that want the same', () => {
+    const lines = new ScriptLines(calls);
+    lines.replace(`cdpatch 1\n${'x\nx\n\nset 0 0\n'.repeat(20000)}`, '');
+    const asked = [];
+    const helps = chosenHelps(lines, i => { asked.push(i); return { text: lines.lines[i].text, says: '' }; });
+    assert.deepEqual([...helps.keys()].slice(0, 4), [1, 4, 5, 8]);
+    assert.equal(asked.length, MOST_HELPED);
+    assert.equal(Math.max(...helps.keys()), asked[MOST_HELPED - 1]);
+    assert.equal(chosenHelps(new ScriptLines(calls), () => assert.fail()).size, 0);
 });
 
 test('a long script takes the place of all lines, is given out whole, and makes way for them again', () => {

@@ -33,7 +33,16 @@ test('each fault has a sentence, and some a line that mends it', () => {
     assert.match(said('address 1 00:60:00').text, /SS to 59/);
     assert.deepEqual(said('SET 1 2 41').fix, { says: 'set?', lines: ['set 1 2 41'] });
     assert.match(said('replace 1 2 41').text, /The verbs are/);
-    assert.match(said('cdpatch 1').text, /one head line/);
+    for (const line of ['cdpatch 1', 'CDPATCH 2']) assert.match(said(line).text, /one head line/);
+});
+
+test('a verb of a later version asks for its head line, and a word of another place for none', () => {
+    const help = line => helpOfFault(new ScriptLines(calls, `cdpatch 1\n${line}`), 1);
+    const fix = { says: 'Make it cdpatch 2', lines: ['cdpatch 2'], head: true };
+    assert.deepEqual(help('address 1 00:02:00'), { text: 'The verb address needs the head line cdpatch 2.', fix });
+    assert.deepEqual(help('address 1'), { text: 'The verb address needs the head line cdpatch 2.', fix });
+    assert.match(help('adress 1 00:02:00').text, /The verbs are/);
+    assert.match(help('set 1 2 41 was 4').text, /odd number of digits: 1/);
 });
 
 test('each fault that the program has words for has a sentence', () => {

@@ -5,7 +5,7 @@ import { test } from 'node:test';
 import { calls, imageOf, page } from './page.mjs';
 
 const { crossingsOf } = await page('disc/crossings.js');
-const { otherBase, placeGuess, placesOf } = await page('disc/places.js');
+const { isAllOver, otherBase, placeGuess, placesOf } = await page('disc/places.js');
 const { MARK, SurveyMarks } = await page('app/marks.js');
 
 test('bytes are named at which broken columns and diagonals cross', () => {
@@ -35,12 +35,29 @@ test('a base by which no sector has its address is not called copy protection, a
     const addresses = Array.from({ length: 10 }, (_, i) => i);
     const all = [...addresses];
     const wrong = marksOf(100, addresses, all);
-    assert.deepEqual(placesOf(wrong).map(place => placeGuess(place, wrong.isElsewhere())), ['another base?']);
+    assert.deepEqual(placesOf(wrong).map(place => placeGuess(place, wrong.isElsewhere(), 10)), ['another base?']);
     assert.equal(otherBase({ base: 100, addressed: 0 }, wrong), 0);
     const right = marksOf(0, addresses, all);
-    assert.deepEqual(placesOf(right).map(place => placeGuess(place, right.isElsewhere())),
+    assert.deepEqual(placesOf(right).map(place => placeGuess(place, right.isElsewhere(), 10)),
         ['10 in a row: perhaps on purpose (copy protection)']);
     const one = marksOf(100, [100, ...addresses.slice(1)]);
     const cases = [[0, 0, right], [100, 0, one], [100, null, wrong], [0, -150, wrong]];
     assert.deepEqual(cases.map(([base, addressed, marks]) => otherBase({ base, addressed }, marks)), [null, null, null, null]);
+});
+
+test('only what is about a turn apart is called a scratch', () => {
+    const known = 300000;
+    /** What is guessed of 40 damaged sectors at a distance. */
+    const guessed = (first, distance, count = 40) => {
+        const marks = new Uint8Array(known);
+        for (let i = 0; i < count; i++) marks[first + i * distance] = MARK.EDC;
+        return placesOf({ marks, known }).map(place => [placeGuess(place, false, known), isAllOver(place, known)]);
+    };
+    // A turn has 9 sectors at the beginning of a disc, and 21 at its end.
+    assert.deepEqual(guessed(100, 9), [['a scratch: every 9th sector', false]]);
+    assert.deepEqual(guessed(280000, 21), [['a scratch: every 21st sector', false]]);
+    for (const [first, distance, words] of [[100, 21, '21st'], [280000, 9, '9th'], [280000, 34, '34th'], [100, 541, '541st']]) {
+        assert.deepEqual(guessed(first, distance), [[`every ${words} sector`, false]]);
+    }
+    assert.deepEqual(guessed(100, 541, 500), [['every 541st sector all over the disc', true]]);
 });

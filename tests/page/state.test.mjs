@@ -10,16 +10,27 @@ const { Typing } = await page('disc/typing.js');
 test('a byte that is typed twice keeps what was there first', () => {
     const app = new App(calls, null, null);
     const typing = new Typing(app);
-    for (const [offset, byte, before] of [[5, 0x41, 1], [6, 0x42, 2], [5, 0x43, 0x41], [7, 0x44, 3]]) typing.type(9, offset, byte, before);
+    const types = (offset, byte, before) => typing.type(9, offset, Uint8Array.of(byte), Uint8Array.of(before));
+    for (const [offset, byte, before] of [[5, 0x41, 1], [6, 0x42, 2], [5, 0x43, 0x41], [7, 0x44, 3]]) types(offset, byte, before);
     assert.equal(app.script.text(), 'cdpatch 1\nset 9 5 434244 was 010203\n');
-    typing.type(9, 100, 0x45, 4);
+    types(100, 0x45, 4);
     assert.equal(app.script.text(), 'cdpatch 1\nset 9 5 434244 was 010203\nset 9 100 45 was 04\n');
     app.script.edit(0, 1, ['cdpatch 1', '# first']);
-    typing.type(9, 101, 0x46, 5);
+    types(101, 0x46, 5);
     assert.equal(app.script.text(), 'cdpatch 1\n# first\nset 9 5 434244 was 010203\nset 9 100 4546 was 0405\n');
     app.script.edit(3, 1, ['set 9 100 4546 was 0405 ']);
-    typing.type(9, 102, 0x47, 6);
+    types(102, 0x47, 6);
     assert.equal(app.script.text(), 'cdpatch 1\n# first\nset 9 5 434244 was 010203\nset 9 100 4546 was 0405 \nset 9 102 47 was 06\n');
+});
+
+test('bytes that are pasted are one line, which grows with what is typed after them', () => {
+    const app = new App(calls, null, null);
+    const told = [];
+    app.on('script', () => { told.push(app.script.text()); });
+    const typing = new Typing(app);
+    typing.type(9, 5, Uint8Array.of(0x41, 0x42, 0x43), Uint8Array.of(1, 2, 3));
+    typing.type(9, 7, Uint8Array.of(0x44, 0x45), Uint8Array.of(0x43, 4));
+    assert.deepEqual(told, ['cdpatch 1\nset 9 5 414243 was 010203\n', 'cdpatch 1\nset 9 5 41424445 was 01020304\n']);
 });
 
 test('who takes another script is given back the one that was in no file', () => {

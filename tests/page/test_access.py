@@ -1,83 +1,58 @@
-"""For everyone: each control has a name, tab stops are counted, and no panel is wider than a phone."""
+"""For everyone: where the focus goes when something is drawn anew, and when a sheet or a note closes. tests/page/test_states.py has the rest."""
 
 from collections.abc import Callable
 
-import common
 import discs
-from pages import PageTest, applied, patcher
+from pages import BUTTON
+from selenium.webdriver.common.keys import Keys
+from states import States
 
-# How many stops of the Tab key a panel has at most, the bar and the footer among them.
-MOST_STOPS = {'start': 12, 'script': 34, 'text': 34, 'publish': 28, 'player': 14}
+# What has the focus, by its name for screen readers.
+HAS_FOCUS = 'const it = document.activeElement; return it === document.body ? "" : it.id || it.innerText.replace(/\\s+/g, " ").trim()'
 
 
-class Access(PageTest):
-    def states(self) -> dict[str, Callable[[], None]]:
-        """How each state is reached."""
-        return {'start': lambda: None, 'script': self.to_script, 'text': self.to_text, 'publish': self.to_publish, 'player': self.to_player}
+class Access(States):
+    def has_focus(self) -> str:
+        return str(self.browser.run(HAS_FOCUS))
 
-    def to_script(self) -> None:
-        files = discs.written(game=discs.scratched(), english=discs.refused())
-        self.open_image(files['game'])
-        self.open_script(files['english'])
-        self.press('Check')
-        self.browser.wait('.tally', 'not fit')
-
-    def to_text(self) -> None:
-        self.open_image(discs.written(game=discs.game())['game'])
-        self.browser.click('#tab-text')
-        self.browser.type('#find-text', 'スタート')
-        self.press('Find')
-        self.browser.wait('#panel-text .hits mark')
-        self.browser.type('#new-text', 'Start')
-
-    def to_publish(self) -> None:
-        files = discs.written(game=discs.game(), english=discs.script())
-        self.open_image(files['game'])
-        self.open_script(files['english'])
-        self.browser.click('#tab-publish')
-        self.browser.wait('#panel-publish', 'tried on this image')
-
-    def to_player(self) -> None:
-        files = discs.written(game=discs.game(), english=discs.script())
-        path = common.folder('patcher') / 'patcher.html'
-        path.write_bytes(patcher(discs.game(), applied(files['game'], files['english'])[2], discs.script()))
-        self.browser.open(path)
-        self.browser.wait('#player h1')
-        self.browser.give('#player-files', [files['game']])
-        self.browser.wait('#verdict')
-
-    def reach(self, name: str) -> None:
-        self.browser.open(common.PAGE)
-        self.browser.wait('#start h1')
-        self.states()[name]()
-
-    def judge(self, name: str) -> None:
-        """A state: each control has a name, tab stops are few and come round, and it is no wider than its window."""
-        self.reach(name)
-        self.assertEqual(self.browser.nameless(), [])
-        stops = self.browser.tab_stops()
-        self.assertLessEqual(len(stops), MOST_STOPS[name], stops)
-        self.assertGreater(len(stops), 4, stops)
-        for width in (360, 900, 1280, 1600):
-            self.assertLessEqual(self.browser.wider(width), 0, width)
-
-    def test_the_start_is_for_everyone(self) -> None:
-        self.judge('start')
-
-    def test_the_script_is_for_everyone(self) -> None:
-        self.judge('script')
-
-    def test_texts_are_for_everyone(self) -> None:
-        self.judge('text')
-
-    def test_publishing_is_for_everyone(self) -> None:
-        self.judge('publish')
-
-    def test_a_patcher_is_for_everyone(self) -> None:
-        self.judge('player')
+    def press_by_key(self, label: str) -> None:
+        """Presses the first button that begins so by the keyboard."""
+        self.browser.run(f'const it = (() => {{ {BUTTON} }})(); it.focus()', label)
+        self.browser.press(Keys.ENTER)
 
     def test_the_focus_stays_on_what_is_shown(self) -> None:
-        self.reach('text')
-        self.browser.press('\ue007')
+        self.begin(discs.game())
+        self.search('スタート')
+        self.browser.wait('#panel-text .hits mark')
+        self.browser.type('#new-text', 'Start')
+        self.browser.press(Keys.ENTER)
         self.browser.wait('.hits', 'in the script, line 2')
-        self.assertEqual(self.browser.run('return document.activeElement.id'), 'new-text')
+        self.assertEqual(self.has_focus(), 'new-text')
+
+    def test_the_focus_goes_back_when_a_sheet_closes(self) -> None:
+        self.to_close_asked()
+        self.browser.press(Keys.ESCAPE)
+        ends: list[Callable[[], None]] = [lambda: self.browser.press(Keys.ESCAPE), lambda: self.browser.answer('Cancel')]
+        for end in ends:
+            self.press_by_key('Close')
+            self.browser.wait('#sheet', 'Close it anyway')
+            end()
+            self.browser.wait('#panel-script')
+            self.assertEqual(self.has_focus(), 'Close the image')
+
+    def test_the_focus_stays_in_a_sheet_while_it_asks(self) -> None:
+        self.to_second_asked()
+        self.assertEqual(self.has_focus(), 'Repair Hoshizora Tantei (Japan).bin from it')
+        self.assertEqual(self.browser.tab_stops(8), ['Compare', 'Open it instead', 'Cancel'])
+
+    def test_the_focus_goes_back_to_the_word_when_its_note_closes(self) -> None:
+        self.begin(discs.game(), discs.script())
+        self.browser.click('#tab-disc')
+        for css in ('#panel-disc .term', '[popovertarget=keys]', '[popovertarget=about]'):
+            self.browser.run('document.querySelector(arguments[0]).focus()', css)
+            label = self.has_focus()
+            self.browser.press(Keys.ENTER)
+            self.browser.wait(':popover-open')
+            self.browser.press(Keys.ESCAPE)
+            self.assertFalse(self.browser.run('return document.querySelector(":popover-open") !== null'))
+            self.assertEqual(self.has_focus(), label)

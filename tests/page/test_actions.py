@@ -1,10 +1,15 @@
 """How many actions each job takes: to choose files, to drop them, to press a button."""
 
+import base64
+import zlib
 from pathlib import Path
 
 import common
 import discs
 from pages import NO_PICKER, PageTest, applied, patcher
+
+SENTENCES = ['ゲームをはじめからスタートします。', 'セーブしますか？それともつづけますか？', 'ドアは鍵がかかっている。だれかいるのか？',
+             '星空探偵、登場。事件はまだ終わらない。', 'この写真をどこで見つけましたか？']
 
 # Buttons that open the browser's picker do no more: a test gives the files.
 NO_CHOICE = f'{NO_PICKER}; HTMLInputElement.prototype.click = function () {{}};'
@@ -36,6 +41,24 @@ class Actions(PageTest):
     def presses(self, button: str) -> None:
         self.actions += 1
         self.press(button)
+
+    def types(self, field: str, text: str) -> None:
+        self.actions += 1
+        self.browser.type(field, text)
+
+    def opens(self, panel: str) -> None:
+        self.actions += 1
+        self.browser.click(f'#tab-{panel}')
+
+    def publishes(self) -> str:
+        """Saves the script as a patcher, and returns it."""
+        self.opens('publish')
+        self.types('#patcher-title', 'Starlit')
+        common.waited(lambda: not self.is_off('Save as a patcher'), 'the patcher cannot be saved')
+        self.presses('Save as a patcher')
+        page = self.browser.downloaded('Starlit.html').read_bytes()
+        packed = page[len(common.PAGE.read_bytes()):].split(b'\n')[1]
+        return zlib.decompress(base64.b64decode(packed)).split(b'\n', 1)[1].decode()
 
     def answers(self, button: str) -> None:
         self.actions += 1
@@ -110,3 +133,34 @@ class Actions(PageTest):
         self.answers('Open it instead')
         self.browser.wait('#disc-line .name', 'changed.bin')
         self.assertEqual(self.actions, 2)
+
+    def test_the_translator_of_one_text_takes_eight(self) -> None:
+        self.chooses('Translate a disc', self.written()['game'])
+        self.wait_for_hash()
+        self.types('#find-text', 'スタート')
+        self.presses('Find')
+        self.browser.wait('#panel-text .hits mark')
+        self.types('#new-text', 'Start')
+        self.presses('Replace')
+        self.browser.wait('#count-script', '1')
+        self.assertIn(f'set {discs.first_block()} 0 {"Start".ljust(8).encode().hex().upper()} was', self.publishes())
+        self.assertEqual(self.actions, 8)
+
+    def test_the_translator_of_a_table_of_300_texts_takes_eight(self) -> None:
+        texts = [f'第{number}章、{text}' for number in range(60) for text in SENTENCES]
+        data = b'\0'.join(text.encode('cp932') for text in texts) + b'\0'
+        image = discs.written(game=common.image_of(common.iso_of({'DATA/MSG00.DAT': data})))['game']
+        self.chooses('Translate a disc', image)
+        self.wait_for_hash()
+        self.presses('Export texts')
+        table = self.browser.downloaded('game (texts).tsv')
+        self.browser.wait('#panel-text .say.good', 'Saved: game (texts).tsv')
+        head, *rows = common.waited(table.read_text, 'the table is empty').splitlines()
+        told = [row for row in rows if '章' in row]
+        self.assertEqual(len(told), 300)
+        mine = common.folder('table') / 'mine.tsv'
+        mine.write_text('\n'.join([head, *(f'{row}text {number}' for number, row in enumerate(told)), '']))
+        self.chooses('Import a table', mine, field='#panel-text input[accept^=".tsv"]')
+        self.browser.wait('#panel-text .say.good', 'All 300 new texts fit.')
+        self.assertEqual(self.publishes(), common.cdscript_prints('replace', image, '--list', mine))
+        self.assertLessEqual(self.actions, 8)

@@ -63,6 +63,24 @@ class Browsers(unittest.TestCase):
     def test_firefox_opens_audits_applies_and_plays(self) -> None:
         self.whole(marionette.Firefox())
 
+    @common.wants('firefox-esr', 'firefox-esr')
+    def test_firefox_does_not_hold_the_images_in_memory_that_it_saves(self) -> None:
+        browser = marionette.Firefox()
+        self.addCleanup(browser.quit)
+        files = discs.written(long=discs.long_disc() * 3, script='cdpatch 1\n' + ''.join(f'fill {at} 0 4 01\n' for at in range(200, 60000, 1000)))
+        browser.open(common.PAGE)
+        browser.run(NO_PICKER)
+        browser.give('#files', [files['long']])
+        browser.wait('#disc-line .sha1')
+        browser.give('#files', [files['script']])
+        browser.wait('#panel-script .tally')
+        before = browser.memory()
+        for _ in range(2):
+            self.press(browser, 'Apply and save')
+            browser.downloaded('long (patched).bin').unlink()
+            self.press(browser, 'Back to Check')
+        self.assertLess(browser.memory() - before, 100e6)
+
     @common.wants('WebKitWebDriver', 'webkit2gtk-driver')
     @common.wants('Xvfb', 'xvfb')
     def test_webkit_opens_audits_applies_and_plays(self) -> None:

@@ -18,16 +18,33 @@ from selenium.webdriver.common.keys import Keys
 VERDICT = '#disc-line .lead'
 SECTORS = len(discs.game()) // SECTOR_SIZE
 
-# What workers are given to survey waits until `letGo` posts so many of it, or all and what comes later; also what they hash if `hashWaits`.
-HELD = '''const { postMessage } = Worker.prototype; Object.assign(globalThis, { waiting: [], holds: true, hashWaits: false });
+# What workers are given to survey waits until `letGo` posts so many of it, or all and what comes later.
+HELD = '''const { postMessage } = Worker.prototype; Object.assign(globalThis, { waiting: [], holds: true });
 Worker.prototype.postMessage = function (...given) {
     const post = () => postMessage.apply(this, given);
-    if (holds && (given[0].pieces || (hashWaits && given[0].hash))) waiting.push(post);
+    if (holds && given[0].pieces) waiting.push(post);
     else post();
 };
 globalThis.letGo = (count = Infinity) => {
     globalThis.holds = count < Infinity;
     waiting.splice(0, count).forEach(post => post());
+};'''
+
+# Counts the bytes of files that the page reads, or has its workers read.
+READ = '''globalThis.bytesRead = 0;
+const { arrayBuffer } = Blob.prototype, { read } = ReadableStreamDefaultReader.prototype, { postMessage } = Worker.prototype;
+Blob.prototype.arrayBuffer = function () {
+    bytesRead += this.size;
+    return arrayBuffer.call(this);
+};
+ReadableStreamDefaultReader.prototype.read = async function () {
+    const came = await read.call(this);
+    bytesRead += came.value?.length ?? 0;
+    return came;
+};
+Worker.prototype.postMessage = function (message, ...given) {
+    bytesRead += (message.pieces ?? []).reduce((sum, { file, size }) => sum + (file ? size : 0), 0);
+    return postMessage.call(this, message, ...given);
 };'''
 
 
@@ -191,19 +208,21 @@ class Disc(unittest.TestCase):
         self.assertEqual(browser.text('#disc-line .name'), 'game.bin')
 
     def test_workers_that_can_read_no_file_are_given_bytes(self) -> None:
-        browser = self.browser
+        image = scratched() * 120
+        browser = self.opened(file_of(image))
+        browser.wait(VERDICT, '1,080 of 21,600 Mode 1 sectors are damaged')
         browser.run('''const real = Worker.prototype.postMessage; globalThis.posted = { files: 0, bytes: 0 };
             Worker.prototype.postMessage = function (message, ...given) {
                 const pieces = message.pieces?.map(piece => piece.file ? { ...piece, file: new Blob() } : piece);
                 if (pieces) posted[pieces[0].file ? 'files' : 'bytes'] += 1;
                 real.call(this, pieces ? { ...message, pieces } : message, ...given);
             }''')
-        image = scratched() * 120
-        browser.give('#files', [file_of(image)])
-        browser.wait(VERDICT, '1,080 of 21,600 Mode 1 sectors are damaged')
-        browser.wait('.sha1', sha1(image))
+        browser.click('#tab-text')
+        browser.type('#find-text', 'スタート')
+        browser.press(Keys.ENTER)
+        browser.wait('#panel-text .hits tbody mark')
         files, bytes_given = browser.run('return [posted.files, posted.bytes]')
-        self.assertEqual(bytes_given, math.ceil(len(image) / SECTOR_SIZE / 1024))
+        self.assertGreaterEqual(bytes_given, math.ceil(len(image) / SECTOR_SIZE / 1024))
         self.assertTrue(0 < files < bytes_given, files)
 
     def test_all_hashes_are_copied(self) -> None:
@@ -255,7 +274,7 @@ class Disc(unittest.TestCase):
         browser = self.opened(discs.written(game=discs.scratched())['game'])
         browser.wait('#disc-line .lead button', 'Repair from another dump')
         browser.wait('.sha1', sha1(discs.scratched()))
-        browser.click('#disc-line dl .btn')
+        browser.click('#disc-line .change')
         browser.type('#base', '100')
         browser.press(Keys.ENTER)
         browser.wait('#disc-line .lead', 'the base is probably 0, not 100. 1 sector is damaged.')
@@ -266,7 +285,7 @@ class Disc(unittest.TestCase):
 
     def test_reading_can_be_cancelled_and_begun_again(self) -> None:
         browser = self.browser
-        browser.run(f'{HELD} hashWaits = true')
+        browser.run(HELD)
         browser.give('#files', [file_of(discs.game() * 120)])
         browser.wait(VERDICT, 'Reading the disc')
         browser.press(Keys.ESCAPE)
@@ -277,19 +296,19 @@ class Disc(unittest.TestCase):
         browser.run('letGo()')
         browser.wait('#disc-line .sha-wait', 'not\u00a0known')
         browser.click('#tab-publish')
-        browser.wait('#panel-publish', 'The image was not read to its end.')
+        browser.wait('#panel-publish', 'Your image was not read to its end.')
         browser.click('#tab-disc')
         browser.click(f'{VERDICT} button')
         browser.wait(VERDICT, 'Mode 1 sectors fit')
 
-    def test_the_hashes_are_calculated_beside_the_survey(self) -> None:
+    def test_an_image_is_read_once_for_its_map_and_its_hashes(self) -> None:
         browser = self.browser
-        browser.run(HELD)
-        browser.give('#files', [file_of(discs.game())])
-        browser.wait('.sha1', sha1(discs.game()))
-        browser.wait(VERDICT, 'Reading the disc: 0 %')
-        browser.run('letGo()')
-        browser.wait(VERDICT, 'Mode 1 sectors are sound')
+        image = scratched() * 120 + b'tail'
+        browser.run(READ)
+        browser.give('#files', [file_of(image)])
+        browser.wait('.sha1', sha1(image))
+        browser.wait(VERDICT, 'damaged')
+        self.assertTrue(len(image) <= browser.run('return bytesRead') < 1.1 * len(image))
 
     def test_the_line_of_the_disc_keeps_its_controls_while_it_is_read(self) -> None:
         browser = self.browser
@@ -438,7 +457,7 @@ class Disc(unittest.TestCase):
         browser.wait('.say.bad', 'edc p=1 q=1')
         outlined = browser.run("return [...document.querySelectorAll('.hex i.sus')].map(it => Number(it.dataset.at))")
         self.assertEqual(outlined, [16 + 75])
-        self.assertIn('they cross at one byte, offset 75, outlined below', browser.text('.say.bad'))
+        self.assertIn('they cross at the outlined byte, offset 75: it is probably the wrong one.', browser.text('.say.bad'))
 
     def test_typed_bytes_become_lines_of_the_script_that_the_program_applies(self) -> None:
         image = discs.game()

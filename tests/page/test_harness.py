@@ -69,6 +69,18 @@ class Harness(unittest.TestCase):
         self.assertEqual([path.read_bytes()[16:20] for path in paths], [w.to_bytes(4, 'big') for w in (360, 360, 900, 900, 1280, 1280)])
         self.assertEqual((browser.wider(900), browser.wider(600)), (0, 200))
 
+    def test_chromium_sees_what_does_not_fit_its_window(self) -> None:
+        browser = chromium.shared()
+        page = common.folder('harness') / 'misfits.html'
+        page.write_text('<!doctype html><meta name="viewport" content="width=device-width, initial-scale=1"><body style="margin: 0">'
+                        '<button style="position: absolute; left: 500px; width: 200px">Far</button>'
+                        '<button style="width: 90px">One</button><button style="margin-left: -40px">Two</button><footer>End</footer>'
+                        '<p style="position: absolute; top: 950px; height: 50px; margin: 0">Below</p>')
+        browser.open(page)
+        over = ['goes on 100 below its footer', 'One lies over Two']
+        self.assertEqual(browser.misfits(900), over)
+        self.assertEqual(browser.misfits(600), [over[0], 'is 100 too wide', 'cut: Far', over[1]])
+
     def test_chromium_sees_what_a_page_tries_to_reach(self) -> None:
         browser = chromium.shared()
         page, _ = files()

@@ -15,16 +15,6 @@ from pages import PICKER, PageTest, patcher
 ALL_WIDTHS = (*WIDTHS, 640)
 LONG_NAME = f"Hoshizora Tantei - The Starlit Detective and the Case of the Missing Comet ({'Japan, ' * 4}Disc 1) (Rev 2) (Alt).bin"
 
-# How far the page goes on below its footer, and what is cut at its right edge: a control that does not fit its window.
-ENDS = '''const [done] = arguments;
-    requestAnimationFrame(() => requestAnimationFrame(() => {
-        const foot = document.querySelector('footer').getBoundingClientRect().bottom + scrollY;
-        const cut = [...document.querySelectorAll('main button, main input, main select, main dd, main h2, main .tag')].filter(it => {
-            const { right, left, width } = it.getBoundingClientRect();
-            return it.checkVisibility() && width > 1 && it.closest('.scroll, .hex, .editor, .hide, .fields, .log') === null && (right > innerWidth + 1 || left < -1);
-        });
-        done([document.documentElement.scrollHeight - Math.max(Math.ceil(foot), innerHeight), cut.map(it => it.innerText || it.id)]);
-    }))'''
 # The height of the facts of the open image in lines of their two rows.
 FACTS = '''const dl = document.querySelector('#disc-line dl');
     return [new Set([...dl.children].map(it => Math.round(it.getBoundingClientRect().top))).size, dl.children.length]'''
@@ -38,11 +28,7 @@ class Layout(PageTest):
 
     def judge(self, state: str) -> None:
         for width in ALL_WIDTHS:
-            self.browser.size(width)
-            over, cut = self.browser.driver.execute_async_script(ENDS)
-            self.assertLessEqual(over, 0, f'{state} at {width} goes on below its footer')
-            self.assertEqual(cut, [], f'{state} at {width} is cut')
-            self.assertLessEqual(self.browser.wider(width), 0, f'{state} at {width}')
+            self.assertEqual(self.browser.misfits(width), [], f'{state} at {width}')
             if 'PICTURES' in os.environ:
                 self.browser.picture(Path(os.environ['PICTURES']) / f"layout-{state.replace(' ', '-')}-{width}.png", width)
         self.browser.size(1280)
@@ -106,8 +92,8 @@ class Layout(PageTest):
         self.browser.wait('.tally', '400')
         self.judge('script')
         self.browser.click('#tab-publish')
-        self.browser.wait('#panel-publish', 'tried on this image')
-        self.assertNotIn('the name of the patched image has to', self.browser.text('#panel-publish'))
+        self.browser.wait('#panel-publish', '400 of 401 changes fit')
+        self.assertNotIn('The name of the patched image has to', self.browser.text('#panel-publish'))
         self.judge('publish')
 
     def test_a_patcher_with_long_texts_makes_the_page_no_longer(self) -> None:

@@ -46,7 +46,7 @@ class Messages(PageTest):
             self.browser.size(width)
             self.setUp()
             self.search(discs.many_texts())
-            self.press('Add for all')
+            self.press('Replace all')
             self.is_seen('[aria-label=Replace] .say.good', '400 lines added to the script.')
         self.browser.click('#tab-script')
         self.browser.click('#tab-text')
@@ -55,7 +55,7 @@ class Messages(PageTest):
     def test_what_was_refused_of_all_hits_is_said_in_the_replace_card(self) -> None:
         self.browser.size(360)
         self.search(discs.scratched())
-        self.press('Add for all')
+        self.press('Replace all')
         self.is_seen('[aria-label=Replace] .say.warn', 'is damaged: repair it first')
 
     def test_an_undo_script_is_said_in_its_card(self) -> None:
@@ -114,7 +114,7 @@ class Messages(PageTest):
         self.browser.type('#find-text', 'スタート')
         self.press('Find')
         self.browser.wait('#panel-text .hits mark')
-        self.copies('[aria-label=Hits] [data-copies]', 'Copy', f'{discs.first_block()} 0\n')
+        self.copies('[aria-label=Hits] [data-copies]', 'Copy as a table', 'block\toffset\tfile\ttext\n')
 
     def test_a_copy_button_that_is_drawn_anew_says_it_too(self) -> None:
         self.open_image(discs.written(game=discs.game())['game'])
@@ -137,6 +137,9 @@ class Messages(PageTest):
         self.open_image(files['game'])
         self.open_script(files['english'])
         self.browser.wait('.tally')
+        self.browser.click('#tab-disc')
+        self.press('Next finding')
+        self.browser.wait('#sector-title .term')
         for width in WIDTHS:
             self.browser.size(width)
             for panel in ('disc', 'text', 'script'):

@@ -66,6 +66,21 @@ class Next(PageTest):
             self.assertLessEqual(self.browser.run(UNSEEN, '#panel-script .side .say'), 0, width)
             self.browser.downloaded('game (patched).bin').unlink()
 
+    def test_after_a_disc_with_a_cue_sheet_was_saved_its_cue_sheet_is_next(self) -> None:
+        files = self.files()
+        sheet = files['game'].with_suffix('.cue')
+        sheet.write_text('FILE "game.bin" BINARY\n  TRACK 01 MODE1/2352\n    INDEX 01 00:00:00\n')
+        for names, then in (([sheet, files['game']], 'Save a cue sheet…'), ([files['game']], 'Open the new image')):
+            self.setUp()
+            self.browser.drop('#drop', [*names, files['english']])
+            self.browser.wait(f'{SAID}.good', ALL_FIT)
+            self.press('Apply and save')
+            self.browser.downloaded('game (patched).bin').unlink()
+            self.browser.wait('#saved-sha1', 'a')
+            self.assertEqual(self.browser.run("return document.querySelector('#panel-script .side .row .btn').innerText"), then)
+            self.assertEqual('Your emulator opens a cue sheet' in self.browser.text('#panel-script .side'), sheet in names)
+        self.assertEqual(self.focused(), 'Check: Back to Check')
+
     def test_a_script_is_checked_after_the_check_of_another(self) -> None:
         files = self.files()
         self.open_image(files['game'])

@@ -41,7 +41,7 @@ class Publish(PageTest):
         self.wait_for_hash()
         self.open_script(paths['english'])
         self.browser.click('#tab-publish')
-        self.browser.wait('#panel-publish', 'tried on this image: 6 would apply, 0 refused')
+        self.browser.wait('#panel-publish', 'english.txt: 6 changes, all fit game.bin.')
         self.browser.type('#patcher-title', HOSTILE)
 
     def test_a_patcher_is_the_page_byte_for_byte_and_data_after_it(self) -> None:
@@ -84,7 +84,7 @@ class Publish(PageTest):
             const { slice } = Blob.prototype;
             Blob.prototype.slice = function (...given) { globalThis.slices += 1; return slice.apply(this, given); }''')
         self.browser.click('#tab-publish')
-        self.browser.wait('#panel-publish', 'tried on this image: 1567 would apply, 0 refused')
+        self.browser.wait('#panel-publish', '1,567 changes, all fit')
         self.browser.type('#patcher-title', 'Title')
         self.press('Save as a patcher')
         saved = self.browser.downloaded('Title.html').read_bytes()
@@ -140,7 +140,7 @@ class Publish(PageTest):
         self.open_image(files['game'])
         self.open_script(files['english'])
         self.browser.click('#tab-publish')
-        self.browser.wait('#panel-publish', 'tried on this image: 6 would apply, 2 refused')
+        self.browser.wait('#panel-publish', 'english.txt: 6 of 8 changes fit game.bin, 2 do not.')
         self.browser.type('#patcher-title', 'Title')
         self.assertTrue(self.is_off('Save as a patcher') and self.is_off('See it as a player'))
         self.press('Go to line 11')
@@ -184,8 +184,8 @@ class Player(PageTest):
     def test_another_dump_that_the_patch_fits(self) -> None:
         other = common.damaged(discs.game(), 150)
         self.play(other, discs.named())
-        self.browser.wait('#verdict', 'This is another dump, but the patch fits it.')
-        self.assertIn('All 4 places hold the bytes that the author saw.', self.browser.text('#player'))
+        self.browser.wait('#verdict', 'This is a different dump, but the patch fits it.')
+        self.assertIn('All 4 places match. The rest of the disc differs from the author’s. 1 sector of your image is damaged.', self.browser.text('#player'))
         self.press('Patch and save')
         files = discs.written(other=other, english=discs.named())
         self.assertEqual(self.browser.downloaded('Starlit (English).bin').read_bytes(), applied(files['other'], files['english'])[2])
@@ -197,7 +197,7 @@ class Player(PageTest):
         user[0:2] = b'XX'
         other = discs.game()[:block * 2352] + common.sector(block, bytes(user)) + discs.game()[(block + 1) * 2352:]
         self.play(other)
-        self.browser.wait('#verdict', 'This is another dump, and the patch does not fit it.')
+        self.browser.wait('#verdict', 'This is a different dump, and the patch does not fit it.')
         self.assertIn('1 of 6 places holds other bytes.', self.browser.text('#player'))
         self.press('Details')
         self.browser.wait('.hashes', f'refused: old bytes differ at block {block} offset 0')
@@ -227,6 +227,23 @@ class Player(PageTest):
         self.press('Save the cue sheet')
         saved = self.browser.downloaded('mine.cue')
         self.assertEqual(common.waited(saved.read_text, 'the cue sheet is empty'), sheet.read_text())
+
+    def test_what_else_the_cue_sheet_names_is_to_be_copied(self) -> None:
+        self.open_patcher(patcher(discs.game(), result(), discs.script()))
+        image = discs.written(mine=result())['mine']
+        sheet = image.with_suffix('.cue')
+        sheet.write_text('FILE "mine.bin" BINARY\n  TRACK 01 MODE1/2352\n    INDEX 01 00:00:00\n' + ''.join(
+            f'FILE "song {track}.bin" BINARY\n  TRACK 0{track} AUDIO\n    INDEX 01 00:00:00\n' for track in range(2, 9)))
+        self.browser.drop('#player', [sheet, image])
+        self.browser.wait('#player .step.now', 'Save this one beside mine.bin.')
+        self.browser.wait('#player .step.now', 'Copy there too, since the cue sheet names them: song 2.bin, song 3.bin, song 4.bin, song 5.bin and 3 more files.')
+
+    def test_an_iso_image_is_no_full_dump(self) -> None:
+        self.open_patcher(patcher(discs.game(), result(), discs.script()))
+        image = discs.written(mine=b''.join(common.iso_of({'README.TXT': b'game'})))['mine'].rename(common.folder('iso') / 'mine.iso')
+        self.browser.drop('#player', [image])
+        self.browser.wait('#player .say.bad', 'mine.iso is an ISO image, which has only a part of each sector.')
+        self.browser.wait('#player .say.bad', 'This patcher needs a full dump')
 
     def test_music_is_not_taken_for_the_disc(self) -> None:
         self.play(bytes(range(1, 255)) * 2352)
@@ -339,7 +356,7 @@ class Player(PageTest):
         self.browser.wait('#disc-line .name', 'mine.bin')
         self.wait_for_hash()
         self.browser.click('#tab-publish')
-        self.browser.wait('#panel-publish', '0 refused')
+        self.browser.wait('#panel-publish .mark-row', ' fit')
         self.press('Save as a patcher')
         return self.browser.downloaded('Starlit Detective in English.html').read_bytes()
 

@@ -138,7 +138,7 @@ class Random(PageTest):
         self.open_files(path)
         lost = self.model.open_script(name, text)
         if lost:
-            self.browser.wait('#messages .say.warn', 'Your script was not saved')
+            self.browser.wait('#messages .say.warn', 'This script replaced yours, which was not saved.')
             if self.dice.random() < 0.5:
                 self.press('Bring it back')
                 self.model.bring_back()

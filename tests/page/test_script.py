@@ -83,7 +83,7 @@ class Script(PageTest):
         saved = self.browser.downloaded('game (patched).bin')
         status, text, out = applied(files['game'], files['english'])
         self.assertEqual(saved.read_bytes(), out)
-        self.browser.wait('#panel-script .side', 'without 3 of 8 patches')
+        self.browser.wait('#panel-script .side', 'without 3 of 8 changes')
         self.assertEqual(self.browser.run('return document.querySelector("pre.log").textContent'), text)
         self.browser.wait('#saved-sha1', common.sha1(out))
         self.assertEqual(self.browser.text('#saved-crc32'), f'{zlib.crc32(out):08x}')
@@ -210,7 +210,7 @@ class Script(PageTest):
         self.assertEqual([row.split('|')[1] for row in self.rows()], ['# end'])
         self.browser.press('z', held=Keys.CONTROL)
         self.browser.press(Keys.ENTER, held=Keys.CONTROL)
-        self.browser.wait('.tally', '2\nfit')
+        self.browser.wait('#panel-script .say.good', '2 changes, all fit')
         self.assertEqual(self.script_text(), 'cdpatch 1\nrebuild 1\nrebuild 2\n# end')
 
     def type_script(self) -> None:
@@ -224,7 +224,7 @@ class Script(PageTest):
         self.open_image(files['game'])
         self.type_script()
         self.open_script(files['english'])
-        self.browser.wait('#messages .say.warn', 'Your script was not saved')
+        self.browser.wait('#messages .say.warn', 'This script replaced yours, which was not saved.')
         self.press('Bring it back')
         self.assertEqual([row.split('|')[1] for row in self.rows()], ['cdpatch 1', 'rebuild 1'])
         self.assertEqual(self.browser.text('#panel-script header h2'), 'New script')
@@ -342,6 +342,46 @@ class Script(PageTest):
         self.assertNotEqual(patched, discs.game())
         status, _, again = applied(discs.written(patched=patched)['patched'], undo)
         self.assertEqual((status, again), (0, discs.game()))
+
+    def test_in_firefox_the_address_of_an_image_is_forgotten_when_the_next_is_saved(self) -> None:
+        files = discs.written(game=discs.game(), english=discs.script())
+        self.open_image(files['game'])
+        self.open_script(files['english'])
+        self.browser.run('''Object.assign(globalThis, { mozInnerScreenX: 0, made: [], forgotten: [] });
+            const { createObjectURL, revokeObjectURL } = URL;
+            URL.createObjectURL = it => { made.push(createObjectURL(it)); return made.at(-1); };
+            URL.revokeObjectURL = it => { forgotten.push(made.indexOf(it)); return revokeObjectURL(it); };''')
+        for count, due in enumerate(([], [0], [0, 1])):
+            self.press('Apply and save')
+            name = f'game (patched){f" ({count})" if count else ""}.bin'
+            self.assertEqual(self.browser.downloaded(name).read_bytes(), applied(files['game'], files['english'])[2])
+            self.assertEqual(self.browser.run('return forgotten'), due)
+            self.press('Back to Check')
+
+    def test_others_get_their_turn_while_a_long_script_is_opened(self) -> None:
+        path = discs.written(long='cdpatch 1\n' + 'rebuild 3\n' * 20000)['long']
+        self.browser.run('''globalThis.turns = 0;
+            const { setTimeout } = globalThis;
+            globalThis.setTimeout = (call, wait, ...given) => {
+                globalThis.turns += Number(wait === undefined);
+                return setTimeout(call, wait, ...given);
+            }''')
+        self.open_script(path)
+        self.assertGreaterEqual(self.browser.run('return turns'), 4)
+
+    def test_workers_make_the_undo_script(self) -> None:
+        files = discs.written(game=discs.game(), english=discs.script())
+        self.open_image(files['game'])
+        self.open_script(files['english'])
+        self.browser.run('''globalThis.posted = 0;
+            const { postMessage } = Worker.prototype;
+            Worker.prototype.postMessage = function (...given) {
+                globalThis.posted += Number(given[0].job === 'lines');
+                return postMessage.apply(this, given);
+            }''')
+        self.press('Undo script')
+        self.browser.downloaded('english (undo).txt')
+        self.assertEqual(self.browser.run('return posted'), 1)
 
     def test_the_undo_script_of_carried_damage_says_that_it_wants_carry(self) -> None:
         files = discs.written(game=discs.scratched(), english=discs.script())

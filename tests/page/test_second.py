@@ -154,7 +154,7 @@ class Second(unittest.TestCase):
         self.browser.wait('#second-body .say.bad', 'the second image is damaged in blocks 33 and 44')
         self.assertEqual([*self.browser.downloads.iterdir()], [])
         self.press('Leave these 2 out')
-        self.browser.wait('#second-body .say.warn', 'gives this image but for blocks 33 and 44, which it leaves as they are.')
+        self.browser.wait('#second-body .say.warn', 'gives other.bin, but for blocks 33 and 44, which it leaves as they are.')
         script = self.browser.downloaded('other (changes).txt')
         self.assertEqual(script.read_text(), 'cdpatch 1\n')
         script.unlink()
@@ -173,30 +173,86 @@ class Second(unittest.TestCase):
         self.press('Save the script')
         self.browser.wait('#second-body .say.bad', f'nosync in block {SECTORS - 1}, and a script changes only mode1')
 
-    def test_another_length_can_only_be_opened_instead(self) -> None:
+    def test_another_length_can_be_repaired_from_and_not_compared(self) -> None:
         place = folder('lengths')
-        files = [place / 'game.bin', place / 'more.bin', place / 'tail.bin']
-        for file, more in zip(files, (b'', AUDIO[:2 * SECTOR_SIZE], b'tail')):
-            file.write_bytes(with_faults() + more)
+        files = [place / 'game.bin', place / 'more.bin', place / 'tail.bin', place / 'later.bin']
+        for file, image in zip(files, (with_faults(), with_faults() + AUDIO[:2 * SECTOR_SIZE], with_faults() + b'tail', with_faults()[SECTOR_SIZE:])):
+            file.write_bytes(image)
         self.browser.give('#files', files[:1])
         self.browser.wait('#disc-line .lead', 'Mode 1')
-        for file, words in zip(files[1:], ('It has 2 sectors more than game.bin.', 'It has another tail than game.bin.')):
+        for file, words in zip(files[1:], ('It has 2 sectors more', 'It has another tail', 'It is shifted: it begins 1 sector later')):
             self.browser.give('#files', [file])
-            self.browser.wait('#sheet', f'{words} Repair and Compare need the same length.')
+            self.browser.wait('#sheet', f'{words} than game.bin. A repair uses the blocks that both have.')
             buttons = self.browser.run('return [...document.querySelectorAll("#sheet button")].map(it => it.innerText)')
-            self.assertEqual(buttons, ['Open it instead', 'Cancel'])
+            self.assertEqual(buttons, ['Repair game.bin from it', 'Open it instead', 'Cancel'])
             self.browser.answer('Cancel')
         self.browser.give('#files', files[1:2])
         self.browser.answer('Open it instead')
         self.browser.wait('#disc-line .name', 'more.bin')
         self.assertFalse(self.browser.run("return document.querySelector('#second-title').checkVisibility()"))
 
-    def test_an_image_of_another_part_of_the_disc_is_said_to_be_that(self) -> None:
-        first = b''.join(sector(block, b'%d' % block) for block in range(40))
-        second = b''.join(sector(1000 + block, b'%d' % block) for block in range(40))
-        self.pair(damaged(first, 5), second)
-        self.browser.wait('#second-body .say.bad', 'they are not the same part of a disc')
-        self.browser.wait('#second-body', 'Nothing was found out.')
+    def test_a_dump_that_begins_and_ends_elsewhere_repairs_what_it_has(self) -> None:
+        end = SECTORS - 30 - 20
+        first = with_faults((40, 9), (60, 9), (end + 5, 9))
+        self.pair(first, with_faults((60, 9))[3 * SECTOR_SIZE:end * SECTOR_SIZE], ('.tally', 'can be repaired'))
+        self.assertEqual(self.tally(), [1, 2, 0])
+        self.browser.wait('#second-body .say.plain', f'The second image does not have blocks 0 to 2 and {end} to {SECTORS - 1}.')
+        self.assertTrue(self.browser.run('return document.querySelector("[data-tab=compare]") === null'))
+        self.browser.wait('[aria-label="Cannot be repaired: 2"]', 'not there')
+        self.browser.wait('[aria-label="Cannot be repaired: 2"]', 'In block 60 both images hold the same bytes')
+        self.press('Save repaired image')
+        saved = self.browser.downloaded('game (repaired).bin')
+        waited(lambda: saved.read_bytes() == with_faults((60, 9), (end + 5, 9)), 'the repaired image')
+        saved.unlink()
+        self.sees_second(40, 'other.bin has a sound copy: it will be taken.')
+
+    def sees_second(self, block: int, words: str) -> None:
+        """Opens a sector, of which this is said."""
+        self.browser.find('#map').send_keys('g')
+        self.browser.type('#go-to', f'{block}\n')
+        self.browser.wait('#sector-title', f'block {block}')
+        self.browser.wait('#panel-disc .say', words)
+
+    def test_a_damaged_sector_says_what_becomes_of_it(self) -> None:
+        first = bytearray(with_faults((40, 9), (60, 9), (80, 9), (80, 2048)))
+        first[100 * SECTOR_SIZE:100 * SECTOR_SIZE + 12] = bytes(12)
+        self.pair(bytes(first), with_faults((60, 500)), ('.tally', 'can be repaired'))
+        for block, words in ((40, 'other.bin has a sound copy: it will be taken.'), (60, 'other.bin has no sound copy of it.'),
+                             (80, 'But its data and EDC are others'), (100, 'other.bin has a sound copy: it will be taken.')):
+            self.sees_second(block, words)
+            shown = self.browser.run(f'return Boolean({BUTTON})', 'Repair from another dump')
+            self.assertEqual(shown, block == 60, block)
+
+    def test_a_damaged_sector_leads_to_the_repair_if_the_second_image_is_compared(self) -> None:
+        place = folder('compared')
+        for name, image in (('game.bin', with_faults((40, 9))), ('other.bin', with_faults())):
+            (place / name).write_bytes(image)
+        self.browser.give('#files', [place / 'game.bin'])
+        self.browser.wait('#disc-line .lead', '1 of')
+        self.browser.give('#files', [place / 'other.bin'])
+        self.browser.answer('Compare')
+        self.browser.wait('.tally', 'sector differs')
+        self.press('40')
+        self.press('Repair from other.bin')
+        self.browser.wait('.tally', 'can be repaired')
+        self.browser.wait('#panel-disc .say', 'other.bin has a sound copy: it will be taken.')
+
+    def test_a_dump_with_sectors_missing_is_said_to_be_shifted(self) -> None:
+        image = with_faults((40, 9))
+        missing = with_faults()[:100 * SECTOR_SIZE] + with_faults()[102 * SECTOR_SIZE:] + AUDIO[:2 * SECTOR_SIZE]
+        self.pair(image, missing)
+        self.browser.wait('#second-body .say.bad', 'The second image is shifted by 2 sectors from block 100 on.')
+        self.browser.wait('#second-body .say.bad', '2 sectors before it are missing. Nothing is taken.')
+
+    def test_an_image_of_another_part_of_the_disc_can_only_be_opened_instead(self) -> None:
+        place = folder('parts')
+        for name, first in (('game.bin', 0), ('other.bin', 1000)):
+            (place / name).write_bytes(b''.join(sector(first + block, b'%d' % block) for block in range(40)))
+        self.browser.give('#files', [place / 'game.bin'])
+        self.browser.wait('#disc-line .lead', 'Mode 1')
+        self.browser.give('#files', [place / 'other.bin'])
+        self.browser.wait('#sheet', 'It is another part of a disc than game.bin.')
+        self.assertEqual(self.browser.run('return document.querySelector("#sheet .main").innerText'), 'Open it instead')
 
     def test_every_control_has_a_name_and_nothing_is_sent(self) -> None:
         self.pair(with_faults((40, 9), (60, 9)), with_faults((60, 500)))

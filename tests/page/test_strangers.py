@@ -119,7 +119,7 @@ class Fitting(Stranger):
         self.open_image(files['game'])
         self.open_script(files['english'])
         self.browser.click('#tab-publish')
-        self.browser.wait('#panel-publish', '2 lines without old bytes (was): on a dump that is not yours nothing shows whether they fit')
+        self.browser.wait('#panel-publish', '2 changes without old bytes (was): on another dump nothing shows whether they fit. Players are told so.')
 
 
 class Names(Stranger):
@@ -138,11 +138,11 @@ class Names(Stranger):
         self.open_image(files['game'])
         self.open_script(files['english'])
         self.browser.click('#tab-publish')
-        self.browser.wait('#panel-publish', '0 refused')
+        self.browser.wait('#panel-publish', ' fit')
         self.browser.type('#patcher-title', 'Title')
         for name in ('Play.html', 'nul.bin', 'a/b.bin'):
             self.browser.type('#patcher-name', name)
-            self.browser.wait('#panel-publish', 'the name of the patched image has to end in .bin, .img or .iso')
+            self.browser.wait('#panel-publish', 'The name of the patched image has to end in .bin, .img or .iso')
             self.assertTrue(self.is_off('Save as a patcher'))
         self.browser.type('#patcher-name', 'Game.img')
         self.assertFalse(self.is_off('Save as a patcher'))
@@ -338,7 +338,7 @@ class Long(Stranger):
         self.browser.wait('#panel-script .say', 'This script is too long: its lines are not shown.')
         self.assertEqual(self.browser.run('return document.querySelector(".editor").checkVisibility()'), False)
         self.press('Check')
-        self.browser.wait('.tally', '6\nfit')
+        self.browser.wait('#panel-script .say.good', '6 changes, all fit')
         self.press('Apply and save')
         self.assertEqual(self.browser.downloaded('game (patched).bin').read_bytes(), applied(files['game'], files['short'])[2])
         self.open_script(files['short'])
@@ -353,7 +353,7 @@ class Long(Stranger):
         self.browser.click('.editor textarea')
         self.browser.press('\ue010', '\ue007', 'rebuild 7')
         self.open_script(files['long'])
-        self.browser.wait('#messages .say.warn', 'Your script was not saved, and has made way for this one.')
+        self.browser.wait('#messages .say.warn', 'This script replaced yours, which was not saved.')
         self.press('Bring it back')
         self.browser.wait('#panel-script header .tag', '1 patch, version 1')
         self.assertIn('rebuild 7', ' '.join(self.rows()))

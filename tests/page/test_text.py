@@ -48,6 +48,17 @@ class Text(PageTest):
         self.assertIn('/DATA/MSG00.DAT', self.row(3))
         self.assertIn('over a border of blocks', self.row(4))
 
+    def test_hits_are_copied_as_a_table_with_file_and_text(self) -> None:
+        self.find('スタート')
+        self.browser.run('navigator.clipboard.writeText = async text => { globalThis.copied = text; };')
+        self.press('Copy as a table')
+        table = str(common.waited(lambda: self.browser.run('return globalThis.copied'), 'nothing is copied'))
+        head, *rows = [line.split('\t') for line in table.splitlines()]
+        self.assertEqual(head, ['block', 'offset', 'file', 'text'])
+        self.assertEqual([' '.join(row[:2]) for row in rows], places(discs.START))
+        self.assertEqual({row[2] for row in rows}, {'/DATA/MSG00.DAT'})
+        self.assertIn('もう一度スタートに戻りますか？', rows[2][3])
+
     def test_the_bytes_round_a_hit_fit_the_width_of_their_card(self) -> None:
         self.find('スタート')
         for width, rows in ((1280, ':not(.cols8)'), (360, '.cols8'), (1280, ':not(.cols8)')):
@@ -59,14 +70,14 @@ class Text(PageTest):
         self.browser.press('Start', Keys.ENTER)
         self.browser.wait('.hits tbody tr:nth-child(1)', 'in the script, line 2')
         self.browser.wait('#panel-text .side h2', f'Replace: block {discs.first_block()} offset')
-        self.press('Add for all 4 left')
+        self.press('Replace all 4')
         self.browser.wait('#panel-text .say.good', '4 lines added to the script.')
         self.browser.click('#tab-script')
         script = self.script_text()
         new = 'Start'.encode().ljust(8).hex().upper()
         self.assertEqual(script, 'cdpatch 1\n' + ''.join(f'set {place} {new} was {discs.START.hex().upper()}\n' for place in places(discs.START)))
         self.press('Check')
-        self.browser.wait('.tally', '5\nfit')
+        self.browser.wait('#panel-script .say.good', '5 changes, all fit')
         self.press('Apply and save')
         saved = self.browser.downloaded('game (patched).bin').read_bytes()
         self.assertEqual(saved, applied(self.files['game'], discs.written(script=script)['script'])[2])
@@ -106,12 +117,12 @@ class Text(PageTest):
         self.find('スタート')
         self.browser.press('Start', Keys.ENTER)
         self.browser.wait('.hits tbody tr:nth-child(1)', 'in the script, line 2')
-        self.assertFalse(self.is_off('Add for all 4 left'))
+        self.assertFalse(self.is_off('Replace all 4'))
         self.browser.click('#tab-script')
         self.browser.click('.editor textarea')
         self.browser.press('z', held=Keys.CONTROL)
         self.browser.click('#tab-text')
-        self.assertFalse(self.is_off('Add for all 5 left'))
+        self.assertFalse(self.is_off('Replace all 5'))
         self.assertNotIn('in the script', self.row(1))
 
     def test_a_line_that_writes_a_hit_already_is_replaced(self) -> None:
@@ -119,9 +130,9 @@ class Text(PageTest):
         self.browser.press('Start', Keys.ENTER)
         self.browser.wait('.hits tbody tr:nth-child(1)', 'in the script, line 2')
         self.browser.click('.hits tbody tr:nth-child(1)')
-        self.browser.wait('#panel-text .main', 'Replace line 2')
+        self.browser.wait('#panel-text .main', 'Update line 2')
         self.browser.type('#new-text', 'Begin')
-        self.press('Replace line 2')
+        self.press('Update line 2')
         self.browser.click('#tab-script')
         new = 'Begin'.encode().ljust(8).hex().upper()
         self.assertEqual(self.script_text(), f'cdpatch 1\nset {places(discs.START)[0]} {new} was {discs.START.hex().upper()}\n')
@@ -131,9 +142,9 @@ class Text(PageTest):
         self.browser.press('Start game')
         self.browser.wait('#new-length', '10 bytes, 2 too many for the 8 of the old text')
         self.assertEqual(self.browser.run('return document.querySelectorAll(".gauge .over").length'), 2)
-        self.assertTrue(self.is_off('Add to the script') and self.is_off('Add for all'))
+        self.assertTrue(self.is_off('Replace') and self.is_off('Replace all'))
         self.browser.press(Keys.ENTER)
-        self.press('Add to the script')
+        self.press('Replace')
         self.assertTrue(self.browser.run('return document.querySelector("#count-script").hidden'))
 
     def test_a_wide_space_fills_only_what_it_fits(self) -> None:
@@ -146,7 +157,7 @@ class Text(PageTest):
         self.browser.click('#new-text')
         self.browser.press('t')
         self.browser.wait('#panel-text .say.bad', '3 bytes cannot be filled with that')
-        self.assertTrue(self.is_off('Add to the script'))
+        self.assertTrue(self.is_off('Replace'))
 
     def texts(self, texts: dict[str, str]) -> None:
         """Opens an image with a block for each text, in the encoding by which it stands here."""
@@ -207,7 +218,7 @@ class Text(PageTest):
         self.search('kz')
         self.browser.wait('.hits tbody tr:nth-child(1)', 'perhaps in the middle of a character (byte before: 8A)')
         self.browser.press('xx')
-        self.press('Add for all 3 left')
+        self.press('Replace all 3')
         self.browser.wait('#panel-text .say.warn', '1 hit left: block 0 offset 2: perhaps in the middle of a character (byte before: 8A)')
         self.browser.click('#tab-script')
         self.assertEqual(self.script_text(), 'cdpatch 1\nset 0 5 7878 was 6B7A\nset 0 8 7878 was 6B7A\n')
@@ -238,7 +249,7 @@ class Text(PageTest):
             due = [f"{block} {offset} {file.partition('+')[0]} {''.join(doubt)}" for block, offset, _, file, _, *doubt in lines]
             common.waited(lambda: self.said_of_hits() == due, f'{due}')
             self.browser.type('#new-text', new)
-            self.press('Add for all')
+            self.press('Replace all')
             self.browser.wait('#panel-text .say', 'added to the script.')
             script += self.cdscript(image, 'replace', old, new, '--all', '--encoding', encoding).removeprefix('cdpatch 1\n')
         self.assertEqual(len(script.splitlines()), 1 + 8 + 2 + 2)
@@ -295,7 +306,7 @@ class Text(PageTest):
         self.browser.click('#find-text')
         self.search('スタート')
         self.browser.press('Start')
-        self.press('Add for all 5 left')
+        self.press('Replace all 5')
         self.browser.wait('#panel-text .say.warn', f'block {discs.first_block() + 1} is damaged: repair it first')
         self.assertEqual(self.browser.text('#count-script').split()[0], '3')
 

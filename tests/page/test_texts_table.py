@@ -5,19 +5,7 @@ from pathlib import Path
 import common
 import discs
 from pages import GATE, PageTest, applied
-
-TEXTS = ['ゲームをはじめからスタートします。', 'セーブしますか？それともつづけますか？', 'ドアは鍵がかかっている。だれかいるのか？', '星空探偵、登場。事件はまだ終わらない。']
-
-
-def told() -> bytes:
-    """An image of a volume with sentences, each with a zero byte at its end, which are told from other bytes."""
-    data = b'\0'.join(text.encode('cp932') for text in TEXTS * 6) + b'\0'
-    return common.image_of(common.iso_of({'DATA/MSG00.DAT': data, 'README.TXT': b'Start of the game\n' * 20}))
-
-
-def dat_of(*dumps: tuple[str, bytes, str]) -> str:
-    rows = ''.join(f'<game name="x"><rom name="{name}" size="{len(data)}" sha1="{common.sha1(data).upper()}" {more}/></game>' for name, data, more in dumps)
-    return f'<?xml version="1.0"?><!-- a list --><!DOCTYPE datafile SYSTEM "x.dtd"><datafile>{rows}</datafile>'
+from states import SENTENCES, dat_of, told, with_new
 
 
 class TextsTable(PageTest):
@@ -33,11 +21,8 @@ class TextsTable(PageTest):
 
     def table(self, image: Path, fresh: dict[int, str]) -> Path:
         """That table with new texts in rows of these numbers, from 2."""
-        rows = [line.split('\t') for line in self.printed(image).splitlines()]
-        for number, text in fresh.items():
-            rows[number - 1][-1] = text
         path = common.folder('table') / 'mine.tsv'
-        path.write_text(''.join('\t'.join(row) + '\n' for row in rows))
+        path.write_text(with_new(self.printed(image), fresh))
         return path
 
     def give(self, table: Path) -> None:
@@ -50,7 +35,7 @@ class TextsTable(PageTest):
         saved = common.waited(self.browser.downloaded('game (texts).tsv').read_text, 'the table is empty')
         self.assertEqual(saved, self.printed(image))
         self.assertIn(f"It has {len(saved.splitlines()) - 1} texts.", self.browser.text('#panel-text .say.good'))
-        self.assertGreater(len(saved.splitlines()), len(TEXTS))
+        self.assertGreater(len(saved.splitlines()), len(SENTENCES))
         self.assertEqual(self.browser.attempts(), [])
 
     def test_new_texts_become_the_lines_that_cdscript_writes(self) -> None:

@@ -150,12 +150,17 @@ class Sayings(PageTest):
         self.browser.wait('#sector-title', 'block 5')
         self.assertEqual(self.browser.text('#panel-disc .say.bad'), '')
 
-    def test_no_findings_are_green_only_if_something_was_tested(self) -> None:
+    def test_what_is_sound_is_said_once_and_only_if_something_was_tested(self) -> None:
         for image, green in ((random.Random(4).randbytes(400 * 2352), 0), (discs.game(), 1)):
             self.setUp()
             self.open_image(discs.written(image=image)['image'])
             self.browser.wait('#disc-line .lead', 'Mode 1 sector')
-            self.assertEqual(self.browser.run('return document.querySelectorAll("#disc-line dd .good-ink").length'), green)
+            self.assertEqual(self.browser.run('return document.querySelectorAll("#disc-line .good-ink").length'), green)
+            self.browser.wait('#findings [data-tab=files]')
+            text = self.browser.text('#disc-line') + self.browser.text('#findings')
+            self.assertEqual([word for word in ('inding', 'no tail', 'Base') if word in text], [])
+            self.assertNotIn('damaged', self.legend())
+            self.assertFalse(self.browser.run('return [...document.querySelectorAll("#disc-line dd")].some(it => it.innerText === "0")'))
 
     def test_a_sector_that_has_lost_its_sync_is_called_so_in_runs_too(self) -> None:
         self.open_image(discs.written(lost=with_lost(discs.game(), 90))['lost'])
@@ -206,7 +211,7 @@ class Sayings(PageTest):
         self.open_script(discs.written(english=discs.named())['english'])
         self.browser.click('#tab-publish')
         self.browser.type('#patcher-title', 'Long Ago: English')
-        self.browser.wait('#panel-publish', '0 refused')
+        self.browser.wait('#panel-publish', 'all fit')
         self.wait_for_hash()
         self.press('Save as a patcher')
         self.browser.wait('#panel-publish .say.good', 'Saved: Long Ago English.html')
@@ -216,6 +221,6 @@ class Sayings(PageTest):
         self.search(discs.many_texts(), 'スタート')
         self.browser.type('#new-text', 'Start')
         self.browser.run(GATE)
-        self.press('Add for all')
+        self.press('Replace all')
         self.browser.wait('#panel-text .facts', '0 of 400 hits')
         self.browser.run('openGate()')

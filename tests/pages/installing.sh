@@ -3,6 +3,17 @@
 built() { make --no-print-directory -s -C "$top" PROGRAM="$program" LIBRARY="$library" JOINED="$joined" COMPLETIONS="$completions" "$@"; }
 files() { [ ! -d "$1" ] || (cd "$1" && find . ! -type d | sort); }
 
+# A make install that copies what it makes writes over what a link names.
+writes_through_links() {
+    sed -E 's/\$\(INSTALL_DATA\) ("\$\$room\/cdpatch.pc")/cp \1/' "$top/install.mk" > wrong.mk
+    judge 'a make install that copies is another' eval '! cmp -s wrong.mk "$top/install.mk"'
+    ln -sf "$PWD/victim" root/usr/lib/pkgconfig/cdpatch.pc
+    built -f "$PWD/wrong.mk" install DESTDIR="$PWD/root" PREFIX=/usr
+    judge 'and is refused' test "$(cat victim)" != kept
+    rm root/usr/lib/pkgconfig/cdpatch.pc
+    built install DESTDIR="$PWD/root" PREFIX=/usr
+}
+
 installed_for_a_package() {
     judge 'make install' built install DESTDIR="$PWD/root" PREFIX=/usr
     : > wanted
@@ -75,6 +86,7 @@ EOF
     built install DESTDIR="$PWD/root" PREFIX=/usr
     judge 'what a link there names is not written over' test "$(cat victim)" = kept -a \
         -z "$(find root -type l ! -lname 'libcdpatch.*')"
+    wrong_versions 'a wrong make install' && writes_through_links
     mkdir root/usr/share/cdpatch/python/cdpatch/__pycache__
     touch root/usr/bin/another root/usr/share/cdpatch/python/cdpatch/__pycache__/_library.cpython-311.pyc
     judge 'make uninstall' built uninstall DESTDIR="$PWD/root" PREFIX=/usr

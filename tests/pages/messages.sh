@@ -134,11 +134,13 @@ done 3< page
 
 # The program's messages: each is in the page.
 {
-    LC_ALL=C grep -aoE 'cdpatch: [a-zA-Z0-9 ]+' "$program"
-    grep -oh '#\[error("[a-z][^"]*")\]' "$top/crates/cd_script/src/fault.rt" |
-        sed -e 's/.*("//' -e 's/").*//' -e '/^no memory$/d' -e "s/{MAX_PATCHES}/$patches/"
+    # In a program nothing stands between what comes before a number and the next text.
+    LC_ALL=C grep -aoE 'cdpatch: [a-zA-Z0-9 ]+' "$program" | sed -E 's/ than .*/ than /'
+    sed -n 's/^ *ScriptFault::.* => "\(.*\)",$/\1/p' "$top/crates/cd_script/src/fault.rt" | grep -vx 'no memory'
 } | sort -u > messages
 judge 'there are messages to look for' test "$(wc -l < messages)" -gt 16
 while IFS= read -r message <&3; do
-    judge "the man page has: $message" grep -qxF -e ".It Li $message" "$top/man/cdpatch.1"
+    whole=x
+    [ "${message% }" = "$message" ] || whole=
+    judge "the man page has: $message" grep "-qF$whole" -e ".It Li $message" "$top/man/cdpatch.1"
 done 3< messages

@@ -156,8 +156,8 @@ for goal in check test-outside; do
     while read -r command; do
         case $goal:$command in
             *:python3) command='Python 3' ;;
-            test-outside:node | test-outside:tsc | test-outside:eslint | test-outside:strace | test-outside:valgrind | test-outside:setpriv | test-outside:objcopy | test-outside:pkg-config) continue ;;
-            test-outside:esbuild | test-outside:wasm-opt | test-outside:git | test-outside:cmake | test-outside:rustc | test-outside:chromium | test-outside:chromedriver | test-outside:pytest-3 | test-outside:hypothesis | test-outside:mypy) continue ;;
+            test-outside:eslint | test-outside:strace | test-outside:valgrind | test-outside:setpriv | test-outside:objcopy | test-outside:pkg-config) continue ;;
+            test-outside:esbuild | test-outside:wasm-opt | test-outside:git | test-outside:cmake | test-outside:rustc | test-outside:pytest-3 | test-outside:hypothesis | test-outside:mypy) continue ;;
         esac
         [[ $row == *" $command"[,\ ]* ]] || unknown+=" $command"
     done < skipping

@@ -23,8 +23,16 @@ released() {
     name=$(cd one/made && ls ./*.tar.gz)
     judge 'the tarball has the version in its name' test "$name" = "./cdpatch-$(cdpatch --help | sed -n '$s/cdpatch //p')-x86_64-linux.tar.gz"
     judge 'two directories give the same bytes' diff -r one/made 'another place/made'
+    rm -r 'another place/made' && mkdir 'another place/made'
     (umask 000 && make --no-print-directory -s -C 'another place' dist distdir=made > log)
     judge 'nobody else may write what is packed' test -z "$(find 'another place/made' -type f -perm /022)"
+    if wrong_versions 'a wrong make dist'; then
+        cp -r 'another place' open
+        sed -i '/^umask 022$/d' open/tools/dist.sh
+        rm -r open/made && mkdir open/made
+        (umask 000 && make --no-print-directory -s -C open dist distdir=made > log)
+        judge 'a make dist that takes the umask as it is, is refused' test -n "$(find open/made -type f -perm /022)"
+    fi
     judge 'the checksum is that of the tarball' eval "(cd one/made && sha256sum --status -c ./*.sha256)"
     judge 'the checksums are printed' test "$(sort one/printed)" = "$(sort one/made/*.sha256)"
     if [ -e "$joined/cdscript" ]; then
@@ -92,6 +100,23 @@ packaged_for_pip() {
         "$(cd site && python3 -B -c 'import cdpatch; print(cdpatch.listing(open("../disc.bin", "rb").read()).split("\n")[-2].replace(" ", "_"))')"
 }
 
+# patches_what_is_dropped PACKAGE: whether its example page makes what the program makes of the image and the script in `npm`.
+patches_what_is_dropped() {
+    SCRATCH=$PWD/npm /usr/bin/python3 -B "$top/tests/pages/npm_page.py" "$1" npm/readme/disc.bin npm/script \
+        npm/wanted.bin > log 2>&1
+}
+
+example_page() {
+    missing chromium chromium 'the example page of the package for npm' && return
+    missing chromedriver chromium-driver 'the example page of the package for npm' && return
+    judge 'its example page patches an image that is dropped on it' patches_what_is_dropped npm/node_modules/cdpatch
+    wrong_versions 'a wrong example page' || return
+    cp -r npm/node_modules/cdpatch npm/wrong
+    sed -i 's/patch(event.dataTransfer.files\[0\])/void 0/' npm/wrong/example.html
+    judge 'a page that does nothing with it is another' eval '! cmp -s npm/wrong/example.html npm/node_modules/cdpatch/example.html'
+    judge 'and is refused' eval '! PATIENCE=5 patches_what_is_dropped npm/wrong'
+}
+
 # A program that uses the package as its README says, on the image of the tests and one that is damaged; and what it prints.
 packaged_for_npm() {
     missing npm npm 'the package for npm' && return
@@ -113,6 +138,7 @@ packaged_for_npm() {
     judge 'its types are those that a program in TypeScript sees' tsc --noEmit --strict --target es2022 --module es2022 \
         --moduleResolution node --lib es2022,dom npm/npm.ts
     judge 'it has the command' test "$(cd npm && npx --offline cdscript version)" = "$("$joined/cdscript" version)"
+    example_page
     judge 'its module is the library'"'"'s' cmp -s "$library/cdpatch.wasm" npm/node_modules/cdpatch/cdpatch.wasm
 }
 

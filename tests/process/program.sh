@@ -1,5 +1,6 @@
 #!/usr/bin/env bash
-# The program as a process, on real files: `bash tests/process/program.sh [PROGRAM]`. The last line is 'N passed, M failed'.
+# The program as a process, on real files, and what it says of files that are not there, are no files or hold no script:
+# `bash tests/process/program.sh [PROGRAM]`. The last line is 'N passed, M failed'.
 set -u
 . "$(dirname "$0")/../lib/helpers.sh"
 
@@ -30,9 +31,6 @@ cmp -s image out
 judge 'the output is not the image' test $? = 1
 cp out patched
 
-run apply image script out
-judge 'an output that is there is refused' ended 2 "$no_output\n"
-judge 'an output that is there stays' cmp -s out patched
 rm out
 
 run audit patched
@@ -71,65 +69,69 @@ rm out
 run
 judge 'no words list the standard input' ended 0 'sectors 0 tail 0\n'
 
-run list missing
-judge 'no such image' ended 2 "$no_image\n"
-"$program" list '' > log 2> errors < image
-status=$?
-judge 'no name as image' ended 2 "$no_image\n"
-run apply '' script out
-judge 'no name as image to patch' ended_without_output 2 "$no_image\n"
 cp image ./-
 "$program" list - > log 2> errors < /dev/null
 status=$?
 judge 'the standard input comes before a file of the name -' ended 0 'sectors 0 tail 0\n'
 rm ./-
-run apply missing script out
-judge 'no such image to patch' ended_without_output 2 "$no_image\n"
-run apply image missing out
-judge 'no such script' ended_without_output 2 "$no_script\n"
 "$program" apply image - out > log 2> errors < script
 status=$?
 judge 'a script is no standard input' ended_without_output 2 "$no_script\n"
-run apply image '' out
-judge 'no name as script' ended_without_output 2 "$no_script\n"
-run apply missing missing out
-judge 'the script comes before the image' ended_without_output 2 "$no_script\n"
 
+# says LINE WORD..: with these arguments the program prints just this line, with status 2, and makes no file.
+says() {
+    local line=$1
+    shift
+    run "$@"
+    judge "$*" ended_without_output 2 "$line\n"
+}
 mkdir directory
-run apply image directory out
-judge 'a directory as script' ended_without_output 2 "$no_script\n"
-run list directory
-judge 'a directory as image' ended 2 "$read_failed\n"
-run apply image script directory
-judge 'a directory as output' ended 2 "$no_output\n"
-run apply image script nowhere/out
-judge 'an output in a directory that is not there' ended 2 "$no_output\n"
-run apply image script image
-judge 'the image as output' ended 2 "$no_output\n"
-run apply image script script
-judge 'the script as output' ended 2 "$no_output\n"
-run apply image script ''
-judge 'no name as output' ended 2 "$no_output\n"
+printf 'cdpatch 1\nset 1 0 4\n' > wrong
+: > empty
+patches=$(limit 'patches of a script')
+{ echo 'cdpatch 1'; yes 'rebuild 0' | head -n $((patches + 1)); } > many
+truncate -s $(($(limit 'bytes of a script') + 1)) long
 ln -s nothing dangling
-run apply image script dangling
-judge 'a dangling link as output' ended 2 "$no_output\n"
-judge 'nothing at the end of the link' test ! -e nothing
 ln -s image to_image
-run apply image script to_image
-judge 'a link to the image as output' ended 2 "$no_output\n"
 ln image same_image
-run apply image script same_image
-judge 'another name of the image as output' ended 2 "$no_output\n"
-rm same_image
-echo kept > old
-ln -s old to_old
-run apply image script to_old
-judge 'a link to a file as output' ended 2 "$no_output\n"
-judge 'the file at the end of the link stays' test "$(cat old)" = kept
-for device in /dev/null /dev/full /dev/stdout; do
-    run apply image script $device
-    judge "$device as output" ended 2 "$no_output\n"
+echo kept > there
+ln -s there to_there
+
+# The script is read before the image is opened, and the image is opened before OUT is made.
+for script in missing directory - ''; do
+    says "$no_script" check image "$script"
+    says "$no_script" apply missing "$script" out
 done
+says "$no_script" apply missing missing out
+for image in image missing; do
+    says "$long_script" apply $image long out
+    says "script line 2: $bad_hex" apply $image wrong out
+    says "script line 1: $no_head" apply $image empty out
+    says "script line $((patches + 2)): more than $patches patches" apply $image many out
+done
+says "$long_script" check image long
+says "script line 2: $bad_hex" check image wrong
+says "$no_image" list ''
+says "$no_image" audit missing
+says "$no_image" check missing script
+says "$no_image" apply missing script image
+says "$no_image" apply '' script nowhere/out
+says "$read_failed" list directory
+says "$read_failed" check directory script
+run apply directory script out
+judge 'apply directory script out' ended 2 "$read_failed\n"
+judge 'OUT is made before the image is read' test -e out -a ! -s out
+rm out
+
+# Whatever stands in OUT's place stays as it was.
+for out in there image script directory nowhere/out dangling to_image same_image to_there '' /dev/null /dev/full /dev/stdout; do
+    says "$no_output" apply image script "$out"
+done
+judge 'a file that is there stays' test "$(cat there)" = kept
+judge 'nothing is made at the end of a link' test ! -e nothing
+judge 'no directory is made' test ! -e nowhere
+rm long same_image
+
 # This shell holds both ends of the FIFO, so that no one waits to open it.
 mkfifo fifo
 exec 5<> fifo
@@ -180,22 +182,6 @@ if [ "$(id -u)" != 0 ] || [ ${#reader[@]} != 0 ]; then
     judge 'an output in a directory that may only be read' ended 2 "$no_output\n"
 fi
 
-printf 'cdpatch 1\nset 1 0 4\n' > wrong
-run apply image wrong out
-judge 'a fault of the script' ended_without_output 2 "script line 2: $bad_hex\n"
-run apply missing wrong out
-judge 'a fault of the script comes before the image' ended_without_output 2 "script line 2: $bad_hex\n"
-
-patches=$(limit 'patches of a script')
-{ echo 'cdpatch 1'; yes 'rebuild 0' | head -n $((patches + 1)); } > many
-run apply image many out
-judge 'a patch too many' ended_without_output 2 "script line $((patches + 2)): more than $patches patches\n"
-
-truncate -s $(($(limit 'bytes of a script') + 1)) long
-run apply image long out
-judge 'a script that is too long' ended_without_output 2 "$long_script\n"
-rm long
-
 # A limit on the size of a file stands for a disk that has room for so much.
 (
     trap '' XFSZ
@@ -223,6 +209,8 @@ judge 'a listing to a full device' ended 2 ''
 run --help
 judge 'help has status 0' test "$status" = 0
 judge 'help has a text, only on standard output' eval 'grep -q Usage log && [ ! -s errors ]'
+run apply --help
+judge 'help of a command' eval '[ "$status" = 0 ] && grep -q "Usage: cdpatch" log && [ ! -s errors ]'
 "$program" --help > /dev/full 2> errors
 judge 'help to a full device has status 2' test $? = 2
 
@@ -234,7 +222,12 @@ refused() {
 told_by_parser() {
     [ "$status" = 2 ] && grep -q '^error: ' log && [ ! -s errors ] && [ ! -e out ]
 }
-refused apply image script
+# explains PART WORD..: it prints this part too.
+explains() {
+    refused "${@:2}"
+    judge "and prints $1" grep -q -- "$1" log
+}
+explains "Usage: cdpatch" apply image script
 refused apply image script out more
 refused apply image script out --base 5 --carry more
 refused apply --base 5 --carry -- image script out more
@@ -242,7 +235,7 @@ refused check image
 refused check image script more
 refused list image image
 refused list
-refused audit
+explains "Usage: cdpatch" audit
 refused audit --base
 refused nothing
 refused --nothing
@@ -250,6 +243,7 @@ refused ''
 refused -- list image
 refused --version
 refused apply image script out --base 449850
+explains 449850 list image --base 449850
 refused apply image script out --base -1
 refused apply image script out --base 0 --base 0
 refused list image --carry

@@ -5,6 +5,10 @@ set -u
 top=$(cd "$(dirname "$0")/../.." && pwd)
 . "$top/tests/lib/judging.sh"
 cd "$scratch" || exit 1
+if missing make make 'the Makefile' || missing python3 python3 'the Makefile'; then
+    finish
+    exit
+fi
 
 # A repository whose rt, tools/prove.py, tools/library.sh, tools/wasm.sh and tests/run write into `called` what they are called for,
 # and of whose toolchain tools/toolchain.sh says that its logic is another.

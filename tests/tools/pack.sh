@@ -4,7 +4,7 @@
 # run, and CASE the only one of many alike that is wanted.
 set -u
 . "$(dirname "$0")/../lib/helpers.sh"
-python3 -B "$top/tools/header_numbers.py" # of the header, if it has changed since `make`
+fresh_numbers
 tree=${TREE-$top}
 
 # wanted NAME COMMAND..: judges by this name, if it is wanted.
@@ -310,6 +310,12 @@ test_forms() {
     refuses_form "What a folder gives to others stands in its index.js" page/disc/map.js "import '../ui/dom.js';"
     refuses_form 'The state of the page is changed by its methods' page/disc/map.js "app.image = null;"
     refuses_form 'The methods of the state tell what has changed' page/disc/map.js "app.tell('image');"
+    for file in page/disc/map.js command/help.js; do
+        refuses_form 'A failure has a code' $file "export const isGone = error => error.message.includes('gone');"
+        refuses_form 'The core reads and writes the lines of scripts' $file 'export const FILLED = /^fill (\d+)/;'
+        refuses_form 'The core reads and writes the lines of scripts' $file 'export const line = block => `rebuild ${block}`;'
+    done
+    refuses_form 'A failure has a code' core/sectors/runs.js "export const isGone = error => error.message === 'gone';"
     refuses_form 'Calls has a method for each call' page/disc/map.js "calls.exports.cdpatch_version();"
     refuses_form '../disc/index.js imports this module' page/text/panel.js "import '../disc/index.js';"
     refuses_form 'The command imports only of itself, of the core and of node' command/help.js "import '../page/ui/dom.js';"

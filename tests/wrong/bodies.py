@@ -27,6 +27,8 @@ from typing import Any
 TOP = Path(__file__).resolve().parents[2]
 RT = Path(shutil.which('rt') or sys.exit('There is no rt on the path.')).resolve()
 FLAGS = ['--jobs', '1']
+# What rt says of a wrong body that was refused: True in release 13b; in 13f a word, as it also says one of those that were not.
+REFUSED = (True, 'refused', 'limit')
 # A proof that names what an edit took away says nothing of the contract, nor does one that waits for another.
 SAYS_LITTLE = re.compile(r'has no field|is not in scope|has no `|was not admitted|that depends? on')
 
@@ -145,9 +147,10 @@ def tried_at_once(crate: Any, edits: list[Edit], kept: str) -> dict[str, str]:
 
 def tried_alone(crate: Any, edit: Edit, kept: str | None) -> tuple[bool, str]:
     """Whether a wrong body is refused by itself, and what to print of it. What was not refused over what was kept is tried from nothing."""
-    refused, text = rt.must_fail(crate, edit.path, FLAGS, kept)
-    if not refused and kept:
-        refused, text = rt.must_fail(crate, edit.path, FLAGS)
+    said, text = rt.must_fail(crate, edit.path, FLAGS, kept)
+    if said not in REFUSED and kept:
+        said, text = rt.must_fail(crate, edit.path, FLAGS)
+    refused = said in REFUSED
     return refused, f'{"alone" if refused else "FAILED:"} {text}'
 
 

@@ -18,7 +18,7 @@ from collections.abc import Iterator
 from dataclasses import dataclass, replace
 from pathlib import Path
 
-from versions import MODULE, NOTICES, TESTS, TOP, WRONG, copied
+from versions import MODULE, NOTICES, TESTS, TOP, WRONG, copied, in_cases
 
 SOURCES = {'core': 'web/core', 'cdscript': 'web/command', 'python': 'python/cdpatch'}
 # Seconds of a processor after which a test has failed.
@@ -136,36 +136,30 @@ def survives(mutant: Mutant, room: Path) -> bool:
     web = copied(TOP / 'web', None, room / 'web')
     changed(mutant, web)
     if mutant.suite == 'core':
-        return all(run_test(['node', str(it.file)], room, CORE=str(web / 'core')) for it in TESTED['core'] if it.reaches(mutant))
+        reached = [it.file for it in TESTED['core'] if it.reaches(mutant)]
+        return passes(reached, room, 'core', web / 'core')
     command = room / 'cdscript'
     import pack
     command.write_text(str(pack.packed_door('command', web, MODULE, NOTICES)))
     command.chmod(0o755)
-    return all(run_test(['node', str(it.file)], room, COMMAND=str(command)) for it in TESTED['cdscript'])
+    return passes([it.file for it in TESTED['cdscript']], room, 'cdscript', command)
+
+
+def passes(files: list[Path], room: Path, client: str, path: Path) -> bool:
+    """Whether these files of tests pass, and random cases by the client."""
+    name = {'core': 'CORE', 'cdscript': 'COMMAND'}[client]
+    return all(run_test(['node', str(file)], room, **{name: str(path)}) for file in files) and not in_cases('random cases', client, path, room)
 
 
 def tried(mutant: Mutant) -> str:
     text = (TOP / mutant.file).read_text()
     shown = f'{mutant.file}:{mutant.line}: {text[mutant.start:mutant.end]} -> {mutant.made}'.replace('\n', ' ')
-    if mutant.suite == 'core' and not any(it.reaches(mutant) for it in TESTED['core']):
-        return f'unreached {shown}'
+    lives = 'survived' if mutant.suite != 'core' or any(it.reaches(mutant) for it in TESTED['core']) else 'unreached'
     with tempfile.TemporaryDirectory(prefix='mutant-') as room:
         try:
-            return f'survived {shown}' if survives(mutant, Path(room)) else f'killed {shown}'
+            return f'{lives} {shown}' if survives(mutant, Path(room)) else f'killed {shown}'
         except SystemExit:
             return f'killed {shown}'
-
-
-def write_answers(suite: str, room: str) -> None:
-    """Writes to a directory the answers that tests of the core or of cdscript want."""
-    os.environ['ANSWERS'] = room
-    subprocess.run([sys.executable, '-B', str(TESTS / 'core/answers.py'), room, os.environ['PROGRAM'], '300',
-                    *(['command'] if suite == 'cdscript' else [])], stdout=subprocess.DEVNULL, check=True)
-
-
-def files_of(suite: str) -> list[Path]:
-    """The files of a suite's tests. What takes a minute by itself is left out."""
-    return [file for file in sorted((TESTS / suite).glob('*.test.mjs')) if (suite, file.stem) != ('cdscript', 'cases.test')]
 
 
 def unchanged(mutant: Mutant) -> Mutant:
@@ -173,16 +167,15 @@ def unchanged(mutant: Mutant) -> Mutant:
 
 
 def tried_all(suite: str, mutants: list[Mutant]) -> Iterator[str]:
-    with tempfile.TemporaryDirectory(prefix='answers-') as room:
-        if suite != 'python':
-            write_answers(suite, room)
-            with multiprocessing.Pool(os.cpu_count()) as pool:
-                TESTED[suite] = sorted(pool.map(measured, files_of(suite)), key=lambda it: it.seconds)
-        with tempfile.TemporaryDirectory(prefix='mutant-') as place:
-            if mutants and not survives(unchanged(mutants[0]), Path(place)):
-                raise RuntimeError(f'the tests of {suite} fail on the right version')
-        with multiprocessing.Pool(os.cpu_count()) as pool:
-            yield from pool.imap_unordered(tried, mutants)
+    processes = len(os.sched_getaffinity(0))
+    if suite != 'python':
+        with multiprocessing.Pool(processes) as pool:
+            TESTED[suite] = sorted(pool.map(measured, sorted((TESTS / suite).glob('*.test.mjs'))), key=lambda it: it.seconds)
+    with tempfile.TemporaryDirectory(prefix='mutant-') as place:
+        if mutants and not survives(unchanged(mutants[0]), Path(place)):
+            raise RuntimeError(f'the tests of {suite} fail on the right version')
+    with multiprocessing.Pool(processes) as pool:
+        yield from pool.imap_unordered(tried, mutants)
 
 
 def main() -> int:

@@ -35,6 +35,9 @@ for name, file in ('PROGRAM', 'cdpatch'), ('CDPATCH_PROGRAM', 'cdpatch'), ('CDPA
 LONGEST = 10
 # A test that fails in a browser waits most of the time, so windows side by side take as long as one.
 WINDOWS = 4
+# Worked and random cases are tests of each client; these refuse a wrong one soon.
+CASES = {'worked cases': ['cases/judge.py', 'model', '--without-model', '--first'],
+         'random cases': ['model/compare.py', '--cases', '100', '--jobs', '1']}
 # A test that has to pass in each window after all wrong pages.
 LAST = 'text: no hit says what was searched'
 
@@ -126,14 +129,26 @@ def file_of(test: str, pattern: str, form: str) -> Path:
     return found[0]
 
 
+def in_cases(test: str, client: str, path: Path, room: Path) -> bool:
+    """Whether worked or random cases by a client of tests/cases/clients.py fail."""
+    words = CASES[test] + [f'--{client}', str(path)]
+    return subprocess.run([sys.executable, '-B', str(TESTS / words[0]), *words[1:]], stdout=subprocess.DEVNULL, check=False,
+                          env={**os.environ, 'TMPDIR': str(room)}).returncode != 0
+
+
 def core(edit: Edit, wrong: Edit | None, room: Path) -> bool | None:
-    return in_node(TESTS / 'core' / edit.inside, edit.test, room, CORE=str(copied(TOP / 'web/core', wrong, room / 'core')))
+    directory = copied(TOP / 'web/core', wrong, room / 'core')
+    if edit.test in CASES:
+        return in_cases(edit.test, 'core', directory, room)
+    return in_node(TESTS / 'core' / edit.inside, edit.test, room, CORE=str(directory))
 
 
 def cdscript(edit: Edit, wrong: Edit | None, room: Path) -> bool | None:
     command = room / 'cdscript'
     command.write_text(packed('command', copied(TOP / 'web', wrong, room / 'web')))
     command.chmod(0o755)
+    if edit.test in CASES:
+        return in_cases(edit.test, 'cdscript', command, room)
     return in_node(TESTS / 'cdscript' / edit.inside, edit.test, room, COMMAND=str(command))
 
 
@@ -192,6 +207,8 @@ def python(edit: Edit, wrong: Edit | None, room: Path) -> bool | None:
             del sys.modules[name]
     package = room / 'package'
     copied(TOP / 'python/cdpatch', wrong, package / 'cdpatch')
+    if edit.test in CASES:
+        return in_cases(edit.test, 'python', package, room)
     file = file_of(edit.test, 'python/test_*.py', 'def {}(')
     sys.path.insert(0, str(package))
     os.environ['PYTHONPATH'] = str(package)

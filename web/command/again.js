@@ -5,7 +5,7 @@ import { spawn } from 'node:child_process';
 import { readFileSync } from 'node:fs';
 
 const TESTED = '--disable-wasm-trap-handler';
-/** So many bytes of addresses are enough for the memories of all threads. */
+/** Bytes of addresses that are enough for the memories of all threads. */
 const ENOUGH = 1e12;
 
 /** Whether this is such a process. Threads would reserve as much again each, and node ends if it gets none. */

@@ -1,5 +1,6 @@
 // The arguments of the command line.
 
+import { LAST_TRACK } from '../core/disc/cue.js';
 import { Fault } from '../core/faults.js';
 import { LAST_BASE, LAST_BLOCK } from '../core/module/numbers.js';
 import { ENCODINGS, encodingOf } from '../core/texts/encodings.js';
@@ -25,8 +26,6 @@ const EXCLUDING = [
 
 /** Options that may be given several times. */
 const REPEATED = ['dat', 'in'];
-
-const LAST_TRACK = 99;
 
 /** @type {Record<string, string>} */
 const SHORT_WORDS = { '-h': '--help', '-V': '--version' };

@@ -49,7 +49,7 @@ export function hasCode(error, code) {
  * @param {unknown} error
  */
 export function fileFault(attempt, name, error) {
-    return new Fault(`cannot ${attempt} ${name}: ${reasonOf(error)}`, FAULT.FILE, { attempt });
+    return new Fault(`cannot ${attempt} ${name}: ${reasonOf(error)}`, FAULT.FILE, { attempt, file: name });
 }
 
 /**

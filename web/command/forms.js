@@ -157,7 +157,7 @@ export const FORMS = {
         job: mergeJob, takes: ['OLD', 'OTHER..', 'OUT'], options: ['dat', 'track', 'base'],
         says: 'Repair an image by other dumps of the same disc',
         does: 'OUT is OLD with sound sectors of the OTHERs for those that are damaged in OLD. Status: 0 all is sound, 1 some sectors ' +
-            'are damaged in all, or taken though their EDC is another in OLD, 2 failed',
+            'are damaged in all, or taken with another EDC than OLD has, 2 failed',
         example: 'cdscript merge first.bin second.bin third.bin repaired.bin',
     },
     'rebuilds': {
@@ -168,7 +168,7 @@ export const FORMS = {
     },
     'undo': {
         job: undoJob, takes: ['IMAGE', 'SCRIPT'], options: ['base', 'track', 'carry', 'long', 'output'],
-        says: 'Write the script that takes another one back',
+        says: 'Write the script that reverts another one',
         does: 'IMAGE is the image before SCRIPT. Status: 0 done, 1 something does not come back, which is named, 2 failed',
         example: 'cdscript undo game.cue english.txt -o back.txt',
     },

@@ -62,6 +62,10 @@ export async function mergeJob(run) {
         const sound = `${repair.different[i]} of ${repair.sectors} sectors are sound in ${name} and in ${others[i].name}`;
         throw new Fault(`${sound}, and differ: one of them is patched, shifted or of another disc`);
     }
+    repair.parts.forEach(({ from, to }, i) => {
+        const part = { first: from + image.base, last: to + image.base - 1 };
+        if (to - from < image.sectors) run.say(`${others[i].name} has only ${blocksText([part])} of ${name}`);
+    });
     others.filter((_, i) => repair.tails[i]).forEach(other => run.say(`${TAILS} in ${other.name}; those of ${name} are kept`));
     const blocks = { first: image.base, last: image.base + image.sectors - 1 };
     const { holes, long } = holesOf(repair.others, blocks, mode1Tracks(disc, track.file, image.base));

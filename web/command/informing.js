@@ -12,7 +12,7 @@ import { foundInFiles } from './surveying.js';
 /** @typedef {import('../core/disc/disc.js').Disc} Disc */
 /** @typedef {import('../core/disc/disc.js').DiscTrack} DiscTrack */
 /** @typedef {import('./run.js').Run} Run */
-/** @typedef {{ found: boolean, lines: string[] }} Found whether something is wrong, and what is printed */
+/** @typedef {{ found: boolean, lines: string[] }} Informed whether something is wrong, and what is printed */
 /** @typedef {import('./surveying.js').FileFound} FileFound */
 
 const NOT_KNOWN = 'no dump of this size and SHA-1 is in the DAT';
@@ -61,7 +61,7 @@ function unsurveyedLines({ tracks }) {
 /**
  * The lines of a disc, and whether something is wrong with it.
  * @param {Run} run
- * @returns {Promise<Found>}
+ * @returns {Promise<Informed>}
  */
 async function discLines(run) {
     const known = await run.knownDumps();

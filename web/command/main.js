@@ -12,9 +12,9 @@ import { helpText } from './help.js';
 import { MESSAGES } from './messages.js';
 import { visible } from './printed.js';
 import { Run } from './run.js';
-import { SCANNING, serveScan } from './scan_thread.js';
+import { serveScan } from './scan_thread.js';
 import { Messages } from './stdout.js';
-import { serveHash, serveThread } from './threads.js';
+import { serveThread } from './threads.js';
 
 /** @typedef {import('./arguments.js').Given} Given */
 /** @typedef {import('./run.js').Streams} Streams */
@@ -91,9 +91,9 @@ function endOnSignals(files) {
 /** Runs the command, or serves it in a thread. */
 export function start() {
     if (!isMainThread) {
-        if (workerData === SCANNING) serveScan();
-        else if (!(workerData instanceof WebAssembly.Module)) serveHash();
-        else serveThread();
+        const { module, scans } = /** @type {import('./threads.js').ThreadData} */ (workerData);
+        if (scans) serveScan(module);
+        else serveThread(module);
         return;
     }
     const failed = (/** @type {unknown} */ error) => {

@@ -1,4 +1,4 @@
-// What the command uses of node, for the compiler: Debian has no package of node's types.
+// What the command uses of node, for the compiler, so that it needs no package of node's types.
 
 declare const Buffer: {
     allocUnsafeSlow(size: number): Uint8Array;

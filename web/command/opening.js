@@ -27,7 +27,7 @@ export async function openDiscOf(run, name) {
     const others = kind === 'cue' ? await filesOfSheet(run, file) : [];
     const disc = await openNamedFiles(run, [file, ...others]);
     const long = disc.files.find(({ reader }) => imageTooLong(reader.size));
-    if (long) throw new Fault(`${long.name}: ${MESSAGES.long_image}`);
+    if (long) throw new Fault(`${long.name}: ${MESSAGES.long_image}`, FAULT.INPUT, { file: long.name });
     return disc;
 }
 
@@ -41,7 +41,7 @@ async function openNamedFiles(run, files) {
         return await openDisc(run.calls, files);
     } catch (error) {
         if (!failedBy(error, FAULT.MISSING_FILES)) throw error;
-        throw new Fault(`${error.facts.found} It is not in the directory of the cue sheet.`);
+        throw new Fault(`${error.facts.found} It is not in the directory of the cue sheet.`, FAULT.INPUT, { file: error.facts.sheet });
     }
 }
 

@@ -9,7 +9,12 @@ let lastTurn = 0;
 export async function letSignalsIn() {
     if (Date.now() - lastTurn < YIELD_INTERVAL) return;
     lastTurn = Date.now();
-    await new Promise(resolve => setImmediate(resolve));
+    await turn();
+}
+
+/** Lets in all that waits: signals, and what threads have sent. */
+export function turn() {
+    return new Promise(resolve => setImmediate(resolve));
 }
 
 /**

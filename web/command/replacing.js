@@ -11,7 +11,7 @@ import { bytesAround, contextOf } from '../core/texts/context.js';
 import { spaceIn, usualBytes } from '../core/texts/encoding.js';
 import { endOfMatch, longestOf } from '../core/texts/find.js';
 import { hexText } from '../core/texts/hex.js';
-import { leftHitText, replacedHits } from '../core/texts/replace.js';
+import { assertHasRoom, leftHitText, replacedHits } from '../core/texts/replace.js';
 import { encodingsWith } from '../core/texts/search.js';
 import { replaceListJob } from './listing.js';
 import { fileAtPath, openTexts } from './looking.js';
@@ -74,8 +74,9 @@ async function wantedPlaces(run, opened, text) {
     if (count === 1 || (all && count === hits.length)) return { image, encoding, hits, inside };
     if (all) throw new Fault(`the text stands at ${count} places, and no more than ${MOST_PLACES} are replaced`);
     for (const hit of hits) {
-        const { doubt } = await contextOf(image, encoding, hit, 0);
-        run.say(`it stands at block ${hit.block} offset ${hit.offset}${doubt === '' ? '' : `, ${doubt}`}`);
+        const { doubt, before, hit: own, after } = await contextOf(image, encoding, hit);
+        const place = `it stands at block ${hit.block} offset ${hit.offset}${doubt === '' ? '' : `, ${doubt}`}`;
+        run.say(`${place}: ${[...before, own, ...after].join('')}`);
     }
     throw new Fault(`the text stands at ${count} places: give BLOCK and OFFSET of one, or --all`);
 }
@@ -103,6 +104,7 @@ function freshBytes(run, { encoding, hits }, text) {
     /** @type {Map<number, Uint8Array>} */
     const known = new Map();
     for (const size of new Set(hits.map(hit => hit.size))) {
+        assertHasRoom(encoding, bytes, size);
         const missing = size - bytes.length;
         if (missing > 0 && fill === null) throw new Fault(`${encoding.name} has no space to fill up with: give --fill`);
         known.set(size, filledUp(bytes, size, fill));

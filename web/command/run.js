@@ -1,7 +1,7 @@
 // What a job works with: its arguments, files, output, messages, the calls, and threads.
 
 import { gunzipSync } from 'node:zlib';
-import { joinedBytes } from '../core/bytes.js';
+import { joinedBytes, watchedReader } from '../core/bytes.js';
 import { KnownDumps } from '../core/disc/dat.js';
 import { FAULT, Fault, failedBy } from '../core/faults.js';
 import { Calls } from '../core/module/calls.js';
@@ -24,6 +24,11 @@ let compiled = null;
 export function compiledModule() {
     if (compiled === null) compiled = new WebAssembly.Module(gunzipSync(Buffer.from(JOINED.module, 'base64')));
     return compiled;
+}
+
+/** @param {WebAssembly.Module} module which another thread has compiled */
+export function takeModule(module) {
+    compiled = module;
 }
 
 /** What was asked for, and what a job does it with. */
@@ -95,13 +100,7 @@ export class Run {
      */
     watched(reader) {
         const all = sectorCount(reader.size);
-        return {
-            ...reader,
-            read: (at, length, room) => {
-                this.messages.progress(Math.floor(at / SECTOR_SIZE), all);
-                return reader.read(at, length, room);
-            },
-        };
+        return watchedReader(reader, at => this.messages.progress(Math.floor(at / SECTOR_SIZE), all));
     }
 
     /**

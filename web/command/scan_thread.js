@@ -8,7 +8,7 @@ import { blocksIn } from '../core/sectors/runs.js';
 import { kindRuns } from '../core/sectors/survey.js';
 import { Files } from './files.js';
 import { openDiscOf } from './opening.js';
-import { Run } from './run.js';
+import { Run, takeModule } from './run.js';
 import { foundInFiles } from './surveying.js';
 
 /** @typedef {import('./surveying.js').FileFound} FileFound */
@@ -18,9 +18,6 @@ import { foundInFiles } from './surveying.js';
  * the file is none that a disc is of.
  * @typedef {{ files: Scanned[], missing: string[], fault: string, isOther: boolean }} Answer
  */
-
-/** What a thread begins with that looks into images. */
-export const SCANNING = 'scan';
 
 /** Who says and shows nothing. */
 const SILENT = /** @type {import('./stdout.js').Messages} */ (/** @type {unknown} */ ({ say() {}, progress() {}, hideProgress() {} }));
@@ -67,16 +64,20 @@ export async function scanOne(name) {
         return { files: (await foundInFiles(run, disc)).map(scanned), missing, fault: '', isOther: false };
     } catch (error) {
         if (!(error instanceof Fault)) throw error;
-        const fault = error.message.includes(name) ? error.message : `${name}: ${error.message}`;
+        const fault = error.facts.file === name ? error.message : `${name}: ${error.message}`;
         return { files: [], missing: [], fault, isOther: false };
     } finally {
         files.close();
     }
 }
 
-/** What a thread of `scan` does: a name comes, and the answer goes. */
-export function serveScan() {
+/**
+ * What a thread of `scan` does: a name comes, and the answer goes.
+ * @param {WebAssembly.Module} module
+ */
+export function serveScan(module) {
     if (parentPort === null) return;
+    takeModule(module);
     const port = parentPort;
     port.on('message', name => {
         scanOne(name).catch(error => ({ files: [], missing: [], fault: `${name}: ${error}`, isOther: false }))

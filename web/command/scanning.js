@@ -9,7 +9,8 @@ import { Fault } from '../core/faults.js';
 import { textOfFile } from '../core/texts/encodings.js';
 import { reasonOf, tryFile } from './failures.js';
 import { writeFully } from './new_file.js';
-import { SCANNING, scanOne } from './scan_thread.js';
+import { compiledModule } from './run.js';
+import { scanOne } from './scan_thread.js';
 import { begunThread } from './threads.js';
 
 /** @typedef {import('../core/disc/dat.js').KnownDumps} KnownDumps */
@@ -116,7 +117,7 @@ class Collection {
 
 /** @returns {Scanner} a thread that looks into images; without threads this one does */
 function newScanner() {
-    const thread = begunThread(SCANNING);
+    const thread = begunThread({ module: compiledModule(), scans: true });
     /** @type {(answer: Answer) => void} */
     let settle = () => {};
     const failed = (/** @type {unknown} */ error) =>

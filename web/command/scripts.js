@@ -6,6 +6,7 @@ import { compareImages } from '../core/images/compare.js';
 import { MOST_SCRIPT_BYTES, RECORD_SIZE } from '../core/module/records.js';
 import { baseComment } from '../core/script/base_said.js';
 import { LineList } from '../core/script/line_list.js';
+import { afterColon } from '../core/script/line_words.js';
 import { Refusal } from '../core/script/script.js';
 import { ScriptParts } from '../core/script/script_writer.js';
 import { leftText } from '../core/script/sector_lines.js';
@@ -25,6 +26,9 @@ import { sayOfRuns } from './printed.js';
 /** Blocks, or patches, were left out, and that was said. */
 const SOME_LEFT_OUT = 1;
 
+/** Threads that compare what this one patches: more would wait for it. */
+const UNDOING_THREADS = 2;
+
 const DAMAGE_STAYS_OUT = 'damage does not come back; address and user data do';
 
 /**
@@ -34,10 +38,10 @@ const DAMAGE_STAYS_OUT = 'damage does not come back; address and user data do';
  * @param {Script} script
  * @param {number} base of the image that it is for
  */
-export async function writeScript(run, target, { pieces: [head, ...pieces], size, patches, long, carry }, base) {
-    const comment = new TextEncoder().encode(commentOf(base));
-    for (const piece of [head, comment, ...pieces]) await target.write(piece);
-    sayOfScript(run, { patches, carry, long: long || size + comment.length > MOST_SCRIPT_BYTES });
+export async function writeScript(run, target, script, base) {
+    const [head, ...pieces] = script.pieces;
+    for (const piece of [head, new TextEncoder().encode(commentOf(base)), ...pieces]) await target.write(piece);
+    sayOfScript(run, script, base);
 }
 
 /**
@@ -49,14 +53,16 @@ function commentOf(base) {
 }
 
 /**
- * Says what a script asks of who applies it.
+ * Says what a script, with the comment that says its base, asks of who applies it.
  * @param {Run} run
- * @param {{ patches: number, long: boolean, carry: boolean }} script
+ * @param {Script} script
+ * @param {number} base
  */
-function sayOfScript(run, { patches, long, carry }) {
+function sayOfScript(run, { size, patches, long, carry }, base) {
+    const isLong = long || size + commentOf(base).length > MOST_SCRIPT_BYTES;
     if (patches === 0) run.say('the script has no patch');
     if (carry) run.say('the script patches damaged sectors: it needs --carry');
-    if (long) run.say('the script is longer than cdpatch takes: cdscript apply --long applies it');
+    if (isLong) run.say('the script is longer than cdpatch takes: cdscript apply --long applies it');
 }
 
 /**
@@ -87,9 +93,9 @@ async function takingLines(target, base) {
  * @param {Script} script
  * @param {number} base
  */
-async function endLines(run, file, { pieces: [head], size, patches, carry, long }, base) {
-    await file.writeFirst(head);
-    sayOfScript(run, { patches, carry, long: long || size + commentOf(base).length > MOST_SCRIPT_BYTES });
+async function endLines(run, file, script, base) {
+    await file.writeFirst(script.pieces[0]);
+    sayOfScript(run, script, base);
 }
 
 /** @param {Run} run */
@@ -132,9 +138,9 @@ export async function undoJob(run) {
     const target = await run.target();
     const { image } = await openTrack(run, run.names[0], true);
     const script = run.files.piecesOf(run.names[1]);
-    const crew = run.crew.crew(image.sectors);
+    const crew = run.crew.crew(image.sectors, UNDOING_THREADS);
     const made = await undoScript(run.calls, run.watched(image.reader), script, { base: image.base, carry, long, crew });
-    if (made instanceof Refusal) throw new Fault(new TextDecoder().decode(made.text).trim().replace(/^cdpatch: /, ''));
+    if (made instanceof Refusal) throw new Fault(afterColon(new TextDecoder().decode(made.text).trim()));
     const refused = made.patched.outcomes.filter(({ result }) => result !== 0).length;
     const why = `${refused === 1 ? '1 patch is' : `${refused} patches are`} refused on ${image.name}: is it the image before the script?`;
     if (refused > 0 && made.script.patches === 0 && made.left.length === 0) throw new Fault(why);

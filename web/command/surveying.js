@@ -6,7 +6,7 @@ import { MODE1, holesOf, mode1Tracks, otherRuns } from '../core/sectors/holes.js
 import { sectorCount } from '../core/sectors/sector.js';
 import { surveyCounts } from '../core/sectors/survey.js';
 import { openTrack, sayUnknownBase } from './opening.js';
-import { begunThread } from './threads.js';
+import { turn } from './pausing.js';
 
 /** @typedef {import('../core/bytes.js').Reader} Reader */
 /** @typedef {import('../core/disc/disc.js').Disc} Disc */
@@ -22,8 +22,8 @@ import { begunThread } from './threads.js';
 /** @typedef {ReturnType<typeof surveyCounts> & { survey: Survey, holes: BlockRun[], long: BlockRun[] }} Counted */
 /** @typedef {{ file: DiscFile, sha1: string, surveys: (Surveyed & Counted)[] }} FileFound a file of a disc, and what is found in it */
 
-/** Bytes that are hashed at a time. */
-const HASH_STEP = 1 << 22;
+/** Bytes that are hashed at a time: threads have work for longer. */
+const HASH_STEP = 1 << 20;
 
 /**
  * A reader that hashes what it is read, which has to be all bytes, one after the other; and its SHA-1, after what was not read yet.
@@ -36,15 +36,19 @@ function hashing(reader) {
     let hashed = 0;
     return {
         size,
-        async read(at, length) {
-            const bytes = await reader.read(at, length);
+        async read(at, length, room) {
+            const bytes = await reader.read(at, length, room);
             if (at !== hashed) throw new Error(`byte ${at} after ${hashed} bytes`);
             hash.update(bytes);
             hashed += bytes.length;
             return bytes;
         },
         async digest() {
-            while (hashed < size) await readBytes(this, hashed, Math.min(HASH_STEP, size - hashed));
+            const room = new Uint8Array(HASH_STEP);
+            while (hashed < size) {
+                await readBytes(this, hashed, Math.min(HASH_STEP, size - hashed), room);
+                await turn();
+            }
             return hash.digest('hex');
         },
     };
@@ -92,28 +96,12 @@ async function surveyedTracks(run, disc) {
 }
 
 /**
- * Whether a file is hashed while others look at its sectors.
+ * Whether a file is hashed here while threads look at its sectors.
  * @param {Run} run
  * @param {Reader} reader
  */
 function isHashedBeside(run, reader) {
     return Boolean(reader.lent) && run.crew.hasThreads(sectorCount(reader.size));
-}
-
-/**
- * The SHA-1 of a file by a thread of its own, which reads for itself; null if there is none, or it could not.
- * @param {Run} run
- * @param {Reader} reader
- * @returns {Promise<string | null>}
- */
-function hashedBeside(run, reader) {
-    const lent = isHashedBeside(run, reader) && reader.lent ? reader.lent(0, reader.size) : null;
-    const thread = lent === null ? null : begunThread({ hashing: lent });
-    if (thread === null) return Promise.resolve(null);
-    return new Promise(resolve => {
-        thread.worker.on('message', resolve);
-        thread.worker.on('error', () => resolve(null));
-    });
 }
 
 /**
@@ -127,12 +115,13 @@ export async function foundInFiles(run, disc) {
     const found = [];
     for (const [i, file] of disc.files.entries()) {
         const own = surveyed.filter(it => it.file === i);
-        const beside = own.length > 0 ? hashedBeside(run, file.reader) : Promise.resolve(null);
-        const isBeside = isHashedBeside(run, file.reader);
         const hashed = hashing(file.reader);
+        const isBeside = own.length > 0 && isHashedBeside(run, file.reader);
+        const beside = isBeside ? hashed.digest() : null;
+        if (beside !== null) beside.catch(() => {}); // it is thrown when its turn comes
         const surveys = [];
         for (const it of own) surveys.push({ ...it, ...await countedSurvey(run, it, it.isWhole && !isBeside ? hashed : it.image.reader) });
-        found.push({ file, sha1: await beside || await hashed.digest(), surveys });
+        found.push({ file, sha1: await (beside || hashed.digest()), surveys });
     }
     return found;
 }

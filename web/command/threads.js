@@ -1,23 +1,24 @@
 // Threads of node as the hands of a crew.
 
-import { createHash } from 'node:crypto';
 import { readSync } from 'node:fs';
 import { cpus } from 'node:os';
-import { Worker, parentPort, workerData } from 'node:worker_threads';
+import { Worker, parentPort } from 'node:worker_threads';
 import { Crew, JOBS, UNREAD, localHand, serving, transfersOf } from '../core/jobs.js';
 import { Calls } from '../core/module/calls.js';
 import { sectorCount } from '../core/sectors/sector.js';
-import { textsJob } from '../core/texts/range.js';
+import { textsOfRangeJob } from '../core/texts/range.js';
 import { isTested } from './again.js';
 
 /** @typedef {import('../core/jobs.js').Hand} Hand */
 /** @typedef {import('../core/jobs.js').Message} Message */
 /** @typedef {import('../core/jobs.js').Reply} Reply */
+/** @typedef {{ module: WebAssembly.Module, scans: boolean }} ThreadData what a thread begins with; whether it is one of `scan` */
 
-JOBS.texts = textsJob;
+JOBS.texts = textsOfRangeJob;
 
-/** Fewer sectors are done sooner than threads have begun. */
+/** Fewer sectors are done sooner than threads have begun; and so are any number by these jobs. */
 const SECTORS_FOR_THREADS = 8000;
+const QUICK = ['kinds'];
 const MOST_THREADS = 8;
 
 /** @type {Uint8Array[]} where a thread reads to. Nothing of a range is kept when the next one comes. */
@@ -50,7 +51,7 @@ function replyTo(serve, message) {
 
 /**
  * A thread, and whether it has begun; null if the system makes none.
- * @param {unknown} data what it begins with
+ * @param {ThreadData} data
  */
 export function begunThread(data) {
     if (isTested()) return null;
@@ -73,7 +74,7 @@ export function begunThread(data) {
  */
 function threadHand(module, calls) {
     const serve = serving(calls);
-    const thread = begunThread(module);
+    const thread = begunThread({ module, scans: false });
     /** @type {Hand & { close(): void }} */
     const hand = {
         post(message, transfer) {
@@ -91,35 +92,18 @@ function threadHand(module, calls) {
     return hand;
 }
 
-/** What a thread does: it serves the main thread, and reads for itself what is lent. */
-export function serveThread() {
+/**
+ * What a thread does: it serves the main thread, and reads for itself what is lent.
+ * @param {WebAssembly.Module} module
+ */
+export function serveThread(module) {
     if (parentPort === null) return;
-    const serve = serving(new Calls(workerData));
+    const serve = serving(new Calls(module));
     const port = parentPort;
     port.on('message', message => {
         const reply = replyTo(serve, message);
         port.postMessage(reply, transfersOf(reply));
     });
-}
-
-/** Bytes that are hashed at a time. */
-const HASH_STEP = 1 << 22;
-
-/** What a thread does that hashes a file: its SHA-1 goes to the main thread, or null if not all of it could be read. */
-export function serveHash() {
-    const { descriptor, at, length } = workerData.hashing;
-    const hash = createHash('sha1');
-    const room = new Uint8Array(HASH_STEP);
-    let done = 0;
-    try {
-        for (let count = 1; done < length && count > 0; done += count) {
-            count = readSync(descriptor, room, 0, Math.min(HASH_STEP, length - done), at + done);
-            hash.update(room.subarray(0, count));
-        }
-    } catch {
-        done = -1;
-    }
-    if (parentPort !== null) parentPort.postMessage(done === length ? hash.digest('hex') : null, []);
 }
 
 /** What shares out a job: among threads if it has many sectors, and else it is done by this one. */
@@ -141,7 +125,7 @@ export class Threads {
 
     /** @type {Crew['share']} */
     share(job, readers, args, how, take) {
-        const crew = this.crew(sectorCount(readers[0].size));
+        const crew = this.crew(QUICK.includes(job) ? 0 : sectorCount(readers[0].size));
         return crew.share(job, readers, args, { progress: this.progress, ...how }, take);
     }
 
@@ -150,10 +134,13 @@ export class Threads {
         return !this.isAlone && sectors >= SECTORS_FOR_THREADS;
     }
 
-    /** @param {number} sectors how many there are to do */
-    crew(sectors) {
+    /**
+     * @param {number} sectors how many there are to do
+     * @param {number} [most] how many threads at most
+     */
+    crew(sectors, most = MOST_THREADS) {
         if (!this.hasThreads(sectors)) return new Crew([localHand(this.calls)]);
-        const count = Math.min(cpus().length || 1, MOST_THREADS); // where the system does not say it, there are none
+        const count = Math.min(cpus().length || 1, most); // where the system does not say it, there are none
         while (this.threads.length < count) this.threads.push(threadHand(this.module, this.calls));
         return new Crew(this.threads, true);
     }

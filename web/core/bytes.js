@@ -5,7 +5,7 @@ import { FAULT, Fault, newBytes } from './faults.js';
 /**
  * What an image is read by: bytes from a place on, as many as were asked for or fewer, but none only if the image ends there. They may
  * be put into `room`, which then belongs to who reads. `lent` is what a worker of this door reads bytes by, as it can be posted; `forward`
- * gives a reader of the same bytes that takes less work if one alone reads with it, forward.
+ * gives a reader of the same bytes that takes less work if one alone reads with it, forward, and does not change what it was given.
  * @typedef {{ size: number, read(at: number, length: number, room?: Uint8Array): Promise<Uint8Array>,
  *     lent?(at: number, length: number): unknown, forward?(): Reader }} Reader
  */
@@ -24,6 +24,24 @@ export const READ_SIZE = 1 << 22;
  */
 export function forwardOf(reader) {
     return reader.forward ? reader.forward() : reader;
+}
+
+/**
+ * The same reader, but it says before each read where that begins.
+ * @param {Reader} reader
+ * @param {(at: number) => void} told what it throws ends the read
+ * @returns {Reader}
+ */
+export function watchedReader(reader, told) {
+    const { forward } = reader;
+    return {
+        ...reader,
+        async read(at, length, room) {
+            told(at);
+            return reader.read(at, length, room);
+        },
+        forward: forward && (() => watchedReader(forward(), told)),
+    };
 }
 
 /**
@@ -152,6 +170,14 @@ export function pieceWithin(piece, from, to) {
     return /** @type {Some} */ (bytes ? { at, bytes } : { from: at, to: end });
 }
 
+/**
+ * A piece to be kept: the bytes of one that is passed on may be others then.
+ * @param {Piece} piece
+ */
+export function keptPiece(piece) {
+    return 'bytes' in piece ? { ...piece, bytes: piece.bytes.slice() } : piece;
+}
+
 /** Cuts an image in which some bytes are others into pieces, in order. */
 export class PieceCutter {
     /** @param {(piece: Piece) => void | Promise<void>} take */
@@ -179,8 +205,9 @@ export class PieceCutter {
 
 /** Bytes that others are appended to. */
 export class ByteList {
-    constructor() {
-        this.room = new Uint8Array(1 << 12);
+    /** @param {Uint8Array} [room] in which they stand as long as there is enough of it */
+    constructor(room = new Uint8Array(1 << 12)) {
+        this.room = room;
         this.size = 0;
     }
 

@@ -9,10 +9,10 @@ export const FAULT = Object.freeze(/** @type {const} */ ({
 
 /** @typedef {typeof FAULT[keyof typeof FAULT]} FaultCode */
 /**
- * What else is known: where in a text it is (`at`); the files that are missing (`names`), and the cue sheet that names them (`sheet`); what
- * was found all the same (`found`); what to do (`advice`); how many bytes were written (`done`) and whether the disk is full (`full`); what
- * was tried with a file (`attempt`).
- * @typedef {{ at?: number, names?: string[], sheet?: string, found?: string, advice?: string, done?: number, full?: boolean,
+ * What else is known: where in a text it is (`at`); the file that the message names (`file`); the files that are missing (`names`), and the
+ * cue sheet that names them (`sheet`); what was found all the same (`found`); what to do (`advice`); how many bytes were written (`done`)
+ * and whether the disk is full (`full`); what was tried with a file (`attempt`).
+ * @typedef {{ at?: number, file?: string, names?: string[], sheet?: string, found?: string, advice?: string, done?: number, full?: boolean,
  *     attempt?: 'open' | 'read' | 'make' | 'write' }} FaultFacts
  */
 

@@ -1,7 +1,7 @@
 // Jobs over ranges of sectors, and how they are shared out to workers.
 
 import { readBytes } from './bytes.js';
-import { FAULT, Fault, cancelled } from './faults.js';
+import { FAULT, Fault, cancelled, newBytes } from './faults.js';
 import { diffRange, differRange } from './images/compare.js';
 import { userRange } from './images/convert.js';
 import { mergeRange } from './images/merge.js';
@@ -16,8 +16,8 @@ import { findIn } from './texts/find.js';
 /** @typedef {import('./faults.js').FaultFacts} FaultFacts */
 
 /**
- * A pure function of a range of sectors. It is given the range of each image, its first block, and plain data, in which `count` is
- * how many sectors the range has; the bytes may have more, if borders count. What it returns can be posted.
+ * A function of a range of sectors, whose answer depends on nothing else. It is given the range of each image, its first block, and plain
+ * data, in which `count` is how many sectors the range has; the bytes may have more, if borders count. What it returns can be posted.
  * @typedef {(calls: Calls, pieces: Uint8Array[], first: number, args: any) => any} Job
  */
 /** @typedef {{ reader: Reader, at: number, length: number }} Slice the bytes of a range in an image */
@@ -26,9 +26,9 @@ import { findIn } from './texts/find.js';
 /** @typedef {{ number: number, answer?: any, fault?: ReplyFault }} Reply */
 /**
  * A hand: a worker thread, or this one, that runs jobs. The door calls `onreply` with what `serving` has returned, and `onfault` if the
- * worker itself fails.
+ * worker itself fails. One that `isHere` has done the job when `post` returns, and keeps no bytes.
  * @typedef {{ post(message: Message, transfer: ArrayBuffer[]): void, onreply: (reply: Reply) => void,
- *     onfault: (error: Error) => void }} Hand
+ *     onfault: (error: Error) => void, isHere?: boolean }} Hand
  */
 /** @typedef {Pick<Crew, 'share'>} Sharer what shares out a job */
 /**
@@ -108,16 +108,20 @@ export function transfersOf({ answer }) {
 export function localHand(calls) {
     const serve = serving(calls);
     /** @type {Hand} */
-    const hand = { post: message => hand.onreply(serve(message)), onreply() {}, onfault() {} };
+    const hand = { post: message => hand.onreply(serve(message)), onreply() {}, onfault() {}, isHere: true };
     return hand;
 }
 
 /**
  * @param {Slice[]} slices
+ * @param {Uint8Array[] | null} [rooms] where they are read to, in place of memory of their own
  * @returns {Promise<any[]>}
  */
-function readSlices(slices) {
-    return Promise.all(slices.map(({ reader, at, length }) => readBytes(reader, at, length)));
+function readSlices(slices, rooms) {
+    return Promise.all(slices.map(({ reader, at, length }, i) => {
+        if (rooms && (!rooms[i] || rooms[i].length < length)) rooms[i] = newBytes(length);
+        return readBytes(reader, at, length, rooms ? rooms[i].subarray(0, length) : undefined);
+    }));
 }
 
 /**
@@ -180,7 +184,7 @@ export class Crew {
         if (this.fault) return Promise.resolve({ number, fault: this.fault });
         const [[hand, load]] = [...this.loads].sort(([, a], [, b]) => a - b);
         this.loads.set(hand, load + 1);
-        const pieces = range.pieces.map(piece => piece instanceof Uint8Array ? ownBytes(piece) : piece);
+        const pieces = range.pieces.map(piece => piece instanceof Uint8Array && !hand.isHere ? ownBytes(piece) : piece);
         return new Promise(resolve => {
             this.waiting.set(number, resolve);
             try {
@@ -233,6 +237,8 @@ export class Crew {
         const [all, ...others] = readers.map(({ size }, i) => Math.floor(size / sizes[i]));
         if (others.some(count => count !== all)) throw new Error('images of different lengths');
         const most = RANGES_A_HAND * this.loads.size;
+        /** @type {Uint8Array[] | null} */
+        const rooms = [...this.loads.keys()].every(({ isHere }) => isHere) ? [] : null;
         /** @type {Promise<Reply>[]} */
         const replies = [];
         let done = 0;
@@ -250,7 +256,7 @@ export class Crew {
             const slices = readers.map((reader, i) => ({ reader, at: first * sizes[i], length: seen * sizes[i] }));
             const range = { job, first: base + first, args: { ...args, count } };
             const isLent = this.lends && readers.every(reader => reader.lent);
-            replies.push(isLent ? this.lentReply(range, slices) : this.reply({ ...range, pieces: await readSlices(slices) }));
+            replies.push(isLent ? this.lentReply(range, slices) : this.reply({ ...range, pieces: await readSlices(slices, rooms) }));
         }
         while (replies.length > 0) await takeNext();
     }

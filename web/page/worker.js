@@ -1,18 +1,19 @@
-// The program of a worker: ranges of jobs, and one long SHA-1 or CRC-32.
+// The program of a worker: ranges of jobs, and one long SHA-1.
 
 import { JOBS, UNREAD, serving, transfersOf } from '../core/jobs.js';
 import { Calls } from '../core/module/calls.js';
-import { textsJob } from '../core/texts/range.js';
-import { crc32 } from './app/crc32.js';
+import { textsOfRangeJob } from '../core/texts/range.js';
 import { Sha1 } from './app/sha1.js';
+import { sumsJob } from './app/sums_job.js';
 
 /** @typedef {import('../core/jobs.js').Message} Message */
 /**
- * What a worker is told: the module, before all else; a range of a job; or bytes that go into a sum after those before, null at the end.
- * @typedef {{ module: WebAssembly.Module } | Message | { sum: 'sha1' | 'crc32', bytes: Uint8Array | null }} Order
+ * What a worker is told: the module, before all else; a range of a job; or bytes that go into a SHA-1 after those before, null at the end.
+ * @typedef {{ module: WebAssembly.Module } | Message | { sum: Uint8Array | null }} Order
  */
 
-JOBS.texts = textsJob;
+JOBS.texts = textsOfRangeJob;
+JOBS.sums = sumsJob;
 
 /**
  * The bytes of a range, or of a slice of a file, which is read here.
@@ -32,7 +33,6 @@ class Bench {
         const calls = new Calls(module);
         this.serve = serving(calls);
         this.sha1 = new Sha1(calls);
-        this.crc = 0;
     }
 
     /** @param {Message} message */
@@ -43,11 +43,10 @@ class Bench {
         return self.postMessage(reply, { transfer: transfersOf(reply) });
     }
 
-    /** @param {{ sum: 'sha1' | 'crc32', bytes: Uint8Array | null }} order */
-    add({ sum, bytes }) {
-        if (bytes === null) return self.postMessage(sum === 'sha1' ? { digest: this.sha1.digest() } : { crc: this.crc });
-        if (sum === 'sha1') this.sha1.add(bytes);
-        else this.crc = crc32(this.crc, bytes);
+    /** @param {Uint8Array | null} bytes */
+    add(bytes) {
+        if (bytes === null) return self.postMessage({ digest: this.sha1.digest() });
+        this.sha1.add(bytes);
         return self.postMessage({});
     }
 }
@@ -57,6 +56,6 @@ const bench = { at: /** @type {Bench | null} */ (null) };
 self.onmessage = (/** @type {MessageEvent<Order>} */ { data }) => {
     if ('module' in data) bench.at = new Bench(data.module);
     else if (bench.at === null) throw new Error('a worker was told to work before it had the module');
-    else if ('sum' in data) bench.at.add(data);
+    else if ('sum' in data) bench.at.add(data.sum);
     else bench.at.work(data);
 };

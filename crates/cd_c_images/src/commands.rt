@@ -20,7 +20,7 @@ fn script_of<L: Sink>(alloc: Global, text: &[u8], log: &mut L) -> Result<Script,
     ensures { TakesText text.now (L.seen log.old) (L.seen log.new) result }
 {
     if text.len() > MAX_TEXT {
-        return Err(print_and_fail(load_fault_line(LoadFault::TooLong).as_bytes(), log));
+        return Err(print_and_fail(load_fault_line(LoadFault::TooLong).as_slice(), log));
     }
     read_script(alloc, text, log)
 }

@@ -26,11 +26,11 @@ use crate::run_state::{
 };
 use crate::telling::{
     ask, ask_copy, ask_read, ask_write, bytes_left, error_line, status, stop, tell_end, tell_line,
-    tell_outcome, text_line,
+    tell_outcome,
 };
 use cd_line::LINE_SIZE;
 use cd_patch::MAX_BLOCKS_MET;
-use cd_run::{LONG_IMAGE, Step, counts_line};
+use cd_run::{Step, counts_line, long_image_line};
 use cd_sector::{SECTOR_SIZE, Sector};
 
 /// The entries that are used.
@@ -121,7 +121,7 @@ fn tell_too_long(run: &mut ScriptRun, step: &mut RunStep)
     ensures few { step.new.size ≤ LINE_SIZE }
     ensures line { take step.new.size step.new.text ≡ long_image }
 {
-    tell_line(step, &text_line(LONG_IMAGE.as_bytes()));
+    tell_line(step, &long_image_line());
     ask(run, STOPPED, 0, step.size);
 }
 

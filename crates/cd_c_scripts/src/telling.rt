@@ -15,7 +15,7 @@ use crate::run_state::{
 };
 use cd_line::{LINE_SIZE, Line};
 use cd_patch::Outcome;
-use cd_run::{LONG_SCRIPT, outcome_line, script_fault_line};
+use cd_run::{long_script_line, outcome_line, script_fault_line};
 use cd_script::ScriptFault;
 use cd_sector::{MAX_SECTORS, SECTOR_SIZE};
 
@@ -207,20 +207,10 @@ pub(crate) fn error_line(number: u32, line: u32) -> Line
     ensures room { length result ≤ LINE_SIZE }
 {
     if number == TOO_LONG {
-        return text_line(LONG_SCRIPT.as_bytes());
+        return long_script_line();
     }
     match ScriptFault::of_number(number, line) {
         None => Line::new(),
         Some(fault) => script_fault_line(fault),
     }
-}
-
-/// A line of a text.
-pub(crate) fn text_line(text: &[u8]) -> Line
-    requires { length text.now ≤ LINE_SIZE }
-    ensures line { result ≡ text.now }
-{
-    let mut line = Line::new();
-    line.push_text(text);
-    line
 }

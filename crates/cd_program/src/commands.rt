@@ -44,7 +44,7 @@ pub(crate) fn print_line<O: Sink>(line: &[u8], out: &mut O) -> Result<(), SinkFa
 /// let mut space = [0; 64];
 /// let mut out = SliceSink::new(&mut space);
 /// let line = load_fault_line(LoadFault::TooLong);
-/// assert_eq!(rt; print_and_fail(line.as_bytes(), &mut out), 2);
+/// assert_eq!(rt; print_and_fail(line.as_slice(), &mut out), 2);
 /// assert!(rt; out.written().starts_with(b"cdpatch: the script is longer"));
 /// ```
 pub fn print_and_fail<O: Sink>(line: &[u8], out: &mut O) -> u8
@@ -66,7 +66,7 @@ fn report_fault<O: Sink>(fault: Fault, own: Fault, out: &mut O) -> u8
     if fault == own {
         return FAILED;
     }
-    print_and_fail(fault_line(fault).as_bytes(), out)
+    print_and_fail(fault_line(fault).as_slice(), out)
 }
 
 /// Lists an image to `out`, whose first block has the number `base`, and returns the status: 0, or

@@ -17,8 +17,8 @@
 //! [`run_args`] takes the arguments and a [`Host`], whose files it asks for in turn: the script,
 //! the image, the new file. [`System`] is the host of the system; cd_memory has one whose files are
 //! in memory. [`run_list`], [`run_audit`], [`run_check`] and [`run_apply`] are the commands on
-//! streams. A script has at most 67,108,864 bytes, and is read whole; images (ECMA-130, 14) are
-//! not.
+//! streams. A script has at most [`MAX_TEXT`](cd_script::MAX_TEXT) bytes, and is read whole; images
+//! (ECMA-130, 14) are not.
 //!
 //! Tests: `crates/cd_image_tests`.
 #![tactic(auto)]

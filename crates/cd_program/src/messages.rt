@@ -8,7 +8,8 @@ use crate::host::OpenFault;
 use crate::script::LoadFault;
 use cd_args::NO_MEMORY;
 use cd_image::Fault;
-use cd_run::{LONG_IMAGE, LONG_SCRIPT};
+use cd_line::Line;
+use cd_run::{long_image_line, long_script_line, text_line};
 
 /// There is no file of a script, or a read of it failed.
 pub(crate) const NO_SCRIPT: &str = "cdpatch: cannot read the script\n";
@@ -41,25 +42,25 @@ pub(crate) fn open_fault_line(refused: &'static str, fault: OpenFault) -> &'stat
 ///
 /// See the example of [`print_and_fail`].
 #[tactic(auto, unfolding(crate::specs::Messages::load_fault_line))]
-pub fn load_fault_line(fault: LoadFault) -> &'static str
-    ensures { result.now ≡ load_fault_line fault }
+pub fn load_fault_line(fault: LoadFault) -> Line
+    ensures { result ≡ load_fault_line fault }
 {
     match fault {
-        LoadFault::Read => NO_SCRIPT,
-        LoadFault::TooLong => LONG_SCRIPT,
-        LoadFault::NoMemory => NO_MEMORY,
+        LoadFault::Read => text_line(NO_SCRIPT.as_bytes()),
+        LoadFault::TooLong => long_script_line(),
+        LoadFault::NoMemory => text_line(NO_MEMORY.as_bytes()),
     }
 }
 
 /// The line of a call's fault. A log that failed has none, since the lines go to the log.
 #[tactic(auto, unfolding(crate::specs::Messages::fault_line))]
-pub(crate) fn fault_line(fault: Fault) -> &'static str
-    ensures { result.now ≡ fault_line fault }
+pub(crate) fn fault_line(fault: Fault) -> Line
+    ensures { result ≡ fault_line fault }
 {
     match fault {
-        Fault::Read => "cdpatch: reading the image failed\n",
-        Fault::Write => "cdpatch: writing the output failed\n",
-        Fault::Log => "",
-        Fault::TooLong => LONG_IMAGE,
+        Fault::Read => text_line(b"cdpatch: reading the image failed\n"),
+        Fault::Write => text_line(b"cdpatch: writing the output failed\n"),
+        Fault::Log => Line::new(),
+        Fault::TooLong => long_image_line(),
     }
 }

@@ -3,6 +3,7 @@
 ghost use Rattle.std.specs.Prelude.{◌≡◌};
 ghost use Rattle.cd_read.specs.declared.fault.Fault.TheVariants.{Read, Write};
 
+use cd_sector::MAX_SECTORS;
 use cd_stream::{SinkFailed, SourceFailed};
 use thiserror::Error;
 
@@ -20,7 +21,7 @@ pub enum Fault {
     #[error("writing the log failed")]
     Log,
     /// A byte was read after the millionth sector.
-    #[error("the image has more than 1000000 sectors")]
+    #[error("the image has more than {MAX_SECTORS} sectors")]
     TooLong,
 }
 

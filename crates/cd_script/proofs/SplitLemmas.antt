@@ -2,13 +2,14 @@
 use Rattle.std.proofs.Common.{◌≡◌, ◌+◌, ◌-◌, ◌<◌, ◌≤◌, ℕ, suc, Bool, true, false, cond, List, [], ◌∷◌, ◌++◌, length, length-append, length-take, take, drop, slice_index, refl, subst, sym, ap, ◌∙◌, arith, append_assoc}
 use Rattle.std.specs.Prelude.{All, filter, not}
 use Rattle.std.specs.Borrow.{Bor}
-use Rattle.std.specs.List.{slice_split}
+use Rattle.std.specs.List.{onto_first, slice_split}
 use Rattle.std.proofs.lemmas.Bool.{cond-true, cond-false, false_from_ne_true, ne_eqb, eq-eqb}
 use Rattle.std.proofs.lemmas.List.{append-nil, get_or-take, get_or_default, length-take-le, map-append, take-append-drop, take_all, take_at}
 use Rattle.std.proofs.lemmas.List.Elements.{filter-append}
 use Rattle.std.proofs.lemmas.List.Splits.{slice_split_none, slice_split_at}
 use Rattle.std.proofs.Math.Seq.{drop-cons}
 use Rattle.memchr.specs.Find.{Nowhere, NoneBefore, Passes}
+use Rattle.cd_script.specs.Script.{is_passed_over}
 use Rattle.cd_script.specs.Words.{words, is_space, is_word}
 use Rattle.cd_script.proofs.FormLemmas.{seen}
 
@@ -123,3 +124,25 @@ pub part_taken : (ws after : List (List ℕ)) (line part : List ℕ) (rest total
 part_taken ws after line part rest total grown cut so_far =
     ap (λ (l : List (List ℕ)). l ++ rest) grown ∙ append_assoc ws (filter is_word (part ∷ [])) rest
     ∙ ap (λ (l : List (List ℕ)). ws ++ l) (sym cut) ∙ so_far
+
+-- ---- lines that say nothing
+
+pub words-empty : (line : List ℕ) → length line ≡ 0 → is_passed_over (words line) ≡ true
+unfolding words
+words-empty [] none = refl
+words-empty (b ∷ rest) none = absurd (omega arith)
+
+first_begins : (parts : List (List ℕ))
+    → is_passed_over (filter is_word (onto_first 35 parts)) ≡ true
+first_begins [] = refl
+first_begins (part ∷ parts) =
+    ap is_passed_over
+    (cond-true _ _ _ (ap not (ne_eqb (length (35 ∷ part)) 0 (λ e. omega arith))))
+
+pub words-comment : (line : List ℕ) → 1 ≤ length line → slice_index line 0 ≡ 35
+    → is_passed_over (words line) ≡ true
+unfolding words
+words-comment [] some first = absurd (omega arith)
+words-comment (b ∷ rest) some first =
+    ap (λ c. is_passed_over (filter is_word (slice_split is_space (c ∷ rest)))) first
+    ∙ first_begins (slice_split is_space rest)

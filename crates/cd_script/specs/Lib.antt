@@ -8,6 +8,7 @@ pub mod Words
 pub mod Address
 pub mod FirstFault
 pub mod FaultNumbers
+pub mod FaultTexts
 pub mod Value
 pub mod Line
 pub mod Order

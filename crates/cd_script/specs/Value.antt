@@ -8,27 +8,27 @@ use Rattle.cd_script.specs.Number.{number}
 use Rattle.cd_script.specs.Hex.{hex_bytes}
 use Rattle.cd_script.specs.FirstFault.{◌>>=◌}
 
--- a number, or `bad number`
+-- a number, or its fault
 unfoldable pub number_at : ℕ → List ℕ → Result ℕ ScriptFault
 number_at line word = ok_or (number word) (Number line)
 
--- the bytes of a hex word, or `bad hex`
+-- the bytes of a hex word, or its fault
 unfoldable pub hex_at : ℕ → List ℕ → Result (List ℕ) ScriptFault
 hex_at line word = ok_or (hex_bytes word) (Hex line)
 
--- an offset of 0 to 2047, or a fault
+-- an offset in a block, or a fault
 unfoldable pub offset_at : ℕ → List ℕ → Result ℕ ScriptFault
 offset_at line word = do
   offset ← number_at line word
   if nat_le offset offset_limit then Ok offset else Err (Offset line)
 
--- a count of 1 to 4096, or `bad length`
+-- a count of bytes that a patch may change, or a fault
 unfoldable pub count_at : ℕ → List ℕ → Result ℕ ScriptFault
 count_at line word = do
   count ← number_at line word
   if nat_le 1 count && nat_le count bytes_limit then Ok count else Err (Length line)
 
--- 1 to 4096 new bytes, or `bad length`
+-- new bytes, as many as a patch may change, or a fault
 unfoldable pub new_at : ℕ → List ℕ → Result (List ℕ) ScriptFault
 new_at line word = do
   bytes ← hex_at line word
@@ -51,6 +51,6 @@ only_byte line other = Err (Length line)
 unfoldable pub byte_at : ℕ → List ℕ → Result ℕ ScriptFault
 byte_at line word = hex_at line word >>= only_byte line
 
--- the three bytes of `MM:SS:FF`, or `bad address`
+-- the three bytes of `MM:SS:FF`, or the fault
 unfoldable pub address_at : ℕ → List ℕ → Result (List ℕ) ScriptFault
 address_at line word = ok_or (address_bytes word) (Address line)

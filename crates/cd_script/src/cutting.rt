@@ -1,9 +1,9 @@
 //! Cutting a script's text into its lines.
 
-ghost use Rattle.std.specs.Prelude.{◌≡◌, ◌==◌, ◌∷◌, ◌<◌, ◌≤◌, ◌⊎◌, [], IfNone, IfSome, drop, length, take};
+ghost use Rattle.std.specs.Prelude.{◌≡◌, ℕ, ◌==◌, ◌∷◌, ◌<◌, ◌≤◌, ◌⊎◌, [], IfNone, IfSome, Some, drop, length, slice_index, take, true};
 ghost use Rattle.std.specs.Str.Lines.{lines, strip_carriage_return};
 ghost use Rattle.cd_script.specs.LineEnd.{IsLineEnd};
-ghost use Rattle.memchr.specs.Find.{IsFirstByte};
+ghost use Rattle.memchr.specs.Find.{IsFirstByte, Nowhere, Passes};
 
 use memchr::memchr;
 
@@ -18,11 +18,63 @@ pub struct TextLine {
     pub taken: usize,
 }
 
+/// As many bytes of a line are looked at without `memchr`, which takes some forty instructions before
+/// it looks at one, and hundreds in a WebAssembly module.
+const SHORT: usize = 32;
+
+/// The bit 32 of each of eight bytes.
+const BITS: u64 = 0x2020_2020_2020_2020;
+
+/// Whether each of eight bytes has the bit 32 or the bit 64. All letters, digits and signs of ASCII
+/// have one of them, and so has a space; a line feed has none.
+fn are_printed(bytes: &[u8; 8]) -> bool
+    ensures { result ≡ true → (k : ℕ) → k < 8 → ¬ (slice_index bytes.now k ≡ 10) }
+{
+    let word = u64::from_le_bytes(*bytes);
+    (word | word >> 1) & BITS == BITS
+}
+
+/// How many bytes at the front of a text were passed by eights, as no line feed is among them.
+fn passed_by_eights(text: &[u8]) -> usize
+    ensures none { Nowhere (Passes (λ b. b == 10) text.now) 0 result }
+    ensures within { result ≤ length text.now }
+{
+    let mut passed = 0;
+    let mut rest = text;
+    while let Some((eight, after)) = rest.split_first_chunk::<8>() {
+        if passed >= SHORT || !are_printed(eight) {
+            return passed;
+        }
+        passed += 8;
+        rest = after;
+    }
+    passed
+}
+
+/// The place of the first line feed, if it ends a short line; `None` if that was not found out.
+fn find_near_feed(text: &[u8]) -> Option<usize>
+    ensures { IfSome result (λ feed. IsFirstByte (λ b. b == 10) text.now (Some feed)) }
+{
+    let passed = passed_by_eights(text);
+    if passed >= SHORT {
+        return None;
+    }
+    for at in passed..text.len().min(passed + 16) {
+        if text[at] == b'\n' {
+            return Some(at);
+        }
+    }
+    None
+}
+
 /// The place of the first line feed.
 fn find_feed(text: &[u8]) -> Option<usize>
     ensures { IsFirstByte (λ b. b == 10) text.now result }
 {
-    memchr(b'\n', text)
+    match find_near_feed(text) {
+        Some(feed) => Some(feed),
+        None => memchr(b'\n', text),
+    }
 }
 
 /// How many bytes a line has of those before its line feed: not a carriage return that is the last.

@@ -1,49 +1,40 @@
 //! Why a script is refused.
 
-ghost use Rattle.std.specs.Prelude.{◌≡◌, ◌<◌, IfSome, Some};
+ghost use Rattle.std.specs.Prelude.{◌≡◌, ◌<◌, ◌≤◌, IfSome, Some, length};
 ghost use Rattle.cd_script.specs.FaultNumbers.{fault_number, fault_of, line_of};
+ghost use Rattle.cd_script.specs.FaultTexts.{fault_text};
 ghost use Rattle.cd_script.specs.declared.fault.ScriptFault.TheVariants.{NoMemory};
 
-use crate::limits::MAX_PATCHES;
 use std::alloc::{AllocError, AllocFailed};
 use thiserror::Error;
 
 /// The fault of the first faulty line, with that line's number, counted from 1.
 #[derive(Clone, Copy, Debug, PartialEq, Eq, Error)]
+#[error("{}", self.text())]
 pub enum ScriptFault {
     /// The first line that is neither blank nor a comment is not the head line, or there is none:
     /// then the number of lines and one more. The message names version 1 even if a script names a
     /// version that does not exist.
-    #[error("no cdpatch 1 line")]
     Head(u32),
     /// The first word is not a verb. So is a second head line.
-    #[error("unknown verb")]
     Verb(u32),
     /// The verb does not take this number of words, or the fifth of six is not `was`.
-    #[error("wrong number of words")]
     Words(u32),
     /// A number is not written with 1 to [`MAX_DIGITS`](crate::MAX_DIGITS) decimal digits.
-    #[error("bad number")]
     Number(u32),
     /// A hex word has an odd number of digits, or a byte that is not a hex digit.
-    #[error("bad hex")]
     Hex(u32),
     /// A count of 0 or over [`MAX_BYTES`](crate::MAX_BYTES), no new bytes or more than that, old
     /// bytes that are not as many as the new ones, or a fill byte that is not one byte.
-    #[error("bad length")]
     Length(u32),
     /// An offset over [`MAX_OFFSET`](crate::MAX_OFFSET).
-    #[error("offset over 2047")]
     Offset(u32),
     /// A header address is not `MM:SS:FF`, two digits each, with a second below 60 and a fraction
     /// below 75.
-    #[error("bad address")]
     Address(u32),
     /// A well-formed patch after [`MAX_PATCHES`](crate::MAX_PATCHES) others.
-    #[error("more than {MAX_PATCHES} patches")]
     TooMany(u32),
     /// Memory was refused.
-    #[error("no memory")]
     NoMemory,
 }
 
@@ -60,6 +51,7 @@ impl ScriptFault {
     /// assert_eq!(rt; ScriptFault::of_number(8, 3), Some(ScriptFault::Hex(3)));
     /// assert_eq!(rt; ScriptFault::of_number(14, 3), None);
     /// assert_eq!(rt; ScriptFault::Hex(3).line(), 3);
+    /// assert_eq!(rt; ScriptFault::Hex(3).text(), ScriptFault::Hex(4).text()); // of any line
     /// ```
     pub fn number(self) -> u32
         ensures number { result ≡ fault_number self }
@@ -98,6 +90,27 @@ impl ScriptFault {
             ScriptFault::Address(line) => line,
             ScriptFault::TooMany(line) => line,
             ScriptFault::NoMemory => NO_LINE,
+        }
+    }
+
+    /// What is wrong, without the number of the line: the text that `Display` writes.
+    ///
+    /// See the example of [`ScriptFault::number`].
+    pub fn text(self) -> &'static str
+        ensures text { result.now ≡ fault_text self }
+        ensures size { length result.now ≤ 40 }
+    {
+        match self {
+            ScriptFault::Head(_) => "no cdpatch 1 line",
+            ScriptFault::Verb(_) => "unknown verb",
+            ScriptFault::Words(_) => "wrong number of words",
+            ScriptFault::Number(_) => "bad number",
+            ScriptFault::Hex(_) => "bad hex",
+            ScriptFault::Length(_) => "bad length",
+            ScriptFault::Offset(_) => "offset over 2047",
+            ScriptFault::Address(_) => "bad address",
+            ScriptFault::TooMany(_) => "more than 65535 patches",
+            ScriptFault::NoMemory => "no memory",
         }
     }
 

@@ -1,6 +1,6 @@
 //! A script in memory, and how its text is read.
 
-ghost use Rattle.std.specs.Prelude.{◌≡◌, ◌≢◌, ◌+◌, ◌≤◌, ◌++◌, List, length, map, vec_len, All, IsOk, IfOk, IfErr, OnOk};
+ghost use Rattle.std.specs.Prelude.{◌≡◌, ◌≢◌, ◌+◌, ◌≤◌, ◌++◌, List, length, map, true, vec_len, All, IsOk, IfOk, IfErr, OnOk};
 ghost use Rattle.std.specs.Fn.{Called};
 ghost use Rattle.std.specs.List.Sorted.{IsNonDecreasingBy};
 ghost use Rattle.std.specs.Option.{option_to_list};
@@ -13,6 +13,7 @@ ghost use Rattle.cd_script.specs.Limits.{patch_limit, text_limit};
 ghost use Rattle.cd_script.specs.Order.{order};
 ghost use Rattle.cd_script.specs.Patch.{IsPatch};
 ghost use Rattle.cd_script.specs.ByLine.{head_at};
+ghost use Rattle.cd_script.specs.Words.{words};
 ghost use Rattle.cd_script.specs.Script.{at_limit, head_version, is_passed_over, line_at, named_version, patches_from, script, script_from};
 
 use crate::fault::ScriptFault;
@@ -78,6 +79,17 @@ fn is_passed_over(words: &[&[u8]]) -> bool
     }
 }
 
+/// Whether a line is seen to be passed over by its first byte: it is empty, or a comment without a
+/// space before it.
+fn says_nothing(line: &[u8]) -> bool
+    ensures { result ≡ true → is_passed_over (words line.now) ≡ true }
+{
+    match line {
+        [] | [b'#', ..] => true,
+        _ => false,
+    }
+}
+
 /// The version that the second word of a head line names.
 #[tactic(auto, using(crate::proofs::FormLemmas::forms))]
 fn named_version(word: &[u8]) -> Option<Version>
@@ -113,6 +125,9 @@ struct Head {
 pub(crate) fn head_on_line(line: u32, text: &[u8]) -> Result<Option<Version>, ScriptFault>
     ensures { result ≡ head_at line text.now }
 {
+    if says_nothing(text) {
+        return Ok(None);
+    }
     let words = words(text);
     let words = words.as_slice();
     if is_passed_over(words) {
@@ -167,6 +182,9 @@ pub(crate) fn patch_on_line<'a>(
 ) -> Result<Option<HexPatch<'a>>, ScriptFault>
     ensures { result ≡ line_at version line earlier text.now }
 {
+    if says_nothing(text) {
+        return Ok(None);
+    }
     let words = words(text);
     let words = words.as_slice();
     if is_passed_over(words) {

@@ -7,18 +7,18 @@ import { SECTOR_SIZE } from '../module/numbers.js';
 /** @typedef {{ track: SheetTrack, index: number, file: number, frame: number }} Point where an index of a track begins in a file */
 /** @typedef {{ number: number, type: string, sectorSize: number, pregap: number, postgap: number, line: number }} SheetTrack */
 /** @typedef {{ files: SheetFile[], tracks: SheetTrack[], points: Point[] }} Sheet */
-/** @typedef {{ file: number, at: number | null, end: number | null, block: number | null }} Stretch */
+/** @typedef {{ file: number, at: number | null, end: number | null, block: number | null }} FileRange */
 /**
  * A track: `at` to `end` are its bytes in the file of that number, from its INDEX 01 on, and `block` is the first of them on the
  * disc. Null is what a sheet does not say: places in audio files, and blocks after them.
- * @typedef {{ number: number, type: string, sectorSize: number } & Stretch} Track
+ * @typedef {{ number: number, type: string, sectorSize: number } & FileRange} Track
  */
-/** @typedef {{ point: Point, end: number | null } & Stretch} Part from one index to the next, or to the end of the file */
+/** @typedef {{ point: Point, end: number | null } & FileRange} IndexRange from one index to the next, or to the end of the file */
 
 const RAW_FORMATS = ['BINARY', 'MOTOROLA'];
 /** Blocks count from the end of a pause of two seconds, which the first track's pregap begins with. */
 const FIRST_PAUSE = 150;
-const LAST_TRACK = 99;
+export const LAST_TRACK = 99;
 
 /**
  * Why a line of a cue sheet can't be used.
@@ -147,7 +147,7 @@ export function tracksOf(sheet, sizes) {
  * @param {Sheet} sheet
  * @param {number} file
  * @param {number} size in bytes
- * @returns {Part[]}
+ * @returns {IndexRange[]}
  */
 function partsOfFile({ files, points }, file, size) {
     const own = points.filter(point => point.file === file);
@@ -166,8 +166,8 @@ function partsOfFile({ files, points }, file, size) {
 /**
  * The parts with their blocks: one after the other, with the pauses that no file has.
  * @param {Sheet} sheet
- * @param {Part[]} parts of all files
- * @returns {Part[]}
+ * @param {IndexRange[]} parts of all files
+ * @returns {IndexRange[]}
  */
 function placedParts({ tracks }, parts) {
     let block = 0; // NaN after a file whose sectors are not known

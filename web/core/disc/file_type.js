@@ -33,7 +33,7 @@ const NATURES = {
     wave: ['audio in a RIFF/WAVE file', 'Choose the data track of the disc.'],
     cue: ['a cue sheet', 'Open it with the files that it names.'],
     empty: ['an empty file', 'Copy or download it again.'],
-    unknown: ['no image that is known here', 'Choose a raw image, 2352 bytes a sector, or its cue sheet.'],
+    unknown: ['not recognised', 'Choose a raw image, 2352 bytes a sector, or its cue sheet.'],
 };
 
 /** @type {[FileKind, string][]} how files begin, a byte a character */

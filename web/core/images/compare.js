@@ -72,13 +72,16 @@ export async function compareImages(calls, crew, old, fresh, { skipDamaged = fal
 }
 
 /**
- * Whether the bytes after the last sector differ in images of one length.
+ * Whether the bytes after the last sector differ.
  * @param {Reader} old
  * @param {Reader} fresh
  */
 export async function tailsDiffer(old, fresh) {
-    const at = sectorCount(old.size) * SECTOR_SIZE;
-    return !sameBytes(await readBytes(old, at, old.size - at), await readBytes(fresh, at, old.size - at));
+    const [one, other] = await Promise.all([old, fresh].map(reader => {
+        const at = sectorCount(reader.size) * SECTOR_SIZE;
+        return readBytes(reader, at, reader.size - at);
+    }));
+    return one.length !== other.length || !sameBytes(one, other);
 }
 
 export const FIELD_COUNT = Object.keys(FIELDS).length;

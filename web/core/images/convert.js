@@ -12,7 +12,7 @@ import { SECTOR_SIZE, USER_SIZE, joinedUser, sectorCount, sectorOf } from '../se
 /** @typedef {import('../jobs.js').Sharer} Sharer */
 /** @typedef {import('../jobs.js').Sharing} Sharing */
 /** @typedef {import('../sectors/runs.js').Run & { kind: number }} KindRun */
-/** @typedef {(bytes: Uint8Array) => void | Promise<void>} Take */
+/** @typedef {(bytes: Uint8Array) => void | Promise<void>} TakeBytes */
 
 /**
  * The user data of sectors, which is at the same place in each, whatever its kind; and the runs of those that are not of Mode 1, in
@@ -37,7 +37,7 @@ export function userRange(calls, bytes, block) {
  * @param {Reader} reader of the sectors
  * @param {number} size how many bytes are given at most
  * @param {Sharing} how
- * @param {Take} take
+ * @param {TakeBytes} take
  */
 export async function passUser(crew, reader, size, how, take) {
     /** @type {KindRun[]} */
@@ -58,7 +58,7 @@ export async function passUser(crew, reader, size, how, take) {
  * @param {DiscImage} part
  * @param {FileEntry[]} extents
  * @param {Sharing} how
- * @param {Take} take
+ * @param {TakeBytes} take
  */
 export async function passFile(crew, part, extents, how, take) {
     /** @type {KindRun[]} */

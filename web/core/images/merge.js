@@ -1,11 +1,12 @@
 // The repair of an image by other dumps of the same disc.
 
-import { PieceCutter, joinedBytes, sameBytes } from '../bytes.js';
+import { PieceCutter, joinedBytes, sameBytes, sliceOf } from '../bytes.js';
 import { Fault } from '../faults.js';
 import { RECORD, RECORD_SIZE, SECTOR_KIND } from '../module/records.js';
 import { addToRuns, runOf } from '../sectors/runs.js';
 import { FIELDS, SECTOR_SIZE, addressIn, differingSectors, sectorCount, sectorOf, sectorsAt } from '../sectors/sector.js';
 import { isSound } from '../sectors/survey.js';
+import { commonPart, firstBlock } from './common_part.js';
 import { tailsDiffer } from './compare.js';
 
 /** @typedef {import('../module/calls.js').Calls} Calls */
@@ -13,6 +14,7 @@ import { tailsDiffer } from './compare.js';
 /** @typedef {import('../disc/disc.js').DiscImage} DiscImage */
 /** @typedef {import('../jobs.js').Sharer} Sharer */
 /** @typedef {import('../jobs.js').Sharing} Sharing */
+/** @typedef {import('./common_part.js').CommonPart} CommonPart */
 /** @typedef {import('../sectors/runs.js').Run} Run */
 /** @typedef {Run & { other: number }} RunOf blocks of another image */
 /**
@@ -26,8 +28,9 @@ import { tailsDiffer } from './compare.js';
 /** @typedef {Found & { sectors: Uint8Array, end: number }} Merged with the sectors that are taken, and the block after the range */
 /**
  * What is found in all sectors. The repair is refused if more than a hundredth of the sectors of another image are sound and different:
- * that is no dump of the same disc, or it is shifted. `tails` says which other images differ after the last sector.
- * @typedef {Found & { refused: boolean, sectors: number, tails: boolean[] }} Repair
+ * that is no dump of the same disc, or it is shifted. `tails` says which other images differ after the last sector, if that is the same
+ * one, and `parts` which sectors each has.
+ * @typedef {Found & { refused: boolean, sectors: number, tails: boolean[], parts: CommonPart[] }} Repair
  */
 
 /** An image is refused if more than one in this many of its sectors is sound and different. */
@@ -147,9 +150,9 @@ function differingRecords(calls, old, other) {
 }
 
 /**
- * Repairs an image by others: sectors that are not consistent in it and are in another one, with the block's own address there, are
- * taken whole. The pieces of the repaired image are given to `take` as they come, before it is known whether the repair is refused. The
- * tail stays as it is. Throws a Fault.
+ * Repairs an image by others, in the blocks that both have: sectors that are not consistent in it and are in another one, with the
+ * block's own address there, are taken whole. The pieces of the repaired image are given to `take` as they come, before it is known
+ * whether the repair is refused. The tail stays as it is. Throws a Fault.
  * @param {Sharer} crew
  * @param {DiscImage} old
  * @param {DiscImage[]} others
@@ -158,49 +161,67 @@ function differingRecords(calls, old, other) {
  * @returns {Promise<Repair>}
  */
 export async function mergeImages(crew, old, others, how, take) {
-    for (const other of others) assertSamePart(old, other);
+    const parts = others.map(other => commonPart(old, other));
+    parts.forEach((part, i) => assertCommon(old, others[i], part));
     const found = nothingFound(others.length);
     const sectors = sectorCount(old.reader.size);
     const pieces = new PieceCutter(take);
     // Blocks of an image that begins before block 0 count from 0 all the same.
     const shift = old.addressed !== null && old.addressed < 0 ? old.addressed - old.base : 0;
-    await crew.share('merge', [old, ...others].map(({ reader }) => reader), { shift }, { ...how, base: old.base }, async answer => {
-        addAnswer(found, answer);
-        await cutAnswer(pieces, answer, old.base);
-    });
+    const stops = [...new Set([0, ...parts.flatMap(({ from, to }) => [from, to]), sectors])].sort((a, b) => a - b);
+    for (const [i, from] of stops.slice(0, -1).entries()) {
+        const present = others.map((_, other) => other).filter(other => parts[other].from <= from && from < parts[other].to);
+        const progress = how.progress && ((/** @type {number} */ done) => how.progress?.(from + done, sectors));
+        const readers = [partReader(old, from, stops[i + 1], 0),
+            ...present.map(other => partReader(others[other], from, stops[i + 1], parts[other].later))];
+        await crew.share('merge', readers, { shift }, { ...how, progress, base: old.base + from }, async answer => {
+            addAnswer(found, answer, present);
+            await cutAnswer(pieces, answer, old.base);
+        });
+    }
     await pieces.keep(old.reader.size);
-    const refused = found.different.some(count => count * MOST_DIFFERENT > sectors);
+    const refused = found.different.some((count, i) => count * MOST_DIFFERENT > parts[i].to - parts[i].from);
     const tails = [];
-    for (const other of others) tails.push(await tailsDiffer(old.reader, other.reader));
-    return { ...found, refused, sectors, tails };
+    for (const [i, other] of others.entries()) {
+        tails.push(parts[i].later + other.sectors === sectors && await tailsDiffer(old.reader, other.reader));
+    }
+    return { ...found, refused, sectors, tails, parts };
+}
+
+/**
+ * @param {DiscImage} image
+ * @param {number} from
+ * @param {number} to
+ * @param {number} later how many sectors later it begins than the image that these are counted in
+ */
+function partReader({ reader }, from, to, later) {
+    return sliceOf(reader, (from - later) * SECTOR_SIZE, (to - later) * SECTOR_SIZE);
 }
 
 /**
  * @param {DiscImage} old
  * @param {DiscImage} other
+ * @param {CommonPart} part
  */
-function assertSamePart(old, other) {
-    const [size, another] = [old.reader.size, other.reader.size];
-    if (size !== another) {
-        throw new Fault(`${old.name} has ${size} bytes and ${other.name} ${another}: they are not dumps of one disc`);
-    }
-    if (other.base === old.base) return;
-    const bases = `${old.name} begins with block ${old.base}, ${other.name} with block ${other.base}`;
+function assertCommon(old, other, { from, to }) {
+    if (from < to) return;
+    const bases = `${old.name} begins with block ${firstBlock(old)}, ${other.name} with block ${firstBlock(other)}`;
     throw new Fault(`${bases}: they are not the same part of a disc`);
 }
 
 /**
  * @param {Found} found
  * @param {Merged} answer
+ * @param {number[]} present the numbers of the other images that the range has
  */
-function addAnswer(found, { taken, doubtful, damaged, disputed, differing, different, others }) {
-    for (const run of taken) addToRuns(found.taken, run);
-    for (const run of doubtful) addToRuns(found.doubtful, run);
+function addAnswer(found, { taken, doubtful, damaged, disputed, differing, different, others }, present) {
+    for (const run of taken) addToRuns(found.taken, { ...run, other: present[run.other] });
+    for (const run of doubtful) addToRuns(found.doubtful, { ...run, other: present[run.other] });
     for (const run of damaged) addToRuns(found.damaged, run);
     for (const run of disputed) addToRuns(found.disputed, run);
     for (const run of others) addToRuns(found.others, run);
-    differing.forEach((runs, other) => runs.forEach(run => addToRuns(found.differing[other], run)));
-    different.forEach((count, other) => { found.different[other] += count; });
+    differing.forEach((runs, i) => runs.forEach(run => addToRuns(found.differing[present[i]], run)));
+    different.forEach((count, i) => { found.different[present[i]] += count; });
 }
 
 /**

@@ -4,7 +4,7 @@ import { SECTOR_SIZE, USER_SIZE } from '../sectors/sector.js';
 
 /** @typedef {import('../bytes.js').Reader} Reader */
 /** @typedef {import('./files.js').FileEntry} FileEntry */
-/** @typedef {{ reader: Reader, base: number, sectors: number }} Track */
+/** @typedef {{ reader: Reader, base: number, sectors: number }} RawTrack */
 /** @typedef {{ from: number, count: number }} Sectors some of a track, by their places in it */
 
 /**
@@ -27,7 +27,7 @@ function lastUpTo(list, valueOf, value) {
 /** The sectors of a track, those of each file one after the other, and all others as they lie. */
 export class FileOrder {
     /**
-     * @param {Track} track
+     * @param {RawTrack} track
      * @param {Sectors[]} runs all of it, in this order
      */
     constructor({ reader, base, sectors }, runs) {
@@ -61,7 +61,7 @@ export class FileOrder {
 
 /**
  * The extents that go on with a file elsewhere than after the one before them, by the place at which that ends.
- * @param {Track} track
+ * @param {RawTrack} track
  * @param {FileEntry[]} files
  */
 function laterExtents({ base }, files) {
@@ -79,7 +79,7 @@ function laterExtents({ base }, files) {
 
 /**
  * The order of a track's files, undefined if it is that of the sectors, or if extents have sectors of others.
- * @param {Track} track
+ * @param {RawTrack} track
  * @param {FileEntry[]} files
  */
 export function fileOrder(track, files) {

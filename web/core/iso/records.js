@@ -11,7 +11,7 @@ import { textOfFile } from '../texts/encodings.js';
  *     name: Uint8Array, system: Uint8Array, length: number }} DirectoryRecord
  */
 /** @typedef {{ kind: 'file' | 'directory', path: string, extent: number, size: number, fault: string }} Entry */
-/** @typedef {{ entry: Entry, at: number, before: number }} Part the place of a record, and how much of its file others have before it */
+/** @typedef {{ entry: Entry, at: number, before: number }} RecordPlace where a record is, and how much of its file others have before it */
 /**
  * The sectors of a volume, and how many of those were read in which records are continued.
  * @typedef {{ user(extent: number, count: number): Promise<Uint8Array>, available(extent: number, count: number): number, areas: number }}
@@ -175,7 +175,7 @@ async function rockRidge(blocks, area) {
  * @param {Selves} blocks
  * @param {Uint8Array} user of the whole directory
  * @param {Reading} reading
- * @returns {AsyncGenerator<Part>}
+ * @returns {AsyncGenerator<RecordPlace>}
  */
 export async function* entriesOfDirectory(blocks, user, reading) {
     let [more, before] = [false, 0];

@@ -6,7 +6,7 @@ import { SEVERAL_EXTENTS, entriesOfDirectory } from './records.js';
 /** @typedef {import('./files.js').FileEntry} FileEntry */
 /** @typedef {{ files: FileEntry[], faults: string[] }} TreeFiles */
 /** @typedef {import('./files.js').VolumeReader} VolumeReader */
-/** @typedef {import('./records.js').Part} Part */
+/** @typedef {import('./records.js').RecordPlace} RecordPlace */
 /** @typedef {{ path: string, extent: number, size: number, depth: number }} Directory */
 /** @typedef {{ joliet: boolean, skip: number | null, number: number }} Tree */
 
@@ -121,7 +121,7 @@ class Walk {
     }
 
     /**
-     * @param {Part} part
+     * @param {RecordPlace} part
      * @param {Directory} directory
      * @returns {FileEntry}
      */

@@ -94,15 +94,6 @@ export class Arena {
         this.heldSize = pieces.reduce((sum, piece) => sum + piece.length, 0);
     }
 
-    /**
-     * What is held, not copied.
-     * @param {number} from
-     * @param {number} to
-     */
-    held(from, to) {
-        return this.memory.subarray(this.arena + this.within(from), this.arena + this.within(to));
-    }
-
     /** @param {number} place in what is held */
     within(place) {
         if (place > this.heldSize) throw new RangeError(`place ${place} of ${this.heldSize} bytes`);

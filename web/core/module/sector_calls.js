@@ -88,35 +88,6 @@ export class SectorCalls extends Arena {
     }
 
     /**
-     * What a command prints of an image, and its status.
-     * @param {'cdpatch_list' | 'cdpatch_audit'} name
-     * @param {Uint8Array} image
-     * @param {number} base
-     */
-    report(name, image, base) {
-        const room = 100 + 40 * sectorCount(image.length);
-        const [at, text] = this.put(image, room);
-        const status = Number(this.exports[name](at, BigInt(image.length), base, text, BigInt(room), this.places.answer));
-        return { status, text: this.copied(text, this.view.getUint32(this.answer, true)) };
-    }
-
-    /**
-     * @param {Uint8Array} image
-     * @param {number} base
-     */
-    list(image, base) {
-        return this.report('cdpatch_list', image, base);
-    }
-
-    /**
-     * @param {Uint8Array} image
-     * @param {number} base
-     */
-    audit(image, base) {
-        return this.report('cdpatch_audit', image, base);
-    }
-
-    /**
      * The line of `list` for the blocks of a run of one kind; empty if the run has no block, or there is no such kind.
      * @param {number} first
      * @param {number} last

@@ -1,12 +1,13 @@
 // Lines of a script as they are written.
 
-import { ByteList, sameBytes } from '../bytes.js';
+import { ByteList } from '../bytes.js';
 import { addToRuns, runOf } from '../sectors/runs.js';
-import { addressIn, addressText, asWords, hasZeroByte, userOf } from '../sectors/sector.js';
+import { SECTOR_SIZE, USER_OFFSET, USER_SIZE, addressIn, addressText, asWords, hasZeroByte, sameAddress } from '../sectors/sector.js';
 
 /** @typedef {import('./sector_lines.js').Left} Left */
 /** @typedef {import('./sector_lines.js').Lines} Lines */
 /** @typedef {import('./sector_lines.js').Text} Text */
+/** @typedef {{ bytes: Uint8Array, words: Int32Array, view: DataView }} Written bytes of which lines are written, as they are read */
 
 /** Bytes that differ are in one patch if at most this many equal ones stand between them: a patch of their own costs more. */
 const JOINED_BYTES = 8;
@@ -16,10 +17,21 @@ const HEX_DIGITS = '0123456789ABCDEF';
 /** The two digits of each byte, the first one in the low half. */
 const DIGITS = Uint16Array.from({ length: 256 }, (_, i) => HEX_DIGITS.charCodeAt(i >> 4) | HEX_DIGITS.charCodeAt(i % 16) << 8);
 
+/**
+ * Bytes of which lines are written.
+ * @param {Uint8Array} bytes
+ * @returns {Written}
+ */
+export function asWritten(bytes) {
+    return { bytes, words: asWords(bytes), view: new DataView(bytes.buffer, bytes.byteOffset, bytes.length) };
+}
+
 /** Lines of a script, as bytes, and what is left besides them. */
 export class LineList extends ByteList {
-    constructor() {
-        super();
+    /** @param {Uint8Array} [room] */
+    constructor(room) {
+        super(room);
+        this.view = new DataView(this.room.buffer);
         this.patches = 0;
         this.version = 1;
         this.carry = false;
@@ -48,11 +60,21 @@ export class LineList extends ByteList {
         for (let i = 0; i < text.length; i++) this.room[at + i] = text.charCodeAt(i);
     }
 
-    /** @param {Uint8Array} bytes as digits */
-    hex(bytes) {
-        const at = this.grow(2 * bytes.length);
-        const view = new DataView(this.room.buffer, at);
-        for (let i = 0; i < bytes.length; i++) view.setUint16(2 * i, DIGITS[bytes[i]], true);
+    /**
+     * @param {Written} from bytes of which some come as digits
+     * @param {number} first
+     * @param {number} end
+     */
+    hex({ bytes, view }, first, end) {
+        let at = this.grow(2 * (end - first));
+        if (this.view.buffer !== this.room.buffer) this.view = new DataView(this.room.buffer);
+        let i = first;
+        for (; i + 4 <= end; i += 4, at += 8) {
+            const word = view.getUint32(i, true);
+            this.view.setUint32(at, DIGITS[word & 0xFF] | DIGITS[word >>> 8 & 0xFF] << 16, true);
+            this.view.setUint32(at + 4, DIGITS[word >>> 16 & 0xFF] | DIGITS[word >>> 24] << 16, true);
+        }
+        for (; i < end; i++, at += 2) this.view.setUint16(at, DIGITS[bytes[i]], true);
     }
 
     /**
@@ -62,10 +84,22 @@ export class LineList extends ByteList {
      * @param {Uint8Array} old
      */
     set(block, offset, fresh, old) {
+        this.setPart(block, offset, asWritten(fresh), asWritten(old), 0, fresh.length);
+    }
+
+    /**
+     * @param {number} block
+     * @param {number} offset
+     * @param {Written} fresh
+     * @param {Written} old
+     * @param {number} from of both
+     * @param {number} end
+     */
+    setPart(block, offset, fresh, old, from, end) {
         this.text(`set ${block} ${offset} `);
-        this.hex(fresh);
+        this.hex(fresh, from, end);
         this.text(' was ');
-        this.hex(old);
+        this.hex(old, from, end);
         this.text('\n');
         this.patches += 1;
     }
@@ -87,18 +121,19 @@ export class LineList extends ByteList {
     }
 
     /**
-     * The lines that make a Mode 1 sector another.
+     * The lines that make a Mode 1 sector another, the i-th of several.
      * @param {number} block
-     * @param {Uint8Array} old
-     * @param {Uint8Array} fresh
+     * @param {Written} old
+     * @param {Written} fresh
+     * @param {number} i
      * @param {boolean} rebuild whether its damage goes first
      */
-    sector(block, old, fresh, rebuild) {
+    sector(block, old, fresh, i, rebuild) {
         if (rebuild) this.rebuild(block);
-        if (!sameBytes(addressIn(old, 0), addressIn(fresh, 0))) this.address(block, addressIn(fresh, 0));
-        const [before, after] = [userOf(old, 0), userOf(fresh, 0)];
-        for (const { from, end } of differingRuns(before, after)) {
-            this.set(block, from, after.subarray(from, end), before.subarray(from, end));
+        if (!sameAddress(old.bytes, fresh.bytes, i)) this.address(block, addressIn(fresh.bytes, i));
+        const start = i * SECTOR_SIZE + USER_OFFSET;
+        for (const { from, end } of differingRuns(old, fresh, start)) {
+            this.setPart(block, from - start, fresh, old, from, end);
         }
     }
 
@@ -113,19 +148,33 @@ export class LineList extends ByteList {
 }
 
 /**
- * The runs of user bytes that differ, those that are near one another joined.
- * @param {Uint8Array} old
- * @param {Uint8Array} fresh
+ * The line that is added to a list, without its end.
+ * @param {(lines: LineList) => void} add
  */
-function differingRuns(old, fresh) {
-    const [before, after] = [asWords(old), asWords(fresh)];
+export function lineText(add) {
+    const lines = new LineList();
+    add(lines);
+    return new TextDecoder().decode(lines.bytes()).trimEnd();
+}
+
+/**
+ * The runs of user bytes that differ, those that are near one another joined.
+ * @param {Written} old
+ * @param {Written} fresh
+ * @param {number} start where the user bytes of a sector begin in both
+ */
+function differingRuns({ bytes: old, words: before }, { bytes: fresh, words: after }, start) {
     const runs = [];
     let [from, end] = [0, 0];
-    for (let word = 0; word < before.length; word++) {
+    for (let word = start >> 2; word < (start + USER_SIZE) >> 2; word++) {
         const other = before[word] ^ after[word];
         if (other === 0) continue;
         const isNear = end > 0 && 4 * word - end <= JOINED_BYTES;
-        for (let at = isNear && !hasZeroByte(other) ? 4 * word + 3 : 4 * word; at < 4 * word + 4; at++) {
+        if (isNear && !hasZeroByte(other)) {
+            end = 4 * word + 4;
+            continue;
+        }
+        for (let at = 4 * word; at < 4 * word + 4; at++) {
             if (old[at] === fresh[at]) continue;
             if (end > 0 && at - end > JOINED_BYTES) runs.push({ from, end });
             if (end === 0 || at - end > JOINED_BYTES) from = at;

@@ -94,6 +94,14 @@ export function wordsOn(text, number) {
 }
 
 /**
+ * What stands after the first colon of a line of the program: after its name, or after what became of a patch.
+ * @param {string} line
+ */
+export function afterColon(line) {
+    return line.slice(line.indexOf(': ') + 2);
+}
+
+/**
  * Whether a word that is no bytes would be some with one digit more.
  * @param {Calls} calls
  * @param {string} word

@@ -3,7 +3,7 @@
 import { joinedBytes } from '../bytes.js';
 import { CONTENT, MOST_PATCHES, MOST_SCRIPT_BYTES, isFault } from '../module/records.js';
 import { LINE_FEED, endsOfLines } from './line_words.js';
-import { patchLines } from './patch_run.js';
+import { faultOr } from './patch_run.js';
 
 /** @typedef {import('../module/calls.js').Calls} Calls */
 /**
@@ -51,25 +51,30 @@ class LineReader {
      * @returns {Uint8Array | null}
      */
     read(lines) {
-        const found = patchLines(this.calls, [this.head, END_OF_LINE, lines]);
+        const found = faultOr(this.calls, [this.head, END_OF_LINE, lines], run => this.calls.runLines(run));
         this.calls.hold(lines);
-        if (found === null || (this.version === 0 && found.length > 0)) return this.readEach(lines);
-        for (const { number, start, size } of found) this.readLine(lines, this.number + number - 1, start - this.head.length - 1, size);
+        if (found instanceof Uint8Array || (this.version === 0 && found.length > 0)) return this.readEach(lines);
+        for (const { number, start, size } of found) {
+            const from = start - this.head.length - 1;
+            this.calls.readLine(this.version, number, 0, from, size);
+            const { block, old } = this.calls.patchRange();
+            this.patches.push({ number: this.number + number - 1, block, old, line: lines.subarray(from, from + size) });
+        }
         const hasEnd = lines.length === 0 || lines[lines.length - 1] === LINE_FEED;
         this.number += endsOfLines(lines, 0, lines.length) + Number(!hasEnd);
         return null;
     }
 
     /**
-     * Reads lines one by one: a fault has to be named, or a head line was not found yet.
-     * @param {Uint8Array} lines
+     * Reads lines one by one up to the first fault, which has to be named, or to the head line, if it was not found yet.
+     * @param {Uint8Array} lines which are held
      * @returns {Uint8Array | null}
      */
     readEach(lines) {
         let from = 0;
         for (let line = this.calls.firstLine(0); line !== null; line = this.calls.firstLine(from)) {
             this.number += 1;
-            const content = this.readLine(lines, this.number, from, line.size);
+            const content = this.calls.readLine(this.version, this.number, 0, from, line.size);
             if (isFault(content)) return this.calls.faultLine(this.number, content);
             if (content !== CONTENT.PATCH && content !== CONTENT.NOTHING) {
                 [this.version, this.head] = [content, lines.subarray(from, from + line.size)];
@@ -78,20 +83,6 @@ class LineReader {
             from += line.taken;
         }
         return null;
-    }
-
-    /**
-     * @param {Uint8Array} lines which are held
-     * @param {number} number
-     * @param {number} from
-     * @param {number} size
-     */
-    readLine(lines, number, from, size) {
-        const content = this.calls.readLine(this.version, number, 0, from, size);
-        if (content !== CONTENT.PATCH) return content;
-        const { block, old } = this.calls.patchRange();
-        this.patches.push({ number, block, old, line: lines.subarray(from, from + size) });
-        return content;
     }
 }
 

@@ -14,6 +14,8 @@ import { contentOf, linesOfText, partOfWord, lineParts } from './line_words.js';
 
 /** If more lines go, all that stay are read: each that goes may be looked for among all of its block. */
 const MANY = 256;
+/** So many lines are read in some ten milliseconds. */
+const READ_AT_ONCE = 5000;
 
 /**
  * The last block that a patch meets.
@@ -95,8 +97,19 @@ export class ScriptModel {
      * @param {string} text
      */
     readText(text) {
-        Object.assign(this, { joined: text, head: -1, version: 0, patches: 0, faults: 0, size: 0, blocks: new Map(), tooMany: false });
+        this.begin(text);
         this.lines = this.entered(text, linesOfText(text), 1);
+    }
+
+    /** @param {string} text of which no line is read yet */
+    begin(text) {
+        Object.assign(this, { joined: text, lines: [], head: -1, version: 0, patches: 0, faults: 0, size: 0, blocks: new Map(),
+            tooMany: false });
+    }
+
+    /** @param {ScriptModel} other whose lines are taken over, and no longer its own */
+    adopt({ joined, lines, head, version, patches, faults, size, blocks, tooMany }) {
+        Object.assign(this, { joined, lines, head, version, patches, faults, size, blocks, tooMany });
     }
 
     /**
@@ -244,4 +257,22 @@ export class ScriptModel {
         parts[partOfWord(parts, 3)] = hexText(fresh);
         return parts.join('');
     }
+}
+
+/**
+ * The lines of a text, as the calls read them, a part at a time.
+ * @param {Calls} calls
+ * @param {string} text
+ * @param {() => Promise<unknown>} turn between two parts
+ */
+export async function modelInParts(calls, text, turn) {
+    const model = new ScriptModel(calls, '');
+    const texts = linesOfText(text);
+    model.begin(text);
+    for (let at = 0; at < texts.length; at += READ_AT_ONCE) {
+        if (at > 0) await turn();
+        const part = texts.slice(at, at + READ_AT_ONCE);
+        model.lines = model.lines.concat(model.entered(part.join('\n'), part, at + 1));
+    }
+    return model;
 }

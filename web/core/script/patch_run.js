@@ -1,7 +1,7 @@
 // A run of a script on an image by the calls, of which this only moves the bytes.
 
-import { ByteList } from '../bytes.js';
-import { RUN_FLAG, STEP } from '../module/records.js';
+import { ByteList, PieceCutter } from '../bytes.js';
+import { RUN_FLAG, STATUS, STEP } from '../module/records.js';
 import { ReadAhead } from '../read_ahead.js';
 
 /** @typedef {import('../module/calls.js').Calls} Calls */
@@ -16,56 +16,54 @@ import { ReadAhead } from '../read_ahead.js';
  * @typedef {{ base: number, carry?: boolean, withoutOld?: boolean, near?: number }} How
  */
 
-/** Largest piece of neighbouring sectors that goes out, in bytes; and largest gap that goes with them, if it was read too. */
+/** Largest piece of neighbouring sectors that goes out, in bytes. */
 const JOINED_SIZE = 1 << 19;
-const NEAR_SIZE = 1 << 14;
-/** What `near` is if all pieces are written at once: to read a slice again takes longer. */
+/** What `near` is if pieces are held; and if all are written at once: to read a slice again takes longer. */
+export const NEAR_HELD = 1 << 14;
 export const NEAR_WRITTEN = 1 << 17;
 
-/** Joins what goes out, in order, to pieces: sectors that were read, and slices of the image. */
-class JoinedPieces {
+/** Pieces of which neighbouring bytes are joined. */
+class JoinedPieces extends PieceCutter {
     /** @param {Take} take */
     constructor(take) {
-        this.take = take;
+        super(take);
         this.at = 0;
-        this.kept = 0;
         this.bytes = new ByteList();
     }
 
-    /** @param {number} size how many bytes of the image follow as they are */
-    async keep(size) {
-        if (this.bytes.size > 0) await this.giveBytes();
-        this.kept += size;
-    }
-
-    /** @param {Uint8Array} bytes which follow. They are copied before anything is awaited. */
-    async put(bytes) {
+    /**
+     * @param {number} at
+     * @param {Uint8Array} bytes what stands there, after those that are not given yet. They are copied before anything is awaited.
+     */
+    async join(at, bytes) {
+        if (this.bytes.size === 0) this.at = at;
         this.bytes.push(bytes);
-        if (this.kept > 0) await this.giveKept();
         if (this.bytes.size >= JOINED_SIZE) await this.giveBytes();
-    }
-
-    /** Gives what was kept, after which the bytes stand. */
-    async giveKept() {
-        const from = this.at;
-        this.at += this.kept;
-        this.kept = 0;
-        await this.take({ from, to: this.at });
     }
 
     /** Gives the bytes, in whose place the next ones stand after that. */
     async giveBytes() {
-        const { at } = this;
-        const bytes = this.bytes.bytes();
-        this.at += bytes.length;
-        await this.take({ at, bytes });
-        this.bytes.drop(bytes.length);
+        if (this.bytes.size > 0) await this.put(this.at, this.bytes.bytes());
+        this.bytes.size = 0;
     }
+}
 
-    /** Gives what is not given yet. */
-    async end() {
-        if (this.kept > 0) await this.giveKept();
-        if (this.bytes.size > 0) await this.giveBytes();
+/**
+ * The steps of a run of a script, each of which is done before the next one is asked for. The last one is END.
+ * @param {Calls} calls
+ * @param {Uint8Array[]} script in pieces
+ * @param {number} base
+ * @param {number} size of the image
+ * @param {number} flags
+ */
+export function* stepsOf(calls, script, base, size, flags) {
+    const run = calls.runBegin(script, base, size, flags);
+    try {
+        let step = calls.runNext(run, 0);
+        for (; step.kind !== STEP.END; step = calls.runNext(run, step.size)) yield step;
+        yield step;
+    } finally {
+        calls.runEnd(run);
     }
 }
 
@@ -79,30 +77,26 @@ class JoinedPieces {
  * @param {(step: Step, line: Uint8Array) => void} log
  * @param {Take | null} take null if nobody wants the image
  */
-export async function runScript(calls, reader, script, { base, carry = false, withoutOld = false, near = NEAR_SIZE }, log, take) {
+export async function runScript(calls, reader, script, { base, carry = false, withoutOld = false, near = NEAR_HELD }, log, take) {
     const [ahead, out] = [new ReadAhead(reader), take && new JoinedPieces(take)];
-    const run = calls.runBegin([script], base, reader.size, (carry ? RUN_FLAG.CARRY : 0) + (withoutOld ? RUN_FLAG.WITHOUT_OLD : 0));
-    try {
-        for (let done = 0; ;) {
-            const step = calls.runNext(run, done);
-            const { kind, at, size, status } = step;
-            done = size;
-            if (kind === STEP.READ) {
-                const bytes = ahead.here(at, size) || await ahead.read(at, size);
-                calls.runBytes(run, step).set(bytes);
-            } else if (kind === STEP.LOG) log(step, calls.runBytes(run, step));
-            else if (kind === STEP.END) {
-                if (out !== null) await out.end();
-                return status;
-            } else if (out !== null) {
-                const bytes = kind === STEP.WRITE ? calls.runBytes(run, step) :
-                    size <= near ? ahead.here(at, size) || await ahead.bytesOn(at, size) : null;
-                await (bytes === null ? out.keep(size) : out.put(bytes));
-            }
+    const flags = (carry ? RUN_FLAG.CARRY : 0) + (withoutOld ? RUN_FLAG.WITHOUT_OLD : 0);
+    let status = STATUS.DONE;
+    for (const step of stepsOf(calls, [script], base, reader.size, flags)) {
+        const { kind, at, size } = step;
+        if (kind === STEP.READ) {
+            const bytes = ahead.here(at, size) || await ahead.read(at, size);
+            calls.stepBytes(step).set(bytes);
+        } else if (kind === STEP.LOG) log(step, calls.stepBytes(step));
+        else if (kind === STEP.END) status = step.status;
+        else if (out !== null) {
+            const bytes = kind === STEP.WRITE ? calls.stepBytes(step) :
+                size <= near ? ahead.here(at, size) || await ahead.bytesOn(at, size) : null;
+            await (bytes === null ? out.giveBytes() : out.join(at, bytes));
         }
-    } finally {
-        calls.runEnd(run);
     }
+    if (out !== null) await out.giveBytes();
+    if (out !== null && status !== STATUS.FAILED) await out.keep(reader.size);
+    return status;
 }
 
 /**
@@ -113,31 +107,12 @@ export async function runScript(calls, reader, script, { base, carry = false, wi
  * @param {Uint8Array[]} script in pieces
  * @param {(run: import('../module/calls.js').Run) => T} read
  */
-function faultOr(calls, script, read) {
+export function faultOr(calls, script, read) {
     const run = calls.runBegin(script, 0, null, 0);
     try {
         const step = calls.runNext(run, 0);
-        return step.kind === STEP.LOG ? calls.runBytes(run, step).slice() : read(run);
+        return step.kind === STEP.LOG ? calls.stepBytes(step).slice() : read(run);
     } finally {
         calls.runEnd(run);
     }
-}
-
-/**
- * The line that refuses a script, null if none does.
- * @param {Calls} calls
- * @param {Uint8Array} script
- */
-export function scriptFault(calls, script) {
-    return faultOr(calls, [script], () => null);
-}
-
-/**
- * The lines of a script that have patches, null if a line has a fault.
- * @param {Calls} calls
- * @param {Uint8Array[]} script in pieces
- */
-export function patchLines(calls, script) {
-    const lines = faultOr(calls, script, run => calls.runLines(run));
-    return Array.isArray(lines) ? lines : null;
 }

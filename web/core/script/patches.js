@@ -1,8 +1,9 @@
 // The patches of a script on an image, of which only the sectors that they meet are read.
 
-import { ByteList, joinedBytes, pieceWithin, readBytes } from '../bytes.js';
-import { RESULT, SECTORS_IN_HAND, STATUS } from '../module/records.js';
-import { SECTOR_SIZE, sectorCount } from '../sectors/sector.js';
+import { ByteList, keptPiece, pieceWithin } from '../bytes.js';
+import { RESULT, STATUS } from '../module/records.js';
+import { pieceReader } from '../piece_reader.js';
+import { SECTOR_SIZE } from '../sectors/sector.js';
 import { runScript } from './patch_run.js';
 
 /** @typedef {import('../module/calls.js').Calls} Calls */
@@ -13,7 +14,6 @@ import { runScript } from './patch_run.js';
 /** @typedef {import('./patch_run.js').Take} Take */
 /** @typedef {import('./script.js').ReadScript} ReadScript */
 /** @typedef {import('./long_script.js').Part} Part */
-/** @typedef {{ at: number, bytes: Uint8Array }} Bytes at a place of the image */
 
 /**
  * What became of a patch: its line, a RESULT, and the block and the user byte there that refuse it.
@@ -52,61 +52,19 @@ class PatchLog {
 }
 
 /**
- * An image with other bytes at a place.
- * @param {Reader} reader
- * @param {Bytes} over
- * @returns {Reader}
- */
-function laidOver(reader, over) {
-    return {
-        size: reader.size,
-        async read(at, length, room) {
-            const bytes = await reader.read(at, length, room);
-            const there = pieceWithin(over, at, at + bytes.length);
-            if (there === null) return bytes;
-            const own = bytes.slice();
-            own.set(there.bytes, there.at - at);
-            return own;
-        },
-    };
-}
-
-/**
- * A piece of an image with other bytes at a place, as pieces of the image itself.
- * @param {Piece} piece
- * @param {Bytes} over
- * @returns {(Piece | null)[]}
- */
-function piecesUnder(piece, over) {
-    if ('bytes' in piece) return [piece];
-    const end = over.at + over.bytes.length;
-    return [pieceWithin(piece, 0, over.at), pieceWithin(over, piece.from, piece.to), pieceWithin(piece, end, Infinity)];
-}
-
-/**
- * Where the first sector begins that a part of a script may meet.
- * @param {Part} part
- * @param {number} base
- * @param {number} size of the image
- */
-function startOf({ patches: [{ block }] }, base, size) {
-    return SECTOR_SIZE * Math.min(Math.max(block - base, 0), sectorCount(size));
-}
-
-/**
- * Makes a run of a part of a long script on an image in which the parts before it have made other bytes, up to which all has gone out.
- * Passes on what no later part can meet, and returns the bytes of the rest that may be others; null if the run failed.
+ * Makes a run of a part of a long script on what the parts before it have left of the image: its pieces from a place on. Passes on what
+ * no later part can meet, and returns the pieces after that; null if the run failed.
  * @param {Calls} calls
  * @param {Reader} reader
  * @param {Part} part
- * @param {Bytes} made
- * @param {number} end where the first sector begins that the next part may meet
+ * @param {Piece[]} image
+ * @param {number} end where the first block of the next part begins, be it in the image or not
  * @param {{ how: How, log: PatchLog, take: Take }} where
- * @returns {Promise<Bytes | null>}
+ * @returns {Promise<Piece[] | null>}
  */
-async function passPart(calls, reader, part, made, end, { how, log, take }) {
-    /** @type {Uint8Array[]} */
-    const later = [];
+async function passPart(calls, reader, part, image, end, { how, log, take }) {
+    /** @type {Piece[]} */
+    const left = [];
     let last = new Uint8Array(0);
     const note = (/** @type {Step} */ step, /** @type {Uint8Array} */ line) => {
         const { result, block, offset } = step;
@@ -114,15 +72,15 @@ async function passPart(calls, reader, part, made, end, { how, log, take }) {
         const number = part.numberOf(step.number);
         return log.add({ ...step, number }, calls.outcomeLine(number, result, block, offset));
     };
-    const status = await runScript(calls, laidOver(reader, made), part.text(), how, note, async piece => {
-        for (const it of piecesUnder(piece, made)) {
-            const ready = it && pieceWithin(it, made.at, end);
-            const rest = it && pieceWithin(it, end, end + SECTORS_IN_HAND * SECTOR_SIZE);
+    const status = await runScript(calls, pieceReader(reader, image), part.text(), how, note, async piece => {
+        const made = 'bytes' in piece ? [piece] : image.flatMap(it => pieceWithin(it, piece.from, piece.to) || []);
+        for (const it of made) {
+            const [ready, rest] = [pieceWithin(it, 0, end), pieceWithin(it, end, Infinity)];
             if (ready !== null) await take(ready);
-            if (rest !== null) later.push('bytes' in rest ? rest.bytes.slice() : await readBytes(reader, rest.from, rest.to - rest.from));
+            if (rest !== null) left.push(keptPiece(rest));
         }
     });
-    if (status !== STATUS.FAILED) return { at: end, bytes: joinedBytes(later) };
+    if (status !== STATUS.FAILED) return left;
     log.text.push(last);
     return null;
 }
@@ -138,12 +96,13 @@ async function passPart(calls, reader, part, made, end, { how, log, take }) {
  */
 async function passParts(calls, reader, parts, how, take) {
     const log = new PatchLog();
-    /** @type {Bytes | null} */
-    let made = { at: 0, bytes: new Uint8Array(0) };
+    /** @type {Piece[] | null} */
+    let left = [{ from: 0, to: reader.size }];
     for (const [i, part] of parts.entries()) {
-        const end = i + 1 < parts.length ? startOf(parts[i + 1], how.base, reader.size) : reader.size;
-        made = await passPart(calls, reader, part, made, end, { how, log, take });
-        if (made === null) return log.patched(STATUS.FAILED);
+        const next = parts[i + 1];
+        const end = next ? SECTOR_SIZE * (next.patches[0].block - how.base) : Infinity;
+        left = await passPart(calls, reader, part, left, end, { how, log, take });
+        if (left === null) return log.patched(STATUS.FAILED);
     }
     const refused = log.outcomes.filter(({ result }) => result !== RESULT.OK).length;
     log.text.push(calls.lastLine(log.outcomes.length - refused, refused));
@@ -177,6 +136,5 @@ export async function passPatched(calls, reader, script, how, take = null) {
 export async function applyPatches(calls, reader, script, how) {
     /** @type {Piece[]} */
     const pieces = [];
-    const keep = (/** @type {Piece} */ piece) => void pieces.push('bytes' in piece ? { ...piece, bytes: piece.bytes.slice() } : piece);
-    return { ...await passPatched(calls, reader, script, how, keep), pieces };
+    return { ...await passPatched(calls, reader, script, how, piece => void pieces.push(keptPiece(piece))), pieces };
 }

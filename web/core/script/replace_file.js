@@ -18,17 +18,17 @@ import { ScriptParts } from './script_writer.js';
 /** @typedef {import('../jobs.js').Sharing} Sharing */
 /** @typedef {import('./sector_lines.js').Left} Left */
 /** @typedef {import('./script_writer.js').Script} Script */
-/** @typedef {Pick<VolumeFiles, 'entries' | 'udf'>} Names what names the files of a volume */
+/** @typedef {Pick<VolumeFiles, 'entries' | 'udf'>} VolumeNames what names the files of a volume */
 /** @typedef {{ script: Script | null, left: Left[] }} Replacement without a script if a sector is left, which is not consistent */
 
 /** @param {{ size: number }} extent how many bytes its sectors have */
-function roomOf({ size }) {
+function extentRoom({ size }) {
     return Math.ceil(size / USER_SIZE) * USER_SIZE;
 }
 
 /**
  * The entries of an extent, in all trees of names.
- * @param {Names} names
+ * @param {VolumeNames} names
  * @param {FileEntry} extent
  */
 function entriesOf({ entries }, { block, size }) {
@@ -38,11 +38,11 @@ function entriesOf({ entries }, { block, size }) {
 /**
  * Throws a Fault if a file can have no other length: something else names it, or has its blocks too.
  * @param {WholeFile} file
- * @param {Names} names
+ * @param {VolumeNames} names
  */
 function assertOwn({ path, extents }, names) {
     if (names.udf) throw new Fault(`${path} would have its old length in the UDF that the disc has too: --fill keeps the length`);
-    const endOf = (/** @type {FileEntry} */ it) => it.block + roomOf(it) / USER_SIZE;
+    const endOf = (/** @type {FileEntry} */ it) => it.block + extentRoom(it) / USER_SIZE;
     for (const extent of extents) {
         const [end, own] = [endOf(extent), new Set(entriesOf(names, extent))];
         const isIn = (/** @type {number} */ block) => block >= extent.block && block < end;
@@ -81,14 +81,14 @@ function sumOf(numbers) {
  * @param {Calls} calls
  * @param {Sharer} crew
  * @param {DiscImage} image the track's
- * @param {WholeFile & { names: Names }} file
+ * @param {WholeFile & { names: VolumeNames }} file
  * @param {Reader} wanted
  * @param {Sharing & { fill?: number }} how with the byte that fills up
  * @returns {Promise<Replacement>}
  */
 export async function replaceFile(calls, crew, image, { path, size, extents, names }, wanted, { fill, ...how } = {}) {
     const keeps = fill !== undefined || wanted.size === size;
-    const lengths = extents.map(extent => keeps ? extent.size : roomOf(extent));
+    const lengths = extents.map(extent => keeps ? extent.size : extentRoom(extent));
     const room = sumOf(lengths);
     const had = `${size} bytes${keeps ? '' : ` and room for ${room}`}`;
     if (wanted.size > room) throw new Fault(`${path} has ${had}, the new file ${wanted.size}`);
@@ -96,7 +96,7 @@ export async function replaceFile(calls, crew, image, { path, size, extents, nam
     const parts = new ScriptParts();
     const filled = filledReader(wanted, room + USER_SIZE, fill);
     for (const [i, extent] of extents.entries()) {
-        const [before, count] = [sumOf(lengths.slice(0, i)), roomOf(extent) / USER_SIZE];
+        const [before, count] = [sumOf(lengths.slice(0, i)), extentRoom(extent) / USER_SIZE];
         const fresh = Math.max(Math.min(wanted.size - before, lengths[i]), 0);
         if (!keeps && fresh !== extent.size) await pushSize(calls, image, parts, entriesOf(names, extent), fresh);
         const first = extent.block - image.base;

@@ -4,7 +4,7 @@ import { joinedBytes } from '../bytes.js';
 import { MOST_SCRIPT_BYTES } from '../module/records.js';
 import { basesSaid } from './base_said.js';
 import { scriptParts, readLines } from './long_script.js';
-import { scriptFault } from './patch_run.js';
+import { faultOr } from './patch_run.js';
 
 /** @typedef {import('../module/calls.js').Calls} Calls */
 /** @typedef {import('./base_said.js').BaseSaid} BaseSaid */
@@ -48,7 +48,7 @@ async function wholeText(pieces, most) {
  */
 export async function readScript(calls, pieces, long = false) {
     const text = await wholeText(pieces, long ? Infinity : MOST_SCRIPT_BYTES);
-    const lines = long ? readLines(calls, text) : scriptFault(calls, text);
+    const lines = long ? readLines(calls, text) : faultOr(calls, [text], () => null);
     if (lines instanceof Uint8Array) return new Refusal(lines, !long && text.length > MOST_SCRIPT_BYTES);
     return { bases: basesSaid(text), ...lines ? { parts: scriptParts(lines) } : { text } };
 }

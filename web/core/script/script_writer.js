@@ -3,6 +3,7 @@
 import { Fault } from '../faults.js';
 import { CONTENT, MOST_SCRIPT_BYTES } from '../module/records.js';
 import { addToRuns } from '../sectors/runs.js';
+import { lineText } from './line_list.js';
 
 /** @typedef {import('../module/calls.js').Calls} Calls */
 /** @typedef {import('./sector_lines.js').Left} Left */
@@ -23,7 +24,7 @@ const MOST_WRITTEN = 1 << 30;
  */
 function tooManyPatches(calls, patches) {
     if (patches === 0) return false;
-    const line = new TextEncoder().encode('rebuild 0');
+    const line = new TextEncoder().encode(lineText(lines => lines.rebuild(0)));
     calls.hold(line);
     return calls.readLine(1, 2, patches - 1, 0, line.length) !== CONTENT.PATCH;
 }

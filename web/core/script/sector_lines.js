@@ -6,7 +6,8 @@ import { CONTENT, RECORD, RECORD_SIZE, RESULT, RUN_FLAG, SECTOR_KIND, STATUS, ST
 import { blocksText } from '../sectors/runs.js';
 import { LAST_BASE, SECTOR_SIZE, addressIn, differingSectors, sectorOf, userOf } from '../sectors/sector.js';
 import { isDamaged } from '../sectors/survey.js';
-import { LineList } from './line_list.js';
+import { LineList, asWritten } from './line_list.js';
+import { stepsOf } from './patch_run.js';
 
 /** @typedef {import('../module/calls.js').Calls} Calls */
 
@@ -32,6 +33,9 @@ import { LineList } from './line_list.js';
 
 /** Sectors whose lines are tried at a time: a run has at most MOST_PATCHES. */
 const TRY_SIZE = 256;
+
+/** Where lines are written, which are copied when all are there: to grow a room takes longer than to write them. */
+let linesRoom = new Uint8Array(1 << 12);
 
 /** What stands in a block that is not looked at. */
 const NO_DATA = new Uint8Array(SECTOR_SIZE);
@@ -69,12 +73,13 @@ function canBeNamed(calls, address) {
  * @returns {Lines}
  */
 export function linesBetween(calls, { blocks, old, fresh }, how = {}) {
-    const lines = new LineList();
+    const lines = new LineList(linesRoom);
     for (let i = 0; i < blocks.length; i += TRY_SIZE) {
         const [from, to] = [SECTOR_SIZE * i, SECTOR_SIZE * (i + TRY_SIZE)];
         const pairs = { blocks: blocks.slice(i, i + TRY_SIZE), old: old.subarray(from, to), fresh: fresh.subarray(from, to) };
         if (!addPlainly(calls, lines, pairs)) addJudged(calls, lines, pairs, how);
     }
+    linesRoom = lines.room;
     return lines.lines();
 }
 
@@ -87,7 +92,8 @@ export function linesBetween(calls, { blocks, old, fresh }, how = {}) {
  */
 function addPlainly(calls, lines, pairs) {
     const { size, patches, version } = lines;
-    pairs.blocks.forEach((block, i) => lines.sector(block, sectorOf(pairs.old, i), sectorOf(pairs.fresh, i), false));
+    const [old, fresh] = [pairs.old, pairs.fresh].map(asWritten);
+    pairs.blocks.forEach((block, i) => lines.sector(block, old, fresh, i, false));
     const isRight = firstWrong(calls, lines.textFrom(size), pairs, false) < 0;
     if (!isRight) Object.assign(lines, { size, patches, version });
     return isRight;
@@ -110,7 +116,7 @@ function addJudged(calls, lines, { blocks, old, fresh }, { carry = false, heal =
         const kinds = states.map(records => records[RECORD_SIZE * i + RECORD.KIND]);
         const [damaged, toBeDamaged] = states.map(records => isDamaged(records, RECORD_SIZE * i));
         const lead = (/** @type {Uint8Array} */ sector, /** @type {boolean} */ rebuild) => {
-            lines.sector(block, from, sector, rebuild);
+            lines.sector(block, asWritten(from), asWritten(sector), 0, rebuild);
             sectorOf(due, i).set(sector);
         };
         if (kinds.some(kind => kind !== SECTOR_KIND.MODE1)) return lines.leave(block, 'kind', kinds);
@@ -135,7 +141,7 @@ function addJudged(calls, lines, { blocks, old, fresh }, { carry = false, heal =
  */
 function isCarried(calls, block, old, fresh) {
     const lines = new LineList();
-    lines.sector(block, old, fresh, false);
+    lines.sector(block, asWritten(old), asWritten(fresh), 0, false);
     return firstWrong(calls, lines.textFrom(0), { blocks: [block], old, fresh }, true) < 0;
 }
 
@@ -151,29 +157,17 @@ function firstWrong(calls, { version, text }, { blocks, old, fresh }, carry) {
     const base = Math.min(blocks[0], LAST_BASE);
     const size = (blocks[blocks.length - 1] + 1 - base) * SECTOR_SIZE;
     const made = old.slice();
-    const after = (/** @type {number} */ i, /** @type {number} */ block) => {
-        while (blocks[i] < block) i += 1;
-        return i;
-    };
+    const places = new Map(blocks.map((block, i) => [block, i]));
     const head = new TextEncoder().encode(`cdpatch ${version}\n`);
-    const run = calls.runBegin([head, text], base, size, carry ? RUN_FLAG.CARRY : 0);
-    try {
-        for (let [done, read, written] = [0, 0, 0]; ;) {
-            const step = calls.runNext(run, done);
-            const block = base + step.at / SECTOR_SIZE;
-            done = step.size;
-            if (step.kind === STEP.READ) {
-                read = after(read, block);
-                calls.runBytes(run, step).set(blocks[read] === block ? sectorOf(old, read) : NO_DATA);
-            } else if (step.kind === STEP.WRITE) {
-                written = after(written, block);
-                if (blocks[written] === block) sectorOf(made, written).set(calls.runBytes(run, step));
-            } else if (step.kind === STEP.LOG && step.result !== RESULT.OK) return Math.min(after(0, step.block), blocks.length - 1);
-            else if (step.kind === STEP.END) return step.status === STATUS.DONE ? differingSectors(made, fresh)[0] ?? -1 : 0;
-        }
-    } finally {
-        calls.runEnd(run);
+    for (const step of stepsOf(calls, [head, text], base, size, carry ? RUN_FLAG.CARRY : 0)) {
+        const { kind, result, status } = step;
+        const i = places.get(base + step.at / SECTOR_SIZE);
+        if (kind === STEP.READ) calls.stepBytes(step).set(i === undefined ? NO_DATA : sectorOf(old, i));
+        else if (kind === STEP.WRITE && i !== undefined) sectorOf(made, i).set(calls.stepBytes(step));
+        else if (kind === STEP.LOG && result !== RESULT.OK) return Math.max(blocks.findIndex(block => block >= step.block), 0);
+        else if (kind === STEP.END && status !== STATUS.DONE) return 0;
     }
+    return differingSectors(made, fresh)[0] ?? -1;
 }
 
 /**

@@ -1,5 +1,6 @@
 // Builds the script that reverts another one.
 
+import { ByteList } from '../bytes.js';
 import { Fault } from '../faults.js';
 import { Crew, localHand } from '../jobs.js';
 import { STATUS } from '../module/records.js';
@@ -19,7 +20,7 @@ import { ScriptParts } from './script_writer.js';
 /** @typedef {import('./patches.js').Patched} Patched */
 /** @typedef {import('./script.js').Pieces} Pieces */
 /**
- * The script that takes another one back, what becomes of that one's patches, and the blocks whose damage can't come back: they get
+ * The script that reverts another one, what becomes of that one's patches, and the blocks whose damage can't come back: they get
  * their address and user data again.
  * @typedef {{ script: Script, patched: Patched, left: Left[] }} Undo
  */
@@ -30,37 +31,6 @@ const NOTHING_TO_TAKE_BACK = 'the image already has what the script writes, so n
 /** Sectors that are compared at a time, and how many times at once. */
 const COMPARE_SIZE = 256;
 const AT_ONCE = 16;
-
-/** Sectors that are compared together: their blocks, and what they are patched and before. */
-class Together {
-    constructor() {
-        /** @type {number[]} */
-        this.blocks = [];
-        this.patched = new Uint8Array(COMPARE_SIZE * SECTOR_SIZE);
-        this.before = new Uint8Array(COMPARE_SIZE * SECTOR_SIZE);
-    }
-
-    isFull() {
-        return this.blocks.length === COMPARE_SIZE;
-    }
-
-    /**
-     * @param {number} block
-     * @param {Uint8Array} patched
-     * @param {Uint8Array} before
-     */
-    add(block, patched, before) {
-        const at = this.blocks.push(block) * SECTOR_SIZE - SECTOR_SIZE;
-        this.patched.set(patched, at);
-        this.before.set(before, at);
-    }
-
-    /** The sectors, patched and before. */
-    pieces() {
-        const size = this.blocks.length * SECTOR_SIZE;
-        return [this.patched.subarray(0, size), this.before.subarray(0, size)];
-    }
-}
 
 /** The lines that take patched sectors back, of which many are compared at a time. */
 class TakenBack {
@@ -74,7 +44,10 @@ class TakenBack {
         this.base = base;
         this.given = given;
         this.parts = new ScriptParts();
-        this.next = new Together();
+        /** @type {number[]} the blocks of the sectors that are compared next, and what these are patched and before */
+        this.blocks = [];
+        this.patched = new ByteList();
+        this.before = new ByteList();
         /** @type {Promise<import('./sector_lines.js').Lines>[]} */
         this.coming = [];
     }
@@ -84,14 +57,16 @@ class TakenBack {
         if (!('bytes' in piece)) return;
         const before = await this.ahead.bytesAt(piece.at, piece.bytes.length);
         for (const i of differingSectors(piece.bytes, before)) {
-            this.next.add(this.base + piece.at / SECTOR_SIZE + i, sectorOf(piece.bytes, i), sectorOf(before, i));
-            if (this.next.isFull()) await this.compare();
+            this.blocks.push(this.base + piece.at / SECTOR_SIZE + i);
+            this.patched.push(sectorOf(piece.bytes, i));
+            this.before.push(sectorOf(before, i));
+            if (this.blocks.length === COMPARE_SIZE) await this.compare();
         }
     }
 
     async compare() {
-        const lines = this.given('lines', this.next.pieces(), this.next.blocks);
-        this.next = new Together();
+        const lines = this.given('lines', [this.patched.bytes().slice(), this.before.bytes().slice()], this.blocks);
+        [this.blocks, this.patched.size, this.before.size] = [[], 0, 0];
         lines.catch(() => {}); // it is thrown when its turn comes
         this.coming.push(lines);
         if (this.coming.length >= AT_ONCE) this.parts.push(await /** @type {typeof lines} */ (this.coming.shift()));

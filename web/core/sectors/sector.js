@@ -114,6 +114,19 @@ export function joinedUser(bytes, user = newBytes(sectorCount(bytes.length) * US
     return user;
 }
 
+/** The user data of a range stand here until the next one: fresh memory costs more than the copy. */
+let userRoom = new Uint8Array(0);
+
+/**
+ * The user data of whole sectors in one piece, which stay until others are asked for.
+ * @param {Uint8Array} bytes
+ */
+export function userOfRange(bytes) {
+    const size = sectorCount(bytes.length) * USER_SIZE;
+    if (userRoom.length < size) userRoom = newBytes(size);
+    return joinedUser(bytes, userRoom.subarray(0, size));
+}
+
 /**
  * The three bytes of the address in the header of the i-th sector, not copied.
  * @param {Uint8Array} bytes
@@ -122,6 +135,17 @@ export function joinedUser(bytes, user = newBytes(sectorCount(bytes.length) * US
 export function addressIn(bytes, i) {
     const at = i * SECTOR_SIZE + HEADER_OFFSET;
     return bytes.subarray(at, at + 3);
+}
+
+/**
+ * Whether the i-th sector has the same address in two images.
+ * @param {Uint8Array} a
+ * @param {Uint8Array} b
+ * @param {number} i
+ */
+export function sameAddress(a, b, i) {
+    const at = i * SECTOR_SIZE + HEADER_OFFSET;
+    return a[at] === b[at] && a[at + 1] === b[at + 1] && a[at + 2] === b[at + 2];
 }
 
 /**

@@ -11,7 +11,7 @@ import { visible } from './visible.js';
 /** @typedef {import('../disc/disc.js').DiscImage} DiscImage */
 /** @typedef {import('../iso/files.js').FileEntry} FileEntry */
 /** @typedef {import('../jobs.js').Sharer} Sharer */
-/** @typedef {import('./range.js').Asked} Asked */
+/** @typedef {import('./range.js').AskedTexts} AskedTexts */
 /** @typedef {import('./range.js').Told} Told */
 /**
  * A stretch of user bytes that is a file, or what lies between files: from a sector of the part on, in the order of files. `before` is how
@@ -21,7 +21,7 @@ import { visible } from './visible.js';
 /**
  * What a table has: texts in what is asked for, of at least so many characters, and a tab or a comma between cells. `signal` ends the job;
  * `progress` hears of sectors.
- * @typedef {{ asked: Asked, least?: number, mark?: string, signal?: { aborted: boolean },
+ * @typedef {{ asked: AskedTexts, least?: number, mark?: string, signal?: { aborted: boolean },
  *     progress?: (done: number, all: number) => void }} TableHow
  */
 
@@ -70,7 +70,7 @@ export function stretchesOf(part, files) {
  * @param {Sharer} crew
  * @param {DiscImage} part
  * @param {Stretch} stretch
- * @param {Asked} asked
+ * @param {AskedTexts} asked
  * @param {import('../jobs.js').Sharing} watch
  */
 async function textsOf(crew, { reader, order }, stretch, asked, watch) {

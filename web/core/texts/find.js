@@ -1,8 +1,7 @@
 // Search over the user data of sectors, of any kind. A hit may lie over borders of sectors, and of the ranges that workers share.
 
 import { joinedBytes } from '../bytes.js';
-import { newBytes } from '../faults.js';
-import { USER_SIZE, asWords, joinedUser, sectorCount } from '../sectors/sector.js';
+import { USER_SIZE, asWords, userOfRange } from '../sectors/sector.js';
 
 /** How many bytes of a range are counted to know which are rare, and how many of the wanted ones are weighed. */
 const SAMPLES = 4000;
@@ -13,9 +12,6 @@ const KEPT_TRIES = 1 << 16;
 
 /** A part with more spellings looks the bytes at a place up, and does not compare them with each. */
 const FEW_SPELLINGS = 16;
-
-/** The user data of a range stand here until the next one: fresh memory costs more than the copy. */
-let room = new Uint8Array(0);
 
 /**
  * What is searched for: a text's parts in order, each in one of its spellings, as Encoding.units gives them.
@@ -50,9 +46,7 @@ export function sectorsBeyond(wanted) {
  * @param {{ texts: Wanted[] } & Limits} args
  */
 export function findIn(bytes, firstBlock, { texts, ...limits }) {
-    const size = sectorCount(bytes.length) * USER_SIZE;
-    if (room.length < size) room = newBytes(size);
-    const user = joinedUser(bytes, room.subarray(0, size));
+    const user = userOfRange(bytes);
     return texts.map(wanted => findInUser(user, firstBlock, joinedParts(wanted), limits));
 }
 

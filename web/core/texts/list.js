@@ -11,6 +11,7 @@ import { bytesAround, bytesBefore } from './context.js';
 import { spaceIn, usualBytes } from './encoding.js';
 import { encodingOf, textOfFile } from './encodings.js';
 import { endOfMatch } from './find.js';
+import { assertHasRoom } from './replace.js';
 
 /** @typedef {import('../bytes.js').Reader} Reader */
 /** @typedef {import('../module/calls.js').Calls} Calls */
@@ -239,10 +240,7 @@ async function fittedRow(image, row, encodings, fill) {
     const { encoding, size } = encodingAt(encodings, row.text, bytes, at);
     const fresh = usualBytes(unitsOfCell(encoding, row.fresh));
     const room = Math.max(Math.min(size + fillingAfter(encoding, bytes, at + size), row.room), size);
-    if (fresh.length > room) {
-        const more = `${fresh.length - room} more than the ${room} that are there`;
-        throw new Fault(`the new text has ${fresh.length} bytes in ${encoding.name}, ${more}`);
-    }
+    assertHasRoom(encoding, fresh, room);
     const filling = fill || spaceIn(encoding);
     if (fresh.length < size && filling === null) throw new Fault(`${encoding.name} has no space to fill up with`);
     const old = bytes.slice(at, at + Math.max(size, fresh.length));

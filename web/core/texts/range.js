@@ -1,6 +1,6 @@
 // The texts of a range of sectors, which is a part of a file.
 
-import { USER_SIZE, joinedUser } from '../sectors/sector.js';
+import { USER_SIZE, userOfRange } from '../sectors/sector.js';
 import { cellOf } from './codes.js';
 import { encodingOf } from './encodings.js';
 import { fillingAfter } from './list.js';
@@ -11,7 +11,7 @@ import { BESIDE } from './told.js';
 
 /** @typedef {import('./encoding.js').Encoding} Encoding */
 /** @typedef {import('./encoding.js').TableEncoding} TableEncoding */
-/** @typedef {{ encoding?: string, table?: string }} Asked the name of an encoding, or the text of a table; neither for the usual ones */
+/** @typedef {{ encoding?: string, table?: string }} AskedTexts the name of an encoding, or a table; neither for the usual encodings */
 /**
  * A text, as it can be posted: its place in its file, how many bytes its room has, the name of its encoding, its score, whether only what
  * is beside it tells it, and itself.
@@ -23,7 +23,7 @@ let held = { key: '', teller: /** @type {TextTeller | null} */ (null) };
 
 /**
  * Who tells texts from other bytes in what is asked for.
- * @param {Asked} asked
+ * @param {AskedTexts} asked
  */
 function tellerOf({ encoding, table }) {
     const key = `${encoding} ${table}`;
@@ -40,12 +40,12 @@ function tellerOf({ encoding, table }) {
  * The texts that begin in a range. A job for a worker.
  * @param {Uint8Array} sectors with BEYOND more, or as many as the file has
  * @param {number} first of them in the file
- * @param {{ count: number, size: number } & Asked} args how many are the range, and the bytes of the file
+ * @param {{ count: number, size: number } & AskedTexts} args how many are the range, and the bytes of the file
  * @returns {Told[]}
  */
 export function textsOfRange(sectors, first, { count, size, ...asked }) {
     const shift = first * USER_SIZE;
-    const bytes = joinedUser(sectors).subarray(0, size - shift);
+    const bytes = userOfRange(sectors).subarray(0, size - shift);
     const [from, to] = [first === 0 ? 0 : BESIDE * USER_SIZE, (count + BESIDE) * USER_SIZE];
     const texts = tellerOf(asked).tell(bytes);
     return texts.flatMap(({ start, end, scores, score, near }, i) => {
@@ -64,4 +64,4 @@ export function textsOfRange(sectors, first, { count, size, ...asked }) {
  * The job `texts` of a crew, with tables of its own: only workers carry it.
  * @type {import('../jobs.js').Job}
  */
-export const textsJob = (_, [bytes], first, args) => textsOfRange(bytes, first, args);
+export const textsOfRangeJob = (_, [bytes], first, args) => textsOfRange(bytes, first, args);

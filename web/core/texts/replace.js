@@ -12,6 +12,17 @@ import { bytesBefore, contextOf } from './context.js';
 /** @typedef {{ hit: Hit, lines: Lines | null, why: string }} Replaced the lines that replace a hit, or why there are none */
 
 /**
+ * Throws a Fault if a new text has more bytes than there are for it.
+ * @param {Encoding} encoding
+ * @param {Uint8Array} fresh
+ * @param {number} room
+ */
+export function assertHasRoom({ name }, fresh, room) {
+    const more = fresh.length - room;
+    if (more > 0) throw new Fault(`the new text has ${fresh.length} bytes in ${name}, ${more} more than the ${room} that are there`);
+}
+
+/**
  * What is said of a hit, as why it is not replaced.
  * @param {{ hit: Hit, why: string }} left
  */

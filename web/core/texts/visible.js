@@ -1,7 +1,7 @@
 // Texts and names of a disc as they are printed.
 
 /**
- * A text with a dot for each character that moves the cursor or is none.
+ * Replaces control and invalid characters by dots.
  * @param {string} text
  */
 export function visible(text) {

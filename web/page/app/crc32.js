@@ -1,6 +1,9 @@
 // CRC-32, as archives of dumps list it.
 
 const POLYNOMIAL = 0xEDB88320;
+/** The polynomials 1 and x^8: the highest bit is that of x^0. */
+const ONE = 1 << 31;
+const X_8 = 1 << 23;
 /** Bytes that go into the sum at a time: two words with the lowest byte first, each byte by a table of its own. */
 const TABLES = 8;
 
@@ -9,7 +12,7 @@ const CRC_TABLES = (() => {
     const tables = Array.from({ length: TABLES }, () => new Int32Array(256));
     for (let byte = 0; byte < 256; byte++) {
         let sum = byte;
-        for (let bit = 0; bit < 8; bit++) sum = sum >>> 1 ^ (sum & 1 ? POLYNOMIAL : 0);
+        for (let bit = 0; bit < 8; bit++) sum = timesX(sum);
         tables[0][byte] = sum;
     }
     for (let k = 1; k < TABLES; k++) {
@@ -17,6 +20,11 @@ const CRC_TABLES = (() => {
     }
     return tables;
 })();
+
+/** @param {number} sum a polynomial, which is multiplied by x */
+function timesX(sum) {
+    return sum >>> 1 ^ (sum & 1 ? POLYNOMIAL : 0);
+}
 
 /**
  * The CRC-32 of what was summed before, 0 for nothing, and of more bytes.
@@ -36,4 +44,33 @@ export function crc32(before, bytes) {
     }
     for (const byte of bytes.subarray(words.length * 4)) sum = sum >>> 8 ^ t0[(sum ^ byte) & 255];
     return ~sum >>> 0;
+}
+
+/**
+ * The CRC-32 of bytes and of more after them, by that of each: the first is moved on over as many bytes as come after it.
+ * @param {number} before
+ * @param {number} after
+ * @param {number} size how many bytes come after
+ */
+export function joinedCrc(before, after, size) {
+    let moves = ONE;
+    for (let power = X_8, left = size; left > 0; left = Math.floor(left / 2)) {
+        if (left % 2 === 1) moves = product(moves, power);
+        power = product(power, power);
+    }
+    return (product(before, moves) ^ after) >>> 0;
+}
+
+/**
+ * The product of two polynomials, modulo that of the CRC-32.
+ * @param {number} a
+ * @param {number} b
+ */
+function product(a, b) {
+    let sum = 0;
+    for (let bit = ONE, power = b; bit !== 0; bit >>>= 1) {
+        if (a & bit) sum ^= power;
+        power = timesX(power);
+    }
+    return sum;
 }

@@ -1,17 +1,13 @@
 // The workers of the page. Each is started when it is first given something to do.
 
-import { forwardOf, readBytes } from '../../core/bytes.js';
 import { Fault, cancelled } from '../../core/faults.js';
 import { Crew } from '../../core/jobs.js';
-import { hexOf } from '../ui/index.js';
 
-/** @typedef {import('../../core/bytes.js').Reader} Reader */
 /** @typedef {import('../../core/jobs.js').Message} Message */
 /** @typedef {import('../../core/jobs.js').Reply} Reply */
 /** @typedef {import('./state.js').Parts} Parts */
 
 const MOST_WORKERS = 8;
-const HASH_STEP = 1 << 22;
 /** How long after Cancel a worker that still works on a range is ended, in milliseconds. */
 const MOMENT = 1000;
 
@@ -64,7 +60,7 @@ class WorkerHand {
  * @param {(event: MessageEvent) => void} heard
  * @param {(error: Error) => void} failed
  */
-function startedWorker({ module, newWorker }, heard, failed) {
+export function startedWorker({ module, newWorker }, heard, failed) {
     const worker = newWorker();
     worker.onmessage = heard;
     worker.onerror = ({ message }) => {
@@ -140,105 +136,4 @@ class ReadingCrew extends Crew {
 export function crewOf(parts) {
     const count = Math.min(navigator.hardwareConcurrency || 2, MOST_WORKERS);
     return new ReadingCrew(Array.from({ length: count }, () => new WorkerHand(parts)));
-}
-
-/** @typedef {{ sha1: string, crc32: string }} Sums in digits as others print them */
-
-/** A SHA-1 or a CRC-32 that grows with what is added, in a worker of its own. */
-export class RunningHash {
-    /**
-     * @param {Parts} parts
-     * @param {keyof Sums} sum
-     */
-    constructor(parts, sum) {
-        this.sum = sum;
-        /** @type {{ resolve: (reply: any) => void, reject: (error: Error) => void }[]} */
-        this.waiting = [];
-        this.fault = /** @type {Error | null} */ (null);
-        this.worker = startedWorker(parts, ({ data }) => (this.waiting.shift() || { resolve() {} }).resolve(data),
-            error => {
-                this.fault = error;
-                this.waiting.forEach(({ reject }) => reject(error));
-            });
-        /** @type {Promise<unknown>} */
-        this.before = Promise.resolve();
-    }
-
-    /**
-     * Adds bytes as soon as those before are hashed.
-     * @param {Uint8Array} bytes given away if they are alone in their memory
-     */
-    async add(bytes) {
-        await this.before;
-        const own = bytes.length === bytes.buffer.byteLength ? bytes : bytes.slice();
-        this.before = this.post(own, [own.buffer]);
-    }
-
-    /**
-     * @param {Uint8Array | null} bytes
-     * @param {ArrayBufferLike[]} transfer
-     * @returns {Promise<any>}
-     */
-    post(bytes, transfer) {
-        return new Promise((resolve, reject) => {
-            if (this.fault) throw this.fault;
-            this.waiting.push({ resolve, reject });
-            this.worker.postMessage({ sum: this.sum, bytes }, /** @type {ArrayBuffer[]} */ (transfer));
-        });
-    }
-
-    /** The sum of all. */
-    async end() {
-        await this.before;
-        const { digest, crc } = await this.post(null, []);
-        return this.sum === 'sha1' ? hexOf(digest).toLowerCase() : crc.toString(16).padStart(8, '0');
-    }
-
-    close() {
-        this.worker.terminate();
-    }
-}
-
-/**
- * The SHA-1 of an image. Throws a Fault, CANCELLED, and what reading throws.
- * @param {Parts} parts
- * @param {Reader} reader
- * @param {{ aborted: boolean }} signal
- * @param {(done: number) => void} progress is given the bytes that were hashed
- * @param {(bytes: Uint8Array) => Promise<void>} [seen] who sees all bytes, in turn
- */
-export async function sha1Of(parts, reader, signal, progress, seen = async () => {}) {
-    const hash = new RunningHash(parts, 'sha1');
-    const ahead = forwardOf(reader);
-    try {
-        for (let at = 0; at < reader.size; at += HASH_STEP) {
-            const bytes = await readBytes(ahead, at, Math.min(HASH_STEP, reader.size - at));
-            const size = bytes.length;
-            if (signal.aborted) throw cancelled();
-            await seen(bytes);
-            await hash.add(bytes);
-            progress(at + size);
-        }
-        return await hash.end();
-    } finally {
-        hash.close();
-    }
-}
-
-/**
- * The SHA-1 and the CRC-32 of an image, each calculated beside the other, as sha1Of has them.
- * @param {Parts} parts
- * @param {Reader} reader
- * @param {{ aborted: boolean }} signal
- * @param {(done: number) => void} progress
- * @returns {Promise<Sums>}
- */
-export async function sumsOf(parts, reader, signal, progress) {
-    const crc = new RunningHash(parts, 'crc32');
-    try {
-        const sha1 = await sha1Of(parts, reader, signal, progress, bytes => crc.add(bytes.slice()));
-        return { sha1, crc32: await crc.end() };
-    } finally {
-        crc.close();
-    }
 }

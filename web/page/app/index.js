@@ -1,9 +1,10 @@
 // What all parts of the page know: the state, the workers, and what the page was made of.
 
 export { OWN, bytesOfBase64, inflatedText, packedParts } from './bundle.js';
-export { RunningHash, crewOf, sha1Of, sumsOf } from './crew.js';
-export { MARK, SURVEY_LOOKS, SurveyMarks, loudMarks, nextFinding, nextRun } from './marks.js';
+export { crewOf } from './crew.js';
+export { RunningHash, Summing, sha1Of, sumsOf } from './hashing.js';
+export { MARK, SURVEY_LOOKS, SurveyMarks, lookOf, lookOfKind, loudMarks, nextFinding, nextRun } from './marks.js';
 export { releaseOf, sha256Of } from './releases.js';
-export { LONG } from './script_long.js';
+export { LONG, isLong } from './script_long.js';
 export { Sha1 } from './sha1.js';
 export { App, PANELS } from './state.js';

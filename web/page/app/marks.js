@@ -9,9 +9,9 @@ export const MARK = Object.freeze({
 });
 
 /**
- * How a mark is shown: `colour` is a property of the style, `letter` stands in the loupe, and a loud mark is a finding, which is at
- * least two pixels wide and high.
- * @typedef {{ mark: number, name: string, colour: string, letter: string, loud: boolean }} Look
+ * How a mark is shown: `name` stands in legends and tables, and `words` with a single sector if it has more to say; `colour` is a property
+ * of the style, `letter` stands in the loupe, and a loud mark is a finding, which is at least two pixels wide and high.
+ * @typedef {{ mark: number, name: string, words?: string, colour: string, letter: string, loud: boolean }} Look
  */
 
 /**
@@ -22,10 +22,11 @@ export const MARK = Object.freeze({
 /** @type {Look[]} */
 export const SURVEY_LOOKS = [
     { mark: MARK.MODE1, name: 'Mode 1', colour: '--k-mode1', letter: '', loud: false },
-    { mark: MARK.NOSYNC, name: 'audio, no sync', colour: '--k-nosync', letter: '', loud: false },
+    { mark: MARK.NOSYNC, name: 'audio, no sync', words: 'no sync field: audio, or nothing that is known', colour: '--k-nosync', letter: '',
+        loud: false },
     { mark: MARK.MODE2, name: 'Mode 2', colour: '--k-mode2', letter: '', loud: false },
     { mark: MARK.MODE0, name: 'Mode 0', colour: '--k-mode0', letter: '', loud: false },
-    { mark: MARK.OTHER, name: 'other mode', colour: '--k-other', letter: '', loud: false },
+    { mark: MARK.OTHER, name: 'other mode', words: 'an unknown mode', colour: '--k-other', letter: '', loud: false },
     { mark: MARK.EDC, name: 'data damaged', colour: '--f-edc', letter: 'E', loud: true },
     { mark: MARK.PARITY, name: 'parity only', colour: '--f-parity', letter: 'P', loud: true },
     { mark: MARK.ADDRESS, name: 'other address', colour: '--f-address', letter: 'A', loud: true },
@@ -37,6 +38,22 @@ const MARK_OF_KIND = {
     [SECTOR_KIND.NOSYNC]: MARK.NOSYNC, [SECTOR_KIND.MODE0]: MARK.MODE0, [SECTOR_KIND.MODE1]: MARK.MODE1,
     [SECTOR_KIND.MODE2]: MARK.MODE2, [SECTOR_KIND.OTHER]: MARK.OTHER,
 };
+
+/**
+ * How a mark of a survey is shown.
+ * @param {number} mark
+ */
+export function lookOf(mark) {
+    return /** @type {Look} */ (SURVEY_LOOKS.find(look => look.mark === mark));
+}
+
+/**
+ * How sectors of a kind are shown in which nothing was found.
+ * @param {number} kind
+ */
+export function lookOfKind(kind) {
+    return lookOf(MARK_OF_KIND[kind]);
+}
 
 /**
  * The mark of a record.

@@ -1,7 +1,7 @@
 // The script of the page: its lines, edits that can be undone, whether it is in a file, and what Check has said of its lines.
 
 import { RESULT, isFault } from '../../core/module/records.js';
-import { linesOfText, wordsOn } from '../../core/script/line_words.js';
+import { afterColon, linesOfText, wordsOn } from '../../core/script/line_words.js';
 import { countOld, oldBytesOf } from '../../core/script/long_script.js';
 import { ScriptModel } from '../../core/script/model.js';
 import { MOST_LINES, MOST_SHOWN, isLong } from './script_long.js';
@@ -58,12 +58,13 @@ export class ScriptLines extends ScriptModel {
      * Takes another text, and returns what brings this one back and says the line to look at, or -1; null if it is in a file.
      * @param {string} text
      * @param {string} name of its file
+     * @param {ScriptModel | null} [known] of the text, if it was read already
      */
-    take(text, name) {
+    take(text, name, known = null) {
         const isLost = !this.isSaved() && !this.isNew() && this.text() !== text;
         const [long, own] = [this.long && this.long.text, this.name];
         if (isLong(text)) this.setLong(text, name);
-        else if (text !== this.text() || name !== this.name) this.replace(text || `${HEAD}\n`, name);
+        else if (text !== this.text() || name !== this.name) this.replace(text || `${HEAD}\n`, name, known);
         const edit = this.done[this.done.length - 1];
         const bringBack = () => {
             let line = this.long ? 0 : -1;
@@ -101,15 +102,16 @@ export class ScriptLines extends ScriptModel {
      * Puts another text in place of this one, as one edit of the lines in which they differ.
      * @param {string} text
      * @param {string} name of its file
+     * @param {ScriptModel | null} [known] of the text
      */
-    replace(text, name) {
+    replace(text, name, known = null) {
         this.leaveLong();
         const [{ lines }, come] = [this, linesOfText(text)];
         const most = Math.min(lines.length, come.length);
         let [same, end] = [0, 0];
         while (same < most && lines[same].text === come[same]) same++;
         while (end < most - same && lines[lines.length - 1 - end].text === come[come.length - 1 - end]) end++;
-        this.edit(same, lines.length - same - end, come.slice(same, come.length - end), '', name);
+        this.edit(same, lines.length - same - end, come.slice(same, come.length - end), '', name, known);
         this.joined = text;
     }
 
@@ -152,8 +154,9 @@ export class ScriptLines extends ScriptModel {
      * @param {string[]} come
      * @param {Typed} [typed]
      * @param {string} [name] of the script after it
+     * @param {ScriptModel | null} [known] the script after it, if it was read already
      */
-    edit(at, count, come, typed = '', name = this.name) {
+    edit(at, count, come, typed = '', name = this.name, known = null) {
         const gone = this.lines.slice(at, at + count).map(({ text }) => text);
         const last = this.done[this.done.length - 1];
         const goesOn = last && last.typed === typed && last.at === at && last.come.length === 1 && count === 1 && come.length === 1;
@@ -161,7 +164,7 @@ export class ScriptLines extends ScriptModel {
         else this.done.push({ at, gone, come, names: [this.name, name], typed, saved: false });
         this.undone = [];
         this.name = name;
-        this.put(at, count, come);
+        this.put(at, count, come, known);
     }
 
     /** Takes the last edit back, and returns the line to look at, or -1. */
@@ -188,9 +191,11 @@ export class ScriptLines extends ScriptModel {
      * @param {number} at
      * @param {number} count
      * @param {string[]} come
+     * @param {ScriptModel | null} [known] what comes of it
      */
-    put(at, count, come) {
-        super.put(at, count, come);
+    put(at, count, come, known = null) {
+        if (known === null) super.put(at, count, come);
+        else this.adopt(known);
         this.outcomes = new Map();
     }
 
@@ -239,7 +244,7 @@ export class ScriptLines extends ScriptModel {
         }
         if (!outcome || outcome.result === RESULT.OK) return outcome ? 'fits' : '';
         const words = wordsOn(this.calls.outcomeLine(number, outcome.result, outcome.block, outcome.offset), number);
-        return words.replace(/^refused/, 'does not fit');
+        return `does not fit: ${afterColon(words)}`;
     }
 
     /**

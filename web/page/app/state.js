@@ -28,13 +28,14 @@ import { Store } from './store.js';
 /**
  * What happens: an image was opened or closed (`image`), or closed with all that was done with it (`closed`); more of it was surveyed
  * (`survey`), or all (`surveyed`); more of it was hashed (`hash`, with how many bytes, or -1 if nobody goes on with it); its files are
- * known (`files`); there is a second image, or none any more (`second`, with what is done with it first); a place was chosen (`place`);
+ * known (`files`); there is a second image, or none any more (`second`, with what is done with it first); it is known what a repair from
+ * it takes (`repair`); a place was chosen (`place`);
  * the script has changed (`script`, with what brings the last one back if that is in no file, or null if it was typed in the panel
  * Script), or is to be checked (`check`); one of its lines was chosen (`line`, from 0); the encoding was chosen, or a table is new
  * (`encoding`); a list of known dumps is new (`dumps`); another panel is shown (`panel`); the data of a patcher are to be worked on
  * (`patcher`).
- * @typedef {'image' | 'closed' | 'survey' | 'surveyed' | 'hash' | 'files' | 'second' | 'place' | 'script' | 'check' | 'line' | 'encoding' |
- *     'dumps' | 'panel' | 'patcher'} Happening
+ * @typedef {'image' | 'closed' | 'survey' | 'surveyed' | 'hash' | 'files' | 'second' | 'repair' | 'place' | 'script' | 'check' | 'line' |
+ *     'encoding' | 'dumps' | 'panel' | 'patcher'} Happening
  */
 
 /**
@@ -59,6 +60,24 @@ export const PANELS = Object.freeze(/** @type {PanelName[]} */ (['disc', 'text',
 
 /** The state of the page, and the jobs that end with what they work on. */
 export class App extends Store {
+    /**
+     * @param {File[]} files to be opened, as if they were dropped
+     * @param {Aim} [aim]
+     */
+    open(files, aim = '') {
+        return this.services.open(files, aim);
+    }
+
+    /** @param {Aim} aim for which the user is to choose files */
+    choose(aim) {
+        this.services.choose(aim);
+    }
+
+    /** Takes back the bytes that were typed last in a sector, if it can. */
+    takeBackBytes() {
+        return this.services.takeBackBytes();
+    }
+
     /**
      * Runs a job that its Cancel button can end. The job looks at the signal.
      * @template Result

@@ -8,10 +8,10 @@ import { ScriptLines } from './script_lines.js';
 
 /** @typedef {import('../../core/jobs.js').Crew} Crew */
 /** @typedef {import('../../core/disc/dat.js').KnownDumps} KnownDumps */
+/** @typedef {import('../../core/images/merge.js').Repair} Repair */
 /** @typedef {import('../../core/iso/files.js').VolumeFiles} VolumeFiles */
 /** @typedef {import('../../core/module/calls.js').Calls} Calls */
 /** @typedef {import('../../core/texts/encoding.js').Encoding} Encoding */
-/** @typedef {import('./state.js').Aim} Aim */
 /** @typedef {import('./state.js').Happening} Happening */
 /** @typedef {import('./state.js').Image} Image */
 /** @typedef {import('./state.js').PairJob} PairJob */
@@ -36,6 +36,8 @@ export class Store {
         this.parts = parts;
         this.image = /** @type {Image | null} */ (null);
         this.second = /** @type {Image | null} */ (null);
+        /** What a repair from the second image takes, if that was found out. */
+        this.repair = /** @type {Repair | null} */ (null);
         this.survey = /** @type {Surveyed | null} */ (null);
         this.files = /** @type {VolumeFiles | null} */ (null);
         /** The block and the user byte, or -1, that the sector view shows. */
@@ -92,24 +94,6 @@ export class Store {
         return () => { this.services = before; };
     }
 
-    /**
-     * @param {File[]} files to be opened, as if they were dropped
-     * @param {Aim} [aim]
-     */
-    open(files, aim = '') {
-        return this.services.open(files, aim);
-    }
-
-    /** @param {Aim} aim for which the user is to choose files */
-    choose(aim) {
-        this.services.choose(aim);
-    }
-
-    /** Takes back the bytes that were typed last in a sector, if it can. */
-    takeBackBytes() {
-        return this.services.takeBackBytes();
-    }
-
     /** @param {(file: File) => Promise<boolean>} taker is asked of each file that is opened, and returns whether it has taken it */
     addTaker(taker) {
         this.takers.push(taker);
@@ -123,7 +107,7 @@ export class Store {
         this.reading.abort();
         this.closing.abort();
         [this.reading, this.closing] = [new AbortController(), new AbortController()];
-        [this.image, this.second, this.survey, this.files] = [image, null, null, null];
+        [this.image, this.second, this.repair, this.survey, this.files] = [image, null, null, null, null];
         this.place = { block: -1, offset: -1 };
         this.tell('image');
         this.tell('second');
@@ -135,8 +119,14 @@ export class Store {
      * @param {PairJob} [job] what is done with it first
      */
     setSecond(second, job = 'compare') {
-        this.second = second;
+        [this.second, this.repair] = [second, null];
         this.tell('second', job);
+    }
+
+    /** @param {Repair} repair from the second image */
+    setRepair(repair) {
+        this.repair = repair;
+        this.tell('repair');
     }
 
     /**
@@ -243,9 +233,10 @@ export class Store {
      * @param {string} text
      * @param {string} name of its file
      * @param {boolean} saved whether it is in that file
+     * @param {import('../../core/script/model.js').ScriptModel | null} [known] of the text, if it was read already
      */
-    setScript(text, name, saved) {
-        const back = this.script.take(text, name);
+    setScript(text, name, saved, known = null) {
+        const back = this.script.take(text, name, known);
         if (saved) this.script.noteSaved();
         this.tell('script', { back });
     }

@@ -45,7 +45,7 @@ function listed(entries) {
 }
 
 /** @param {string} path */
-function lastName(path) {
+function fileStem(path) {
     return stemOf(path.replace(/^.*\//, '')) || 'file.bin';
 }
 
@@ -201,7 +201,7 @@ export class FilesList {
             const pieces = [];
             const { extents } = wholeFile(file.entries);
             const others = await passFile(this.app.crew, part, extents, watch, bytes => void pieces.push(new Blob([bytes])));
-            const name = lastName(file.path);
+            const name = fileStem(file.path);
             downloadBytes(pieces, name);
             const doubt = others.length > 0 && `${countOf(blocksIn(others), 'sector')} of it not Mode 1: other bytes may stand there.`;
             return notice(doubt ? 'warn' : 'good', ['Saved: ', nameOf(name)], doubt);

@@ -1,13 +1,12 @@
 // The card under the map: findings in places, files, runs of one kind, and the text that the program prints.
 
-import { SECTOR_KIND } from '../../core/module/records.js';
-import { auditText, kindRuns, listText, surveyCounts } from '../../core/sectors/survey.js';
-import { MARK, SURVEY_LOOKS } from '../app/index.js';
+import { auditText, kindRuns, listText } from '../../core/sectors/survey.js';
+import { MARK, lookOf, lookOfKind } from '../app/index.js';
 import { downloadText } from '../save/index.js';
 import { button, copyButton, countOf, counted, element, fill, keyed, oneStop, term } from '../ui/index.js';
 import { FilesList } from './files_list.js';
 import { placeGuess, placeWords, placesOf } from './places.js';
-import { addressOf, findingAt, modeOneSectors } from './sector_text.js';
+import { addressOf, findingAt } from './sector_text.js';
 
 /** @typedef {import('../app/state.js').App} App */
 /** @typedef {import('../app/state.js').Surveyed} Surveyed */
@@ -16,13 +15,6 @@ import { addressOf, findingAt, modeOneSectors } from './sector_text.js';
 
 const MOST_ROWS = 400;
 const MOST_TEXT_LINES = 3000;
-
-/** @type {Record<number, [string, string]>} the name of a kind, and its colour */
-const KINDS = {
-    [SECTOR_KIND.NOSYNC]: ['audio, no sync', '--k-nosync'], [SECTOR_KIND.MODE0]: ['Mode 0', '--k-mode0'],
-    [SECTOR_KIND.MODE1]: ['Mode 1', '--k-mode1'], [SECTOR_KIND.MODE2]: ['Mode 2', '--k-mode2'],
-    [SECTOR_KIND.OTHER]: ['other mode', '--k-other'],
-};
 
 /** @param {string} colour a property of the style */
 function dotOf(colour) {
@@ -59,16 +51,23 @@ export class Findings {
         this.draw();
     }
 
+    /** The tab that is shown: that nothing was found is said over the panel, and not once more. */
+    shown() {
+        const { survey } = this.app;
+        return this.tab === 'findings' && survey !== null && survey.marks.findings() === 0 ? 'files' : this.tab;
+    }
+
     reportName() {
-        if (this.tab === 'files') return 'files';
-        return this.tab === 'runs' || (this.tab === 'text' && this.text === 'list') ? 'list' : 'audit';
+        const tab = this.shown();
+        if (tab === 'files') return 'files';
+        return tab === 'runs' || (tab === 'text' && this.text === 'list') ? 'list' : 'audit';
     }
 
     /** The program's text: what `cdpatch audit` or `cdpatch list` prints, or `cdscript files`. */
     report() {
         const { survey, image, calls } = this.app;
         if (survey === null || image === null) return '';
-        if (this.tab === 'files') return this.files.text();
+        if (this.shown() === 'files') return this.files.text();
         const report = this.reportName() === 'list' ? listText : auditText;
         return new TextDecoder().decode(report(calls, survey, image.tail).text);
     }
@@ -85,46 +84,34 @@ export class Findings {
         this.part.hidden = this.hidden || survey === null || survey.ended === 0 || survey.known === 0;
         if (survey === null || this.part.hidden) return;
         const runs = [...kindRuns(survey)];
-        this.drawTabs(counted(survey.marks.findings()), counted(runs.length));
-        this.files.tools.hidden = this.tab !== 'files';
+        this.drawTabs(survey.marks.findings(), counted(runs.length));
+        this.files.tools.hidden = this.shown() !== 'files';
         const drawn = { findings: () => this.drawFindings(survey), files: () => this.drawFiles(), runs: () => this.drawRuns(runs),
             text: () => this.drawText() };
-        drawn[this.tab]();
+        drawn[this.shown()]();
     }
 
     /**
-     * @param {string} findings
+     * @param {number} findings
      * @param {string} runs
      */
     drawTabs(findings, runs) {
         /** @type {[FindingsTab, string, string][]} */
-        const all = [['findings', 'Findings', findings], ['files', 'Files', this.files.count()], ['runs', 'Runs', runs],
-            ['text', 'As text', '']];
+        const all = [['files', 'Files', this.files.count()], ['runs', 'Runs', runs], ['text', 'As text', '']];
+        if (findings > 0) all.unshift(['findings', 'Findings', counted(findings)]);
         fill(this.tabs, ...all.map(([name, label, count]) => keyed(name, element('button', {
-            type: 'button', role: 'tab', 'data-tab': name, 'aria-selected': String(name === this.tab), 'aria-controls': 'findings-body',
+            type: 'button', role: 'tab', 'data-tab': name, 'aria-selected': String(name === this.shown()), 'aria-controls': 'findings-body',
             click: () => this.choose(name),
         }, label, count !== '' && element('span', { class: 'num' }, ` ${count}`)))));
     }
 
     /** @param {Surveyed} survey */
     drawFindings(survey) {
-        const places = placesOf(survey.marks);
-        if (places.length === 0) {
-            const mode1 = survey.marks.mode1();
-            const words = mode1 === 0 ? 'No findings: there is no Mode 1 sector.'
-                : `No findings: EDC and parity of ${modeOneSectors(mode1)} fit.`;
-            fill(this.body, element('p', { class: 'pad' }, words));
-        } else {
-            const head = element('tr', {}, element('th', {}, 'Place (', term('block', 'blocks'), ')'),
-                element('th', { class: 'n' }, 'Sectors'), element('th', {}, 'What'), element('th', {}, 'Looks like'));
-            const rows = places.flatMap(place => this.placeRows(survey, place));
-            fill(this.body, element('table', {}, element('thead', {}, head), element('tbody', {}, ...rows)));
-        }
-        const { sectors, mode1, damaged } = surveyCounts(survey);
-        const last = new TextDecoder().decode(this.app.calls.auditEnd(sectors, mode1, damaged, this.app.image ? this.app.image.tail : 0));
-        const counts = last.trimEnd().split(/(?<=\d) /).flatMap(it => [element('span', { class: 'nowrap' }, it), ' ']);
-        fill(this.foot, element('span', { class: 'mono' }, ...counts), places.length > 0 && element('span', {},
-            '“Looks like” is a guess from the distances. The other columns are what cdpatch found.'));
+        const head = element('tr', {}, element('th', {}, 'Place (', term('block', 'blocks'), ')'),
+            element('th', { class: 'n' }, 'Sectors'), element('th', {}, 'What'), element('th', {}, 'Looks like'));
+        const rows = placesOf(survey.marks).flatMap(place => this.placeRows(survey, place));
+        fill(this.body, element('table', {}, element('thead', {}, head), element('tbody', {}, ...rows)));
+        fill(this.foot, element('span', {}, '“Looks like” is a guess from the distances. The other columns are what cdpatch found.'));
     }
 
     /**
@@ -135,14 +122,13 @@ export class Findings {
         const open = this.opened.has(place.first);
         const [first, last] = [survey.block + place.first, survey.block + place.last];
         const { mark, words } = placeWords(place);
-        const look = SURVEY_LOOKS.find(it => it.mark === mark);
         const range = first === last ? String(first) : `${first}–${last}`;
         const fold = element('button', { type: 'button', class: 'fold', 'aria-expanded': String(open), 'data-place': place.first },
             open ? '▾ ' : '▸ ', range);
         const row = element('tr', {}, element('td', { class: 'num nowrap' }, fold),
             element('td', { class: 'n', 'data-l': 'sectors' }, counted(place.sectors.length)),
-            element('td', {}, dotOf(look ? look.colour : '--f-edc'), words),
-            element('td', { class: 'wide' }, placeGuess(place, survey.marks.isElsewhere())));
+            element('td', {}, dotOf(lookOf(mark).colour), words),
+            element('td', { class: 'wide' }, placeGuess(place, survey.marks.isElsewhere(), survey.known)));
         return open ? [row, ...this.sectorRows(survey, place)] : [row];
     }
 
@@ -208,8 +194,7 @@ export class Findings {
     kindWords(first, kind) {
         const { survey } = this.app;
         const lost = survey !== null && survey.marks.marks[first - survey.block] === MARK.LOST;
-        const look = lost ? SURVEY_LOOKS.find(it => it.mark === MARK.LOST) : undefined;
-        const [name, colour] = look ? [look.name, look.colour] : KINDS[kind];
+        const { name, colour } = lost ? lookOf(MARK.LOST) : lookOfKind(kind);
         return [dotOf(colour), name];
     }
 

@@ -1,39 +1,30 @@
-// The bytes of a sector, in hex and as text, with the strip of the whole sector beside them.
+// The bytes of a sector, in hex and as text, with what is chosen of them, and the strip of the whole sector beside them.
 
-import { SECTOR_SIZE, USER_OFFSET, USER_SIZE } from '../../core/sectors/sector.js';
-import { charactersFrom } from '../../core/texts/boundaries.js';
-import { columnLabel, signOf } from '../text/index.js';
+import { SECTOR_SIZE, USER_OFFSET } from '../../core/sectors/sector.js';
 import { element, fill, styleValue } from '../ui/index.js';
+import { USER_END, headLine, hexLines, placeName } from './hex_lines.js';
 
-/** @typedef {import('../../core/texts/encoding.js').Encoding} Encoding */
-/** @typedef {{ name: string, label: string, from: number, to: number }} Field */
-/**
- * What is shown: the bytes, the fields that they lie in, those that are outlined, those that the script has changed, and those of a
- * second image, or null.
- * @typedef {{ block: number, bytes: Uint8Array, old: Uint8Array, other: Uint8Array | null, mode1: boolean, fields: Field[],
- *     crossings: Set<number>, encoding: Encoding, label: string }} Shown
- */
+/** @typedef {import('./hex_lines.js').Shown} Shown */
 
-/** The byte after the user data. */
-export const USER_END = USER_OFFSET + USER_SIZE;
 const NARROW_HEX = 560;
 const HEX_LINE_HEIGHT = 21;
-
-/** @type {Record<number, string>} what begins at a byte of a Mode 1 sector */
-const CUTS = {
-    0: 'Sync field and header',
-    [USER_OFFSET]: `User data: ${USER_SIZE} bytes, offset 0 to ${USER_SIZE - 1}`,
-    [USER_END]: 'EDC, zeros and parity',
-};
 
 export class HexView {
     /** @param {(at: number, key: KeyboardEvent) => void} pressed what is done with keys that move nothing here */
     constructor(pressed) {
         this.shown = /** @type {Shown | null} */ (null);
         this.at = 0;
+        /** The other end of what is selected; `at` if that is one byte. */
+        this.from = 0;
+        /** In which column one types. */
+        this.column = /** @type {'hex' | 'text'} */ ('hex');
+        this.hexadecimal = false;
+        /** Whether the mouse selects. */
+        this.dragging = false;
         this.pressed = pressed;
         this.columns = 16;
-        this.hex = element('div', { class: 'hex', tabindex: 0, role: 'grid', 'aria-label': 'Bytes of the sector' });
+        this.hex = element('div', { class: 'hex', tabindex: 0, role: 'grid', 'aria-label': 'Bytes of the sector',
+            'aria-multiselectable': 'true' });
         this.strip = element('canvas', { width: 16, height: SECTOR_SIZE / 16 });
         this.frame = element('span');
         this.mini = element('div', { class: 'mini', 'aria-hidden': 'true' }, this.strip, this.frame);
@@ -43,9 +34,13 @@ export class HexView {
 
     listen() {
         this.hex.addEventListener('keydown', event => this.key(event));
-        this.hex.addEventListener('click', event => {
-            const at = Number(/** @type {HTMLElement} */ (event.target).dataset.at);
-            if (Number.isInteger(at)) this.moveTo(at);
+        this.hex.addEventListener('click', event => this.pointed(event, event.shiftKey));
+        this.hex.addEventListener('pointerdown', event => {
+            this.dragging = event.pointerType === 'mouse' && this.pointed(event, event.shiftKey);
+        });
+        this.hex.addEventListener('pointerover', event => {
+            this.dragging = this.dragging && event.buttons === 1;
+            if (this.dragging) this.pointed(event, true);
         });
         this.hex.addEventListener('scroll', () => this.drawFrame());
         this.mini.addEventListener('click', event => {
@@ -61,6 +56,20 @@ export class HexView {
     }
 
     /**
+     * Chooses the byte that the mouse points at. Returns whether there is one.
+     * @param {MouseEvent} event
+     * @param {boolean} extend
+     */
+    pointed(event, extend) {
+        const cell = /** @type {HTMLElement} */ (event.target);
+        const at = Number(cell.dataset.at ?? NaN);
+        if (!Number.isInteger(at)) return false;
+        this.column = cell.closest('.t') ? 'text' : 'hex';
+        this.moveTo(at, extend);
+        return true;
+    }
+
+    /**
      * @param {Shown | null} shown
      * @param {number} [columns]
      */
@@ -70,57 +79,40 @@ export class HexView {
         this.columns = columns;
         if (shown === null) return;
         this.hex.classList.toggle('cols8', columns === 8);
-        fill(this.hex, this.head(shown), ...this.lines(shown));
+        fill(this.hex, headLine(shown, this), ...hexLines(shown, this));
         this.hex.scrollTop = top;
         this.drawStrip();
         this.mark();
     }
 
-    /** @param {Shown} shown */
-    head({ label }) {
-        const numbers = Array.from({ length: this.columns }, (_, i) => element('i', {}, i));
-        return element('div', { class: 'head', 'aria-hidden': 'true' }, element('span', { class: 'o' }, 'offset'),
-            element('span', { class: 'b' }, ...numbers), element('span', { class: 't' }, columnLabel(label, this.columns)));
+    /** @param {boolean} hexadecimal how offsets are shown */
+    setOffsets(hexadecimal) {
+        this.hexadecimal = hexadecimal;
+        this.show(this.shown, this.columns);
     }
 
-    /** @param {Shown} shown */
-    lines(shown) {
-        const texts = textCells(shown);
-        const lines = [];
-        const stops = shown.mode1 ? [0, USER_OFFSET, USER_END, SECTOR_SIZE] : [0, SECTOR_SIZE];
-        for (let part = 0; part + 1 < stops.length; part++) {
-            if (shown.mode1) lines.push(element('div', { class: 'cut', role: 'presentation' }, CUTS[stops[part]]));
-            for (let at = stops[part]; at < stops[part + 1]; at += this.columns) {
-                const end = Math.min(at + this.columns, stops[part + 1]);
-                lines.push(this.line(shown, at, end, texts), ...otherLine(shown, at, end));
-            }
-        }
-        return lines;
+    /** The first byte that is selected, and the one after the last. */
+    selection() {
+        return { first: Math.min(this.at, this.from), end: Math.max(this.at, this.from) + 1 };
     }
 
-    /**
-     * @param {Shown} shown
-     * @param {number} from
-     * @param {number} to
-     * @param {(Node | string)[]} texts
-     */
-    line(shown, from, to, texts) {
-        const user = shown.mode1 && from >= USER_OFFSET && from < USER_END;
-        const label = user ? from - USER_OFFSET : shown.mode1 ? `·${from}` : from;
-        const cells = [];
-        for (let at = from; at < to; at++) cells.push(byteCell(shown, at));
-        return element('div', { class: 'line', role: 'row' }, element('span', { class: 'o', role: 'rowheader' }, label),
-            element('span', { class: 'b', role: 'presentation' }, ...cells),
-            element('span', { class: 't', role: 'gridcell' }, ...texts.slice(from, to)));
-    }
-
-    /** Shows which byte is the chosen one. */
+    /** Shows which byte is the chosen one, and which are selected. */
     mark() {
-        const before = this.hex.querySelector('i.at');
-        if (before) before.classList.remove('at');
+        for (const cell of this.hex.querySelectorAll('.at, .sel')) {
+            cell.classList.remove('at', 'sel');
+            cell.removeAttribute('aria-selected');
+        }
         const cell = this.hex.querySelector(`#byte-${this.at}`);
         if (cell === null || this.shown === null) return;
-        cell.classList.add('at');
+        const { first, end } = this.selection();
+        for (const other of end - first > 1 ? this.hex.querySelectorAll('[data-at]') : []) {
+            const at = Number(/** @type {HTMLElement} */ (other).dataset.at);
+            if (at < first || at >= end) continue;
+            other.classList.add('sel');
+            if (other.id) other.setAttribute('aria-selected', 'true');
+        }
+        this.hex.classList.toggle('texts', this.column === 'text');
+        for (const it of this.hex.querySelectorAll(`[data-at="${this.at}"]`)) it.classList.add('at');
         cell.setAttribute('aria-label', `${placeName(this.shown, this.at)}: ${cell.textContent}`);
         this.hex.setAttribute('aria-activedescendant', cell.id);
     }
@@ -143,13 +135,29 @@ export class HexView {
     /**
      * Chooses a byte.
      * @param {number} at
+     * @param {boolean} [extend] whether what was selected grows or shrinks to it
      */
-    moveTo(at) {
+    moveTo(at, extend = false) {
         if (this.shown === null) return;
         this.at = Math.min(Math.max(at, 0), SECTOR_SIZE - 1);
+        if (!extend) this.from = this.at;
         this.mark();
         this.reveal(this.at);
         this.hex.dispatchEvent(new CustomEvent('moved', { detail: this.at }));
+    }
+
+    /** Selects the user data, or all bytes of a sector that has none. */
+    selectAll() {
+        if (this.shown === null) return;
+        const [first, end] = this.shown.mode1 ? [USER_OFFSET, USER_END] : [0, SECTOR_SIZE];
+        this.from = first;
+        this.moveTo(end - 1, true);
+    }
+
+    /** @param {'hex' | 'text'} column in which one types from now on, and as which bytes are copied */
+    typeIn(column) {
+        this.column = column;
+        this.moveTo(this.at, true);
     }
 
     /** @param {KeyboardEvent} event */
@@ -162,7 +170,7 @@ export class HexView {
             Home: this.at - this.at % row, End: this.at - this.at % row + row - 1 };
         if (moves[event.key] === undefined) return this.pressed(this.at, event);
         event.preventDefault();
-        return this.moveTo(moves[event.key]);
+        return this.moveTo(moves[event.key], event.shiftKey);
     }
 
     /** How many bytes a screen has. */
@@ -195,66 +203,4 @@ export class HexView {
         this.frame.style.top = `${this.strip.offsetTop - 2 + height * scrollTop / scrollHeight}px`;
         this.frame.style.height = `${height * clientHeight / scrollHeight + 4}px`;
     }
-}
-
-/**
- * The name of a byte's place, as scripts count.
- * @param {Shown} shown
- * @param {number} at
- */
-export function placeName({ mode1 }, at) {
-    return mode1 && at >= USER_OFFSET && at < USER_END ? `offset ${at - USER_OFFSET}` : `byte ${at} of the sector`;
-}
-
-/**
- * @param {Shown} shown
- * @param {number} at
- */
-function byteCell({ bytes, old, other, fields, crossings }, at) {
-    const field = fields.find(it => at >= it.from && at < it.to);
-    const names = [`x-${field ? field.name : 'user'}`];
-    if (crossings.has(at)) names.push('sus');
-    if (other !== null && other[at] !== old[at]) names.push('dif');
-    if (bytes[at] !== old[at]) names.push('new');
-    else if (bytes[at] === 0) names.push('zero');
-    return element('i', { class: names.join(' '), role: 'gridcell', id: `byte-${at}`, 'data-at': at }, digitsOf(bytes[at]));
-}
-
-/**
- * Under a line, the bytes of the second image that differ.
- * @param {Shown} shown
- * @param {number} from
- * @param {number} to
- */
-function otherLine({ old, other }, from, to) {
-    if (other === null || old.subarray(from, to).every((byte, i) => byte === other[from + i])) return [];
-    const cells = Array.from(other.subarray(from, to), (byte, i) => element('i', {}, byte === old[from + i] ? '' : digitsOf(byte)));
-    return [element('div', { class: 'line second', 'aria-hidden': 'true' }, element('span', { class: 'o' }, 'second'),
-        element('span', { class: 'b' }, ...cells))];
-}
-
-/** @param {number} byte */
-export function digitsOf(byte) {
-    return byte.toString(16).toUpperCase().padStart(2, '0');
-}
-
-/**
- * What stands in the text column for each byte: a character at its first byte, a point for what is none.
- * @param {Shown} shown
- * @returns {(Node | string)[]}
- */
-function textCells({ bytes, mode1, crossings, encoding }) {
-    /** @type {(Node | string)[]} */
-    const cells = new Array(SECTOR_SIZE).fill('');
-    const stops = mode1 ? [0, USER_OFFSET, USER_END, SECTOR_SIZE] : [0, SECTOR_SIZE];
-    for (let part = 0; part + 1 < stops.length; part++) {
-        for (const { at, size, text } of charactersFrom(encoding, bytes.subarray(stops[part], stops[part + 1]))) {
-            const place = stops[part] + at;
-            const isSeen = signOf(text) === text;
-            const plain = isSeen ? text : element('em', {}, '·');
-            cells[place] = crossings.has(place) ? element('u', {}, plain) : plain;
-            for (let i = 1; i < size && !isSeen; i++) cells[place + i] = element('em', {}, '·');
-        }
-    }
-    return cells;
 }

@@ -2,5 +2,5 @@
 
 export { dumpWords } from './known_dumps.js';
 export { mountDisc } from './panel.js';
-export { otherBase, placesOf } from './places.js';
+export { isAllOver, otherBase, placesOf } from './places.js';
 export { modeOneSectors } from './sector_text.js';

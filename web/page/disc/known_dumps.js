@@ -8,7 +8,7 @@ import { countOf, element, messageOf, nameOf, seen, showNotice } from '../ui/ind
 /** @typedef {import('../app/state.js').Image} Image */
 
 /** Bytes of a list that are read at a time. */
-const STEP = 1 << 20;
+const READ_STEP = 1 << 20;
 
 /** @param {App} app */
 export function mountDumps(app) {
@@ -18,7 +18,7 @@ export function mountDumps(app) {
 /** @param {File} file */
 async function* piecesOf(file) {
     const reader = fileReader(file);
-    for (let at = 0; at < file.size; at += STEP) yield await reader.read(at, STEP);
+    for (let at = 0; at < file.size; at += READ_STEP) yield await reader.read(at, READ_STEP);
 }
 
 /**

@@ -15,9 +15,12 @@ export class Legend {
         oneStop(this.part, 'button');
     }
 
-    /** @param {MapModel} model */
-    show({ looks, counts }) {
-        const shown = looks.filter(look => look.loud || counts[look.mark] > 0);
+    /**
+     * Findings of which there are none are shown only as long as there may be some.
+     * @param {MapModel} model
+     */
+    show({ looks, counts, known, marks }) {
+        const shown = looks.filter(look => counts[look.mark] > 0 || (look.loud && known < marks.length));
         const key = shown.map(look => look.name).join();
         const other = key !== this.shown;
         this.shown = key;

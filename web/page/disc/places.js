@@ -8,6 +8,9 @@ import { MARK } from '../app/index.js';
 /** How many sectors in a row without a finding end a place. */
 const PLACE_GAP = 700;
 
+/** A place is all over the disc if it has so many sectors at least, and half of all. */
+const ALL_OVER = 10 * PLACE_GAP;
+
 /** The spiral of a disc in millimetres: its first radius, its pitch, and the length of a sector at 1.3 m/s. */
 const FIRST_RADIUS = 25;
 const PITCH = 0.0016;
@@ -59,11 +62,21 @@ export function otherBase({ base, addressed }, marks) {
 }
 
 /**
+ * Whether a place has no end on this disc.
+ * @param {Place} place
+ * @param {number} known how many sectors were read
+ */
+export function isAllOver({ first, last }, known) {
+    return last - first >= Math.max(ALL_OVER, known / 2);
+}
+
+/**
  * A guess from the distances, for people.
  * @param {Place} place
  * @param {boolean} isElsewhere whether no sector has the address of its block
+ * @param {number} known how many sectors were read
  */
-export function placeGuess(place, isElsewhere) {
+export function placeGuess(place, isElsewhere, known) {
     const { counts, sectors, first, last } = place;
     const count = sectors.length;
     const inRow = count === last - first + 1;
@@ -71,22 +84,29 @@ export function placeGuess(place, isElsewhere) {
     if (counts[MARK.ADDRESS] === count) return inRow && count > 1 ? `${count} in a row: spliced by hand? not damage` : 'not damage';
     if (count === 1) return counts[MARK.PARITY] === 1 ? 'a single sector; its user data fit' : 'a single sector';
     if (inRow && count >= 8) return `${count} in a row: perhaps on purpose (copy protection)`;
-    return scratchGuess(place) || (counts[MARK.PARITY] === count ? 'single sectors; the user data fit' : 'single sectors');
+    const where = isAllOver(place, known) ? ' all over the disc' : '';
+    return distanceGuess(place, where) || `single sectors${where}${counts[MARK.PARITY] === count ? '; the user data fit' : ''}`;
 }
 
 /**
- * A scratch crosses each turn of the spiral once, so that its distances are alike, or a turn long.
+ * A scratch crosses each turn of the spiral once, so that its distances are about a turn long. What is at other distances that are alike
+ * is no scratch.
  * @param {Place} place
+ * @param {string} where
  */
-function scratchGuess({ sectors, first }) {
+function distanceGuess({ sectors, first }, where) {
     if (sectors.length < 8) return '';
+    const turn = sectorsATurn(sectors[sectors.length >> 1]);
     const distances = sectors.slice(1).map((sector, i) => sector - sectors[i]).sort((a, b) => a - b);
     const median = distances[distances.length >> 1];
     const alike = distances.filter(it => Math.abs(it - median) <= 1).length;
-    if (median > 3 && 2 * alike > distances.length) return `a scratch: every ${ordinal(median)} sector`;
-    const turns = (sectors[sectors.length - 1] - first) / sectorsATurn(sectors[sectors.length >> 1]);
+    if (median > 3 && 2 * alike > distances.length) {
+        const isTurn = median > 0.75 * turn && median < 1.5 * turn;
+        return `${isTurn ? 'a scratch: ' : ''}every ${ordinal(median)} sector${where}`;
+    }
+    const turns = (sectors[sectors.length - 1] - first) / turn;
     const perTurn = sectors.length / turns;
-    return perTurn > 0.2 && perTurn < 1.5 && turns > 8 ? 'a scratch: about one sector in each turn of the disc' : '';
+    return perTurn > 0.5 && perTurn < 1.5 && turns > 8 ? 'a scratch: about one sector in each turn of the disc' : '';
 }
 
 /** @param {number} sector */

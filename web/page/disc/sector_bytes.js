@@ -25,14 +25,3 @@ export async function sectorBytes(app, { reader, base }, block) {
     }
     return { old, fresh: old };
 }
-
-/**
- * A sector of the second image, null if there is none of the same length.
- * @param {App} app
- * @param {Image} image
- * @param {number} block
- */
-export async function secondBytes({ second }, { reader, base }, block) {
-    if (second === null || second.reader.size !== reader.size) return null;
-    return readBytes(second.reader, (block - base) * SECTOR_SIZE, SECTOR_SIZE);
-}

@@ -2,32 +2,34 @@
 
 import { filesAt } from '../../core/iso/files.js';
 import { SECTOR_KIND } from '../../core/module/records.js';
-import { SECTOR_SIZE, USER_OFFSET, USER_SIZE } from '../../core/sectors/sector.js';
+import { USER_OFFSET, USER_SIZE } from '../../core/sectors/sector.js';
 import { isSound } from '../../core/sectors/survey.js';
+import { sectorOfSecond } from '../second/index.js';
 import { bindEncodings, chosenEncoding, encodingLabel } from '../text/index.js';
-import { announce, byId, counted, element, fill, nameOf, oneStop, showFailure, term } from '../ui/index.js';
+import { button, copyButton, countOf, counted, element, fill, nameOf, oneStop, showFailure, term } from '../ui/index.js';
 import { crossingsOf } from './crossings.js';
-import { HexView, USER_END, digitsOf, placeName } from './hex_view.js';
-import { secondBytes, sectorBytes } from './sector_bytes.js';
+import { USER_END, digitsOf, placeName } from './hex_lines.js';
+import { HexView } from './hex_view.js';
+import { sectorBytes } from './sector_bytes.js';
+import { SectorEdit } from './sector_edit.js';
 import { sectorFault } from './sector_fault.js';
 import { fieldsOf } from './sector_fields.js';
-import { Typing } from './typing.js';
 
 /** @typedef {import('../app/state.js').App} App */
-/** @typedef {import('./hex_view.js').Field} Field */
-/** @typedef {import('./hex_view.js').Shown} Shown */
+/** @typedef {import('./hex_lines.js').Field} Field */
+/** @typedef {import('./hex_lines.js').Shown} Shown */
 
 export class SectorCard {
     /** @param {App} app */
     constructor(app) {
         this.app = app;
-        this.typing = new Typing(app);
-        this.digit = '';
+        this.edit = new SectorEdit(app, () => this.drawFoot());
         this.number = 0;
         this.drawn = 0;
         this.wantsFocus = false;
         this.isOld = false;
-        this.view = new HexView((at, event) => this.pressed(at, event));
+        this.view = new HexView((at, event) => this.edit.pressed(this.view, at, event));
+        this.edit.bind(this.view);
         this.title = element('h2', { id: 'sector-title' });
         this.said = element('div');
         this.fields = element('div', { class: 'fields', role: 'group', 'aria-label': 'Fields: press one to go there' });
@@ -41,14 +43,14 @@ export class SectorCard {
         this.body = element('div', {}, this.said, this.fields, this.view.part, this.foot);
         this.empty = element('p', { class: 'pad quiet' }, 'Click the map, or a block in the findings. With the keyboard: ',
             element('kbd', {}, 'Tab'), ' to the map, then the arrows and ', element('kbd', {}, 'Enter'), '.');
+        const offsets = button('slim bare', () => {
+            this.view.setOffsets(!this.view.hexadecimal);
+            fill(offsets, ...offsetWords(this.view.hexadecimal));
+        }, ...offsetWords(false));
         this.part = element('section', { class: 'card', 'aria-labelledby': 'sector-title' }, element('header', {}, this.title, form,
-            element('label', { class: 'row small' }, 'Text', this.choice)), this.noBlock, this.empty, this.body);
+            element('label', { class: 'row small' }, 'Text', this.choice), offsets), this.noBlock, this.empty, this.body);
         oneStop(this.fields, 'button');
-        this.view.hex.addEventListener('moved', () => {
-            this.digit = '';
-            this.drawFoot();
-        });
-        for (const name of /** @type {const} */ (['encoding', 'script', 'second', 'panel'])) {
+        for (const name of /** @type {const} */ (['encoding', 'script', 'second', 'repair', 'panel'])) {
             app.on(name, () => this.redraw(name !== 'panel'));
         }
         app.on('files', () => this.drawFoot());
@@ -99,7 +101,7 @@ export class SectorCard {
         this.isOld = false;
         try {
             const { old, fresh } = await sectorBytes(app, image, place.block);
-            const other = await secondBytes(app, image, place.block);
+            const other = await sectorOfSecond(app, place.block);
             if (number !== this.number || image !== app.image) return undefined;
             this.show(old, fresh, other, moved);
             if (wanted) this.part.scrollIntoView({ block: 'nearest' });
@@ -158,18 +160,31 @@ export class SectorCard {
         if (shown === null || app.image === null) return;
         const byte = shown.bytes[at];
         const isUser = shown.mode1 && at >= USER_OFFSET && at < USER_END;
-        const typed = this.digit === '' ? `${digitsOf(byte)} = ${byte}` : `${this.digit}_`;
-        const parts = [element('b', {}, placeName(shown, at)), isUser && element('span', {}, `byte ${at} of the sector`),
-            element('span', { class: 'mono' }, typed), isUser && this.fileAt(at - USER_OFFSET)];
+        const { digit, fault } = this.edit;
+        const typed = digit === '' ? `${digitsOf(byte)} = ${byte}` : `${digit}_`;
+        const parts = [element('b', {}, placeName(shown, at)), hexadecimal(isUser ? at - USER_OFFSET : at),
+            isUser && element('span', {}, `byte ${at} of the sector`), element('span', { class: 'mono' }, typed),
+            isUser && this.fileAt(at - USER_OFFSET), ...this.selectionWords()];
         if (shown.bytes[at] !== shown.old[at]) {
             parts.push(element('span', { class: 'good-ink' }, `changed by the script, ${digitsOf(shown.old[at])} in the file`));
         }
         if (shown.other !== null && shown.other[at] !== shown.old[at]) {
             parts.push(element('b', {}, `${digitsOf(shown.other[at])} in the second image`));
         }
-        const hint = isUser ? `Type to change bytes: each change becomes a line of the script, the file stays as it is.${this.damageHint()}`
+        const hint = isUser ? `Type to change bytes, or T and then a text: each change becomes a line of the script.${this.damageHint()}`
             : shown.mode1 ? 'Only user data can be typed over. EDC and parity follow from them.' : 'Only Mode 1 sectors can be changed.';
-        fill(this.foot, ...parts, element('span', {}, hint));
+        fill(this.foot, fault !== '' && element('b', { class: 'bad-ink' }, fault), ...parts, element('span', {}, hint));
+    }
+
+    /** How many bytes are selected, with buttons that copy them. */
+    selectionWords() {
+        const { view, edit } = this;
+        const { first, end } = view.selection();
+        if (view.shown === null || end - first === 1) return [];
+        const from = placeName(view.shown, first);
+        return [element('span', {}, `${countOf(end - first, 'byte')} selected, from ${from} on`),
+            copyButton('slim bare tiny', () => edit.selectedHex(), 'Copy as hex'),
+            copyButton('slim bare tiny', () => edit.selectedText(), 'Copy as text')];
     }
 
     /** What becomes of bytes that are typed in a damaged sector. */
@@ -205,76 +220,17 @@ export class SectorCard {
         this.goTo.setAttribute('aria-invalid', String(fault !== ''));
         fill(this.noBlock, fault !== '' && element('p', { class: 'say bad thin', role: 'alert' }, fault));
     }
+}
 
-    /**
-     * What keys do that do not move within the sector.
-     * @param {number} at
-     * @param {KeyboardEvent} event
-     */
-    pressed(at, event) {
-        if (event.ctrlKey || event.metaKey) {
-            if (event.key.toLowerCase() !== 'z' || event.shiftKey) return;
-            this.takeBack();
-        } else if (event.key === 'Escape') {
-            if (this.digit === '') byId('map').focus();
-            this.digit = '';
-            this.drawFoot();
-        } else if (event.key === 'PageDown' || event.key === 'PageUp') {
-            this.page(at, event.key === 'PageDown' ? 1 : -1);
-        } else if (/^[0-9a-fA-F]$/.test(event.key)) {
-            this.type(at, event.key.toUpperCase());
-        } else {
-            return;
-        }
-        event.preventDefault();
-    }
+/**
+ * A number as programs write it that show bytes.
+ * @param {number} number
+ */
+function hexadecimal(number) {
+    return element('span', { class: 'mono' }, `0x${number.toString(16).toUpperCase()}`);
+}
 
-    /**
-     * A screen on or back; past the end, the next sector.
-     * @param {number} at
-     * @param {number} step
-     */
-    page(at, step) {
-        const { app, view } = this;
-        const to = at + step * view.screen();
-        const ends = step > 0 ? at >= SECTOR_SIZE - view.columns : at < view.columns;
-        if (!ends) return view.moveTo(to);
-        const block = app.place.block + step;
-        if (app.image === null || block < app.image.base || block >= app.image.base + app.image.sectors) return undefined;
-        return app.goTo(block);
-    }
-
-    /** Takes back the digit or the bytes that were typed last. */
-    takeBack() {
-        const { app, digit, typing } = this;
-        this.digit = '';
-        if (digit !== '') return this.drawFoot();
-        const done = app.takeBackBytes();
-        if (done && typing.block === app.place.block) this.view.moveTo(USER_OFFSET + typing.offset);
-        return announce(done ? 'The bytes that were typed last are taken back.' : 'The last change of the script was not typed here.');
-    }
-
-    /**
-     * Types one digit of a byte.
-     * @param {number} at
-     * @param {string} digit
-     */
-    type(at, digit) {
-        const { shown } = this.view;
-        if (shown === null || !shown.mode1 || at < USER_OFFSET || at >= USER_END) {
-            announce('Only the user data of Mode 1 sectors can be typed over.');
-            return;
-        }
-        if (this.digit === '') {
-            this.digit = digit;
-            return void this.drawFoot();
-        }
-        const byte = parseInt(this.digit + digit, 16);
-        this.digit = '';
-        const line = this.typing.type(shown.block, at - USER_OFFSET, byte, shown.bytes[at]);
-        announce(`In the script: ${line}`);
-        shown.bytes = shown.bytes.slice();
-        shown.bytes[at] = byte;
-        this.view.moveTo(Math.min(at + 1, USER_END - 1));
-    }
+/** @param {boolean} isHexadecimal how offsets are shown */
+function offsetWords(isHexadecimal) {
+    return ['Offsets: ', isHexadecimal ? 'hexadecimal' : 'decimal'];
 }

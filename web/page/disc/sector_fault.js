@@ -1,9 +1,11 @@
 // What is wrong with a sector, in words: first the program's line, then what it means.
 
 import { RECORD, SECTOR_KIND } from '../../core/module/records.js';
+import { lineText } from '../../core/script/line_list.js';
 import { SECTOR_SIZE, USER_OFFSET, USER_SIZE, addressIn, addressText } from '../../core/sectors/sector.js';
 import { MARK } from '../app/index.js';
-import { announce, button, element, fill, isDisabled, setDisabled, term } from '../ui/index.js';
+import { repairOf } from '../second/index.js';
+import { announce, button, element, fill, isDisabled, nameOf, setDisabled, term } from '../ui/index.js';
 import { addressOf } from './sector_text.js';
 
 /** @typedef {import('../app/state.js').App} App */
@@ -47,10 +49,9 @@ function crossingWords({ crossings, columns, ofColumns, diagonals, ofDiagonals }
     const isUser = first >= USER_OFFSET && last < USER_OFFSET + USER_SIZE;
     const [from, to] = isUser ? [first - USER_OFFSET, last - USER_OFFSET] : [first, last];
     const many = crossings.length > 1;
-    const gaps = last - first + 1 > crossings.length ? ', not all of them' : '';
-    const where = many ? `${from} to ${to}${gaps}` : `${from}`;
-    return [`${counts}; they cross at ${many ? `${crossings.length} bytes` : 'one byte'}, `,
-        isUser ? term('offset', 'offset') : 'byte', ` ${where}${isUser ? '' : ' of the sector'}, outlined below. `];
+    return [`${counts}; they cross at the ${many ? `${crossings.length} outlined bytes` : 'outlined byte'}, `,
+        isUser ? term('offset', 'offset') : 'byte', ` ${many ? `${from} to ${to}` : from}${isUser ? '' : ' of the sector'}: `,
+        many ? 'the wrong ones are probably among these. ' : 'it is probably the wrong one. '];
 }
 
 /**
@@ -59,11 +60,43 @@ function crossingWords({ crossings, columns, ofColumns, diagonals, ofDiagonals }
  * @param {number} block
  */
 function remedies(app, block) {
+    const copies = repairOf(app, block);
+    if (copies === 'taken' || copies === 'doubtful') return [soundCopy(app, copies)];
     const word = () => element('span', { class: 'mono' }, 'rebuild');
     const rebuild = button('slim', () => addRebuild(app, block, rebuild), 'Add ', word(), ' to the script');
-    const repair = button('slim main', () => app.choose('repair'), 'Repair from another dump…');
-    return [element('div', { class: 'row' }, repair, rebuild), element('p', { class: 'small quiet' }, word(),
-        ' makes the sector valid with the bytes as they are. If these are wrong, it hides the damage for good.')];
+    return [noCopy(app, copies), element('div', { class: 'row' }, repairButton(app), rebuild),
+        element('p', { class: 'small quiet' }, word(),
+            ' makes the sector valid with the bytes as they are. If these are wrong, it hides the damage for good.')];
+}
+
+/**
+ * A sector that the second image has sound.
+ * @param {App} app
+ * @param {'taken' | 'doubtful'} copies
+ */
+function soundCopy({ second }, copies) {
+    const name = second && nameOf(second.name);
+    const doubt = copies === 'doubtful' && 'But its data and EDC are others: compare both first. Perhaps it is another release.';
+    return element('p', {}, element('b', { class: copies === 'taken' ? 'good-ink' : 'warn-ink' }, name,
+        ' has a sound copy: it will be taken. '), doubt);
+}
+
+/**
+ * @param {App} app
+ * @param {ReturnType<typeof repairOf>} copies
+ */
+function noCopy({ second }, copies) {
+    return copies === 'none' && second !== null && element('p', {}, nameOf(second.name), ' has no sound copy of it. ');
+}
+
+/**
+ * What leads to a repair: from the second image, if that is only compared with, else from another one.
+ * @param {App} app
+ */
+function repairButton(app) {
+    const { second, repair } = app;
+    if (second === null || repair !== null) return button('slim main', () => app.choose('repair'), 'Repair from another dump…');
+    return button('slim main', () => app.setSecond(second, 'repair'), element('span', {}, 'Repair from ', nameOf(second.name)));
 }
 
 /**
@@ -74,10 +107,11 @@ function remedies(app, block) {
  */
 function addRebuild(app, block, pressed) {
     if (isDisabled(pressed)) return;
-    app.addLines([`rebuild ${block}`]);
+    const line = lineText(lines => lines.rebuild(block));
+    app.addLines([line]);
     setDisabled(pressed, true);
     fill(pressed, element('span', { class: 'mono' }, 'rebuild'), ' is in the script');
-    announce(`In the script: rebuild ${block}`);
+    announce(`In the script: ${line}`);
 }
 
 function soundSector() {
@@ -111,7 +145,9 @@ function otherKind(app, block, sector) {
         const kind = noSync ? 'It is audio, or its form is not known. ' : '';
         return element('div', { class: 'say thin' }, element('b', {}, `This sector ${what}.`), kind, 'It can be looked at, not patched.');
     }
+    const copies = repairOf(app, block);
     return element('div', { class: 'say bad thin' }, element('b', {}, `This sector ${what}, and Mode 1 lies around it.`),
-        'So it has probably lost its sync field or its mode. No patch can mend that: a whole sector from another dump can.',
-        element('div', { class: 'row' }, button('slim main', () => app.choose('repair'), 'Repair from another dump…')));
+        'So it has probably lost its sync field or its mode. No patch can repair that: a whole sector from another dump can.',
+        ...copies === 'taken' || copies === 'doubtful' ? [soundCopy(app, copies)]
+            : [noCopy(app, copies), element('div', { class: 'row' }, repairButton(app))]);
 }

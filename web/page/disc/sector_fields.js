@@ -4,7 +4,7 @@ import { DIAGONALS } from '../../core/module/numbers.js';
 import { SECTOR_KIND } from '../../core/module/records.js';
 import { FIELDS as AT, SECTOR_SIZE } from '../../core/sectors/sector.js';
 
-/** @typedef {import('./hex_view.js').Field} Field */
+/** @typedef {import('./hex_lines.js').Field} Field */
 
 // Two bytes for each diagonal.
 const Q_PARITY = SECTOR_SIZE - 2 * DIAGONALS;

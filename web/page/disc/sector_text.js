@@ -1,20 +1,14 @@
 // A sector in words: what it is, and what was found in it, by the program's own text.
 
-import { RECORD, RECORD_SIZE, SECTOR_KIND } from '../../core/module/records.js';
+import { RECORD, RECORD_SIZE } from '../../core/module/records.js';
 import { addressText } from '../../core/sectors/sector.js';
 import { findingOf } from '../../core/sectors/survey.js';
-import { MARK } from '../app/index.js';
+import { MARK, lookOfKind } from '../app/index.js';
 import { counted } from '../ui/index.js';
 
 /** @typedef {import('../../core/module/calls.js').Calls} Calls */
 /** @typedef {import('../app/state.js').App} App */
 /** @typedef {import('../app/state.js').Surveyed} Surveyed */
-
-/** @type {Record<number, string>} */
-const KIND_WORDS = {
-    [SECTOR_KIND.NOSYNC]: 'no sync field: audio, or nothing that is known', [SECTOR_KIND.MODE0]: 'Mode 0', [SECTOR_KIND.MODE1]: 'Mode 1',
-    [SECTOR_KIND.MODE2]: 'Mode 2', [SECTOR_KIND.OTHER]: 'an unknown mode',
-};
 
 /**
  * What `cdpatch audit` prints of a sector after its block, or ''.
@@ -34,7 +28,7 @@ export function findingAt(calls, { block, records }, sector) {
  */
 export function sectorWords(app, survey, sector) {
     if (sector >= survey.known) return { kind: 'not read yet', finding: '', codes: '', bad: false, damaged: false };
-    const kind = KIND_WORDS[survey.records[sector * RECORD_SIZE + RECORD.KIND]];
+    const { name, words: kind = name } = lookOfKind(survey.records[sector * RECORD_SIZE + RECORD.KIND]);
     const mark = survey.marks.marks[sector];
     const codes = mark === MARK.LOST ? 'inside Mode 1: sync field or mode lost' : findingAt(app.calls, survey, sector);
     const damaged = mark === MARK.EDC || mark === MARK.PARITY;

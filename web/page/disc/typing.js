@@ -1,6 +1,6 @@
 // Bytes that are typed in the sector view become lines of the script.
 
-import { hexOf } from '../ui/index.js';
+import { lineText } from '../../core/script/line_list.js';
 
 /** @typedef {import('../app/state.js').App} App */
 
@@ -20,8 +20,7 @@ export class Typing {
     }
 
     line() {
-        const [fresh, old] = [hexOf(Uint8Array.from(this.fresh)), hexOf(Uint8Array.from(this.old))];
-        return `set ${this.block} ${this.offset} ${fresh} was ${old}`;
+        return lineText(lines => lines.set(this.block, this.offset, Uint8Array.from(this.fresh), Uint8Array.from(this.old)));
     }
 
     /** Whether the last line is still in the script as it was written, wherever it stands by now. */
@@ -30,19 +29,21 @@ export class Typing {
     }
 
     /**
-     * Types a byte over another one.
+     * Types bytes over others.
      * @param {number} block
      * @param {number} offset
-     * @param {number} byte
-     * @param {number} before what stands there, after the script so far
+     * @param {Uint8Array} bytes
+     * @param {Uint8Array} before what stands there, after the script so far
      */
-    type(block, offset, byte, before) {
+    type(block, offset, bytes, before) {
         const place = offset - this.offset;
         const goesOn = block === this.block && place >= 0 && place <= this.fresh.length && this.stands();
         if (!goesOn) Object.assign(this, { block, offset, fresh: [], old: [] });
         const at = goesOn ? place : 0;
-        if (at === this.fresh.length) this.old.push(before);
-        this.fresh[at] = byte;
+        bytes.forEach((byte, i) => {
+            if (at + i === this.fresh.length) this.old.push(before[i]);
+            this.fresh[at + i] = byte;
+        });
         const number = goesOn && this.written ? this.written.number : this.app.addLines([this.line()], 'bytes');
         if (goesOn) this.app.replaceLine(number, this.line(), 'bytes');
         this.written = this.app.script.lines[number - 1] || null;

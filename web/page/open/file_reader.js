@@ -2,9 +2,14 @@
 
 import { Fault } from '../../core/faults.js';
 import { shownName } from '../ui/index.js';
-import { ForwardFile } from './file_stream.js';
 
 /** @typedef {import('../../core/bytes.js').Reader} Reader */
+
+/** Bytes that are read at a time if reads follow one another: a browser needs twice as long for as many in slices of 4 MB. */
+const FORWARD_SIZE = 1 << 25;
+
+/** So many bytes between two reads are read with them: a slice of its own takes longer. */
+const PASSED_OVER = 1 << 20;
 
 /**
  * That a file that was opened cannot be read any more.
@@ -24,10 +29,27 @@ export function fileReader(file) {
     const read = async (/** @type {number} */ at, /** @type {number} */ length) => {
         return new Uint8Array(await file.slice(at, at + length).arrayBuffer());
     };
-    return { file, size, lent: (at, length) => ({ file, from: at, size: length }), read: readingOf(file, read), forward() {
-        const own = new ForwardFile(file, read);
-        return { size, read: readingOf(file, (at, length, room) => own.read(at, length, room)) };
-    } };
+    return { file, size, lent: (at, length) => ({ file, from: at, size: length }), read: readingOf(file, read),
+        forward: () => ({ size, read: readingOf(file, readingForward(read)) }) };
+}
+
+/**
+ * The same reading for one who reads forward. Bytes of a slice that was read are not copied.
+ * @param {Reader['read']} read
+ * @returns {Reader['read']}
+ */
+function readingForward(read) {
+    let [from, slice, end] = [0, new Uint8Array(0), -Infinity];
+    return async (at, length) => {
+        if (at < from || at >= from + slice.length) {
+            const isOn = at >= end && at - end <= PASSED_OVER;
+            slice = await read(at, isOn ? Math.max(length, FORWARD_SIZE) : length);
+            from = at;
+        }
+        const bytes = slice.subarray(at - from, at - from + length);
+        end = at + bytes.length;
+        return bytes;
+    };
 }
 
 /**

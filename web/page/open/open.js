@@ -5,11 +5,13 @@ import { dataTrack, discFault, openDisc } from '../../core/disc/disc.js';
 import { natureOf } from '../../core/disc/file_type.js';
 import { FAULT, failedBy } from '../../core/faults.js';
 import { MOST_SCRIPT_BYTES } from '../../core/module/records.js';
+import { modelInParts } from '../../core/script/model.js';
 import { isMeantAsScript, isScript } from '../../core/script/script_start.js';
 import { MOST_SECTORS, SECTOR_SIZE, imageTooLong, sectorCount } from '../../core/sectors/sector.js';
 import { textOfFile } from '../../core/texts/encodings.js';
+import { isLong } from '../app/index.js';
 import { button, byId, copyable, counted, element, endMessages, messageParts, nameOf, namesOf } from '../ui/index.js';
-import { refuseWhileSaving, showFailure, showNotice } from '../ui/index.js';
+import { nextTurn, refuseWhileSaving, showFailure, showNotice } from '../ui/index.js';
 import { mountChoosing } from './choosing.js';
 import { exampleFile } from './example.js';
 import { fileReader } from './file_reader.js';
@@ -91,7 +93,8 @@ async function takenAs(app, file) {
     if (!isScript(app.calls, text) && !isMeantAsScript(app.calls, text)) return '';
     // The program reads no text with a mark of its encoding: what stands in the editor is in no file then.
     const marked = MARKS.find(({ bytes }) => bytes.every((byte, i) => byte === start[i]));
-    app.setScript(textOfFile(await readBytes(fileReader(file), 0, file.size)), file.name, !marked);
+    const whole = textOfFile(await readBytes(fileReader(file), 0, file.size));
+    app.setScript(whole, file.name, !marked, isLong(whole) ? null : await modelInParts(app.calls, whole, nextTurn));
     app.showPanel('script');
     if (marked) {
         showNotice('warn', ['This file is ', marked.name, ', which cdpatch does not read: ', nameOf(file.name)],

@@ -1,5 +1,6 @@
 // What is asked when a second image comes: nothing of it is read before that but what it is.
 
+import { commonPart, isSameRange } from '../../core/images/common_part.js';
 import { asked, countOf, nameOf, refuseWhileSaving } from '../ui/index.js';
 import { fileOf, isSameFile } from './file_reader.js';
 import { readImage } from './survey_image.js';
@@ -19,7 +20,7 @@ import { readImage } from './survey_image.js';
 export async function takeSecond(app, second, aim) {
     const { image } = app;
     if (image === null) return;
-    const words = wordsOn(image, second);
+    const words = whyNoPair(image, second);
     const answer = aim === 'repair' && words.length === 0 ? 'repair' : await askFor(app, image, second, words);
     if (answer === '' || app.image !== image || refuseWhileSaving(app, [second.name])) return;
     if (answer === 'instead') readImage(app, second);
@@ -37,8 +38,11 @@ function askFor({ survey }, image, second, words) {
     /** @type {[PairJob | 'instead', Child[]][]} */
     const jobs = [['repair', ['Repair ', nameOf(image.name), ' from it']], ['compare', ['Compare']], ['instead', ['Open it instead']]];
     const isSound = survey !== null && survey.over && survey.marks.damaged() === 0;
-    const possible = isSameLength(image, second) ? jobs : jobs.slice(2);
-    return asked([nameOf(second.name), ':'], words, possible, possible.length === 1 ? 'instead' : isSound ? 'compare' : 'repair');
+    const { from, to } = commonPart(image, second);
+    const isPossible = { repair: from < to, compare: isSameRange(image, second), instead: true };
+    const possible = jobs.filter(([job]) => isPossible[job]);
+    const main = !isPossible.repair ? 'instead' : isSound && isPossible.compare ? 'compare' : 'repair';
+    return asked([nameOf(second.name), ':'], words, possible, main);
 }
 
 /**
@@ -47,19 +51,14 @@ function askFor({ survey }, image, second, words) {
  * @param {Image} second
  * @returns {Child[]}
  */
-function wordsOn(image, second) {
+function whyNoPair(image, second) {
     const [file, other] = [image, second].map(({ reader }) => fileOf(reader));
     if (file && other && isSameFile(file, other)) return ['This is the open image itself.'];
-    if (isSameLength(image, second)) return [];
+    if (isSameRange(image, second)) return [];
+    const { from, to, later } = commonPart(image, second);
+    if (from === to) return ['It is another part of a disc than ', nameOf(image.name), '.'];
     const more = second.sectors - image.sectors;
-    const words = more === 0 ? 'another tail than ' : `${countOf(Math.abs(more), 'sector')} ${more > 0 ? 'more' : 'fewer'} than `;
-    return ['It has ', words, nameOf(image.name), '. Repair and Compare need the same length.'];
-}
-
-/**
- * @param {Image} image
- * @param {Image} second
- */
-function isSameLength(image, second) {
-    return image.reader.size === second.reader.size;
+    const length = more === 0 ? 'another tail' : `${countOf(Math.abs(more), 'sector')} ${more > 0 ? 'more' : 'fewer'}`;
+    const shift = `It is shifted: it begins ${countOf(Math.abs(later), 'sector')} ${later > 0 ? 'later' : 'earlier'}`;
+    return [`${later === 0 ? `It has ${length}` : shift} than `, nameOf(image.name), '. A repair uses the blocks that both have.'];
 }

@@ -2,7 +2,7 @@
 
 import { cancelled } from '../../core/faults.js';
 import { filesOf } from '../../core/iso/files.js';
-import { sumsOf } from '../app/index.js';
+import { Summing } from '../app/index.js';
 import { isCancelled, refuseWhileSaving, showFailure } from '../ui/index.js';
 
 /** @typedef {import('../app/state.js').App} App */
@@ -18,27 +18,59 @@ export async function readImage(app, image) {
     const signal = app.setImage(image);
     if (image === null) return;
     try {
-        const surveyed = surveyImage(app, image, signal).then(() => listFiles(app, image, signal));
-        await Promise.all([surveyed, hashImage(app, image, signal)]);
+        await (image.sha1 === '' ? surveyAndHash(app, image, signal) : surveyOnly(app, image, signal));
     } catch (error) {
         if (!isCancelled(error) && app.image === image) showFailure(error);
     }
 }
 
 /**
- * Surveys an image, again if it was done already.
+ * The survey of an image, again if it was done already, which ends as its reading does.
+ * @param {App} app
+ * @param {Image} image
+ * @param {(take: (answer: { block: number, records: Uint8Array }) => void) => Promise<void>} read
+ */
+async function surveyBy(app, { base, sectors }, read) {
+    const survey = app.beginSurvey(base, sectors);
+    let isWhole = false;
+    try {
+        await read(answer => app.addToSurvey(survey, answer));
+        isWhole = true;
+    } finally {
+        app.endSurvey(survey, isWhole);
+    }
+}
+
+/**
+ * Surveys an image whose hashes are known.
  * @param {App} app
  * @param {Image} image
  * @param {AbortSignal} signal
  */
-async function surveyImage(app, { base, sectors, reader }, signal) {
-    const survey = app.beginSurvey(base, sectors);
-    let isWhole = false;
+async function surveyOnly(app, image, signal) {
+    const how = { base: image.base, signal };
+    await surveyBy(app, image, take => app.crew.share('survey', [image.reader], {}, how, take));
+    await listFiles(app, image, signal);
+}
+
+/**
+ * Surveys an image and hashes it, by one reading.
+ * @param {App} app
+ * @param {Image} image
+ * @param {AbortSignal} signal
+ */
+async function surveyAndHash(app, image, signal) {
+    const sums = new Summing(app, image.reader, done => app.noteHashed(done));
     try {
-        await app.crew.share('survey', [reader], {}, { base, signal }, answer => app.addToSurvey(survey, answer));
-        isWhole = true;
+        await surveyBy(app, image, take => sums.read({ base: image.base, signal }, take));
+        const [known] = await Promise.all([sums.end(), listFiles(app, image, signal)]);
+        if (signal.aborted) throw cancelled();
+        app.setSums(image, known);
+    } catch (error) {
+        if (app.image === image) app.noteHashed(-1);
+        throw error;
     } finally {
-        app.endSurvey(survey, isWhole);
+        sums.close();
     }
 }
 
@@ -52,22 +84,6 @@ async function listFiles(app, { part }, signal) {
     const files = await filesOf(part.reader, part.base).catch(() => null);
     if (signal.aborted) throw cancelled();
     app.setFiles(files);
-}
-
-/**
- * @param {App} app
- * @param {Image} image
- * @param {AbortSignal} signal
- */
-async function hashImage(app, image, signal) {
-    try {
-        const sums = await sumsOf(app.parts, image.reader, signal, done => app.noteHashed(done));
-        if (signal.aborted) throw cancelled();
-        app.setSums(image, sums);
-    } catch (error) {
-        if (app.image === image) app.noteHashed(-1);
-        throw error;
-    }
 }
 
 /**

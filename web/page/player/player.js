@@ -2,13 +2,15 @@
 
 import { readBytes } from '../../core/bytes.js';
 import { openDisc } from '../../core/disc/disc.js';
+import { natureOf } from '../../core/disc/file_type.js';
 import { RESULT } from '../../core/module/records.js';
 import { textOfFile } from '../../core/texts/encodings.js';
 import { fileReader } from '../open/index.js';
-import { downloadText, failureOfSaving, saveWork, sheetNaming } from '../save/index.js';
+import { failureOfSaving, saveWork, sheetNaming } from '../save/index.js';
 import { askBeforeLeaving, button, clearNotices, countOf, counted, element, fill, hashParts, icon, isCancelled } from '../ui/index.js';
 import { jobBar, messageParts, nameOf, notice, refuseWhileSaving } from '../ui/index.js';
-import { CARRIES, VERDICTS, reasonForPlayer, reasonsOf } from './reason.js';
+import { playWords } from './play_words.js';
+import { CARRIES, NO_FULL_DUMP, VERDICTS, reasonForPlayer, reasonsOf } from './reason.js';
 import { authorsWords, moreOf } from './trust_note.js';
 import { imageOfSize, judgeImage } from './verdict.js';
 
@@ -103,9 +105,22 @@ export class Player {
             Object.assign(this, { sheet: text, files, image: imageOfSize(disc, this.data.image.size) });
             if (this.image) await this.judge(this.image);
         } catch (error) {
-            if (number !== this.number) return;
-            this.start(isCancelled(error) ? null : notice('bad', 'Not opened.', ...messageParts(error, files.map(file => file.name))));
+            const fault = isCancelled(error) ? null : await this.faultOf(error, files);
+            if (number === this.number) this.start(fault);
         }
+    }
+
+    /**
+     * Why files are no image to patch.
+     * @param {unknown} error
+     * @param {File[]} files
+     */
+    async faultOf(error, files) {
+        const names = files.map(file => file.name);
+        const kinds = await Promise.all(files.map(file => natureOf(this.app.calls, fileReader(file)).then(({ kind }) => kind, () => '')));
+        const iso = names[kinds.indexOf('iso')];
+        const [head, rest] = NO_FULL_DUMP;
+        return iso === undefined ? notice('bad', 'Not opened.', ...messageParts(error, names)) : notice('bad', [nameOf(iso), head], rest);
     }
 
     /** @param {DiscImage} image */
@@ -277,10 +292,6 @@ export class Player {
      * @param {string} sheet
      */
     playStep(name, sheet) {
-        const shown = element('b', {}, nameOf(name));
-        if (sheet === '') return this.step('3', 'now', 'Play', element('p', {}, 'Open ', shown, ' in your emulator.'));
-        const save = button('main big', () => downloadText(sheet, name.replace(/(\.[^.]*)?$/, '.cue')), 'Save the cue sheet…');
-        return this.step('3', 'now', 'Play',
-            element('p', {}, 'Your emulator opens a cue sheet. This one names the new image. Save it in the same folder.'), save);
+        return this.step('3', 'now', 'Play', ...playWords(name, sheet));
     }
 }

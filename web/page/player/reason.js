@@ -8,13 +8,17 @@ import { countOf, counted, element } from '../ui/index.js';
 /** @type {Record<import('./verdict.js').Verdict, ['good' | 'warn' | 'bad', string]>} */
 export const VERDICTS = {
     right: ['good', 'This is the right disc.'],
-    fits: ['warn', 'This is another dump, but the patch fits it.'],
+    fits: ['warn', 'This is a different dump, but the patch fits it.'],
     unknown: ['warn', 'This is not the author’s disc.'],
-    other: ['bad', 'This is another dump, and the patch does not fit it.'],
+    other: ['bad', 'This is a different dump, and the patch does not fit it.'],
     damaged: ['bad', 'This dump is damaged in places that the patch changes.'],
     patched: ['good', 'This image is patched already.'],
     changed: ['warn', 'These places hold the new bytes already.'],
 };
+
+/** What is said of an ISO image, after its name. */
+export const NO_FULL_DUMP = [' is an ISO image, which has only a part of each sector.',
+    'This patcher needs a full dump: a .bin file of 2352 bytes a sector. Dump your disc again, as BIN and CUE.'];
 
 /** What is said of a patcher whose author lets it write in damaged sectors. */
 export const CARRIES = 'The author has it patch damaged sectors too: they keep their damage.';
@@ -45,18 +49,18 @@ export function reasonsOf(patches, refused) {
  * @param {number} size of the image
  * @param {number} wanted that of the author's
  */
-export function reasonForPlayer({ verdict, patches, without }, size, wanted) {
-    const all = patches === 1 ? 'The place holds' : `All ${counted(patches)} places hold`;
+export function reasonForPlayer({ verdict, patches, without, damaged }, size, wanted) {
+    const all = patches === 1 ? 'The place matches' : `All ${counted(patches)} places match`;
     const sizes = size === wanted ? '' : ` Your image has ${counted(size)} bytes, and the author’s has ${counted(wanted)}.`;
     const [name, fit] = without === 1 ? ['names', 'it fits'] : ['name', 'they fit'];
-    const named = without === 0 ? `${all} the bytes that the author saw, but nothing shows whether the rest is of the same disc.`
+    const hurt = damaged === 0 ? '' : ` ${countOf(damaged, 'sector', 'sectors')} of your image ${damaged === 1 ? 'is' : 'are'} damaged.`;
+    const named = without === 0 ? `${all}, but nothing shows whether the rest is of the same disc.`
         : `${counted(without)} of ${countOf(patches, 'change')} ${name} no old bytes, so nothing shows whether ${fit}.`;
     /** @type {Record<string, string>} */
     const reasons = {
-        fits: `${all} the bytes that the author saw. The rest of the disc differs from the author’s: perhaps its music is shifted, or a ` +
-            'sector is damaged.',
-        unknown: named + sizes,
-        changed: `There is nothing to patch. But this is not the image that the author made: its SHA-1 is another one.${sizes}`,
+        fits: `${all}. The rest of the disc differs from the author’s${hurt === '' ? ': perhaps its music is shifted.' : `.${hurt}`}`,
+        unknown: named + sizes + hurt,
+        changed: `There is nothing to patch. But this is not the image that the author made: its SHA-1 does not match.${sizes}`,
     };
     return reasons[verdict] ? element('p', {}, reasons[verdict]) : null;
 }

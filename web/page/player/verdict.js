@@ -7,6 +7,8 @@ import { ReadAhead } from '../../core/read_ahead.js';
 import { wordsOn } from '../../core/script/line_words.js';
 import { oldBytesOf } from '../../core/script/long_script.js';
 import { passPatched } from '../../core/script/patches.js';
+import { SECTOR_SIZE } from '../../core/sectors/sector.js';
+import { surveyCounts } from '../../core/sectors/survey.js';
 import { sha1Of } from '../app/index.js';
 import { assertNotTooLong, scriptFor, watched } from '../save/index.js';
 
@@ -23,8 +25,10 @@ import { assertNotTooLong, scriptFor, watched } from '../save/index.js';
  */
 /**
  * A verdict, the SHA-1 of the image, '' if it was not needed; how many patches there are, and how many of them name no old bytes; the
- * results of those that are refused, and the program's words for the first of them; and what is to be done.
- * @typedef {{ verdict: Verdict, sha1: string, patches: number, without: number, refused: number[], words: string, work: PatchWork }} Judged
+ * results of those that are refused, and the program's words for the first of them; how many sectors are damaged of one that fits or is
+ * unknown; and what is to be done.
+ * @typedef {{ verdict: Verdict, sha1: string, patches: number, without: number, refused: number[], words: string, damaged: number,
+ *     work: PatchWork }} Judged
  */
 /** @typedef {{ signal: { aborted: boolean }, progress: (done: number, all: number) => void }} JudgeWatch */
 
@@ -61,14 +65,27 @@ export async function judgeImage(app, data, image, watch) {
     const refused = outcomes.filter(it => it.result !== RESULT.OK);
     const words = refused.length === 0 ? '' : wordsOn(app.calls.outcomeLine(1, refused[0].result, refused[0].block, refused[0].offset), 1);
     const { without } = oldBytesOf(app.calls, data.script);
-    const judged = { sha1: '', patches: outcomes.length, without, refused: refused.map(it => it.result), words, work };
-    const damaged = judged.refused.every(it => it === RESULT.DAMAGED);
-    if (refused.length > 0 && !await isPatched(app, work)) return { ...judged, verdict: damaged ? 'damaged' : 'other' };
+    const judged = { sha1: '', patches: outcomes.length, without, refused: refused.map(it => it.result), words, damaged: 0, work };
+    const areDamaged = judged.refused.every(it => it === RESULT.DAMAGED);
+    if (refused.length > 0 && !await isPatched(app, work)) return { ...judged, verdict: areDamaged ? 'damaged' : 'other' };
     const sha1 = early || await hash();
     if (sha1 === data.image.sha1) return { ...judged, sha1, verdict: 'right' };
     if (sha1 === data.result) return { ...judged, sha1, verdict: 'patched' };
-    const changed = refused.length > 0 || await isPatched(app, work);
-    return { ...judged, sha1, verdict: changed ? 'changed' : without === 0 && reader.size === data.image.size ? 'fits' : 'unknown' };
+    if (refused.length > 0 || await isPatched(app, work)) return { ...judged, sha1, verdict: 'changed' };
+    const damaged = await damagedSectors(app, image, watch);
+    return { ...judged, sha1, damaged, verdict: without === 0 && reader.size === data.image.size ? 'fits' : 'unknown' };
+}
+
+/**
+ * @param {App} app
+ * @param {DiscImage} image
+ * @param {JudgeWatch} watch
+ */
+async function damagedSectors({ crew }, { reader, base }, { signal, progress }) {
+    let damaged = 0;
+    const told = (/** @type {number} */ done) => progress(Math.min(done * SECTOR_SIZE, reader.size), reader.size);
+    await crew.share('survey', [reader], {}, { base, signal, progress: told }, survey => { damaged += surveyCounts(survey).damaged; });
+    return damaged;
 }
 
 /**

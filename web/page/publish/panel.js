@@ -3,8 +3,9 @@
 import { sha1Of } from '../app/index.js';
 import { isImageName, isPlainSheet, isSeen, patcherText, publishedSource, showPlayer } from '../player/index.js';
 import { download, sheetNaming } from '../save/index.js';
+import { fitWords } from '../script/index.js';
 import { askBeforeLeaving, button, countOf, element, fill, hashParts, isCancelled, isDisabled, jobBar, nameOf } from '../ui/index.js';
-import { notice, said, sayAt, seenTitle, sentence, setDisabled, stemOf, term } from '../ui/index.js';
+import { notice, said, sayAt, sentence, setDisabled, stemOf, term } from '../ui/index.js';
 import { proposedName, triedOn } from './trial.js';
 
 /** @typedef {import('../app/state.js').App} App */
@@ -12,9 +13,10 @@ import { proposedName, triedOn } from './trial.js';
 /** @typedef {import('../player/patcher.js').PatcherData} PatcherData */
 /** @typedef {import('../ui/fill.js').Child} Child */
 /** @typedef {import('./trial.js').Tried} Tried */
+/** @typedef {[('good' | 'bad' | 'warn' | 'quiet'), ...Child[]]} Row */
 
-const NAME_RULE = 'the name of the patched image has to end in .bin, .img or .iso, with at most 120 characters before that, ' +
-    'without hidden ones and without \\ / : * ? " < > |';
+const NAME_RULE = 'The name of the patched image has to end in .bin, .img or .iso, with at most 120 characters before that, ' +
+    'without hidden ones and without \\ / : * ? " < > |.';
 /** A browser may send what is typed to a service that checks its spelling. */
 const PRIVATE = { autocomplete: 'off', spellcheck: 'false' };
 
@@ -73,7 +75,7 @@ class PublishPanel {
             element('header', {}, element('h2', {}, 'Before you save')),
             element('div', { class: 'pad stack' }, this.list, this.state, element('div', { class: 'row' }, this.save, this.see), this.said,
                 element('p', { class: 'small quiet' },
-                    'One .html file. It holds this page, your script, the texts and the hashes. It holds no image.'),
+                    'One .html file with this page, your script and what you wrote here. It holds no image.'),
                 element('p', { class: 'say warn thin', id: 'no-licence' }, element('b', {}, 'No licence has been chosen for cdpatch yet.'),
                     'Until its owner has chosen one, nobody may pass copies of this page on.'),
                 element('p', { class: 'small quiet' }, 'The script itself can be saved under Script.')));
@@ -141,35 +143,37 @@ class PublishPanel {
         if (this.cueRow) this.cueRow.hidden = this.app.image === null || this.cueOf(this.app.image) === '';
     }
 
-    /** @returns {[('good' | 'bad' | 'warn' | 'quiet'), ...Child[]][]} what is ready, and what is not */
+    /** @returns {Row[]} what is ready, and what is not */
     rows() {
         const { app, tried, fault } = this;
         const { image, survey } = app;
         if (image === null) return [['bad', 'Open the image that the script is made for.']];
         if (fault !== '') return [['bad', fault]];
-        if (tried === null) return [['quiet', 'Trying the script on this image…']];
-        const findings = survey ? survey.marks.findings() : 0;
-        const read = survey !== null && survey.ended > 0;
-        const mono = (/** @type {string} */ text) => element('span', { class: 'mono small' }, text);
-        return [
-            tried.patches > 0 ? ['good', `${countOf(tried.patches, 'patch', 'patches')}, no faults`]
-                : ['bad', 'The script has no patch yet.'],
-            [tried.refused === 0 ? 'good' : 'bad',
-                `tried on this image: ${tried.patches - tried.refused} would apply, ${tried.refused} refused`,
-                tried.first > 0 && button('slim bare tiny', () => app.goToLine(tried.first - 1), `Go to line ${tried.first}`),
-                tried.damaged > 0 && `, ${tried.damaged} for damage: a patcher does not carry it. Repair the image first.`],
-            tried.without === 0 ? ['good', 'each line has its old bytes (', mono('was'), ')']
-                : ['warn', `${countOf(tried.without, 'line')} without old bytes (`, mono('was'),
-                    '): on a dump that is not yours nothing shows whether they fit, and players are told so.'],
-            !read && survey !== null && survey.over ? ['bad', 'The image was not read to its end. Read it again under Disc.']
-                : !read ? ['quiet', 'reading the image…'] : findings === 0 ? ['good', 'the image is sound: 0 findings']
-                : ['warn', `the image has ${countOf(findings, 'finding')}: players with a sound disc have another hash.`],
-            image.sha1 === '' ? ['quiet', 'calculating the SHA-1 of the image…']
-                : ['good', 'made for SHA-1 ', element('span', { class: 'mono small' }, ...hashParts(image.sha1))],
-            isSeen(this.title.value) ? ['good', 'title: ', element('bdi', {}, seenTitle(this.title.value))]
-                : ['bad', 'a title is missing'],
+        if (tried === null) return [['quiet', 'Trying the script on your image…']];
+        const title = button('slim bare tiny', () => this.title.focus(), 'Write it');
+        return [this.fitRow(image, tried),
+            tried.without === 0 ? ['good', 'Each change names the bytes that it replaces.']
+                : ['warn', `${countOf(tried.without, 'change')} without old bytes (`, element('span', { class: 'mono small' }, 'was'),
+                    '): on another dump nothing shows whether ', tried.without === 1 ? 'it fits' : 'they fit', '. Players are told so.'],
+            soundRow(survey),
+            image.sha1 === '' ? ['quiet', 'Calculating the SHA-1 of your image…']
+                : ['good', 'Players’ images are compared with this SHA-1: ',
+                    element('span', { class: 'mono small' }, ...hashParts(image.sha1))],
+            ...isSeen(this.title.value) ? [] : [/** @type {Row} */ (['bad', 'The title is missing. ', title])],
             ...this.warnings(image, tried),
         ];
+    }
+
+    /**
+     * @param {Image} image
+     * @param {Tried} tried
+     * @returns {Row}
+     */
+    fitRow({ name }, { patches, refused, first, damaged }) {
+        const { head } = fitWords(this.app.script.name, name, patches - refused, patches);
+        const go = first > 0 && button('slim bare tiny', () => this.app.goToLine(first - 1), `Go to line ${first}`);
+        return [patches > 0 && refused === 0 ? 'good' : 'bad', ...head, ' ', go,
+            damaged > 0 && ` ${countOf(damaged, 'change')} ${damaged === 1 ? 'is' : 'are'} for a damaged sector: repair the image first.`];
     }
 
     /**
@@ -181,8 +185,9 @@ class PublishPanel {
         /** @type {[boolean, 'bad' | 'warn', string][]} */
         const all = [
             [!isImageName(this.name.value.trim()), 'bad', NAME_RULE],
-            [image.sheet !== '' && this.cueOf(image) === '', 'warn', 'the cue sheet is not offered: it names other than files beside it'],
-            [this.carry.checked, 'warn', 'damaged sectors are patched too: players are told so'],
+            [image.sheet !== '' && this.cueOf(image) === '', 'warn',
+                'The cue sheet is not offered: it names files that do not lie beside it.'],
+            [this.carry.checked, 'warn', 'Damaged sectors are patched too, and players are told so.'],
             [tried.old > 0, 'warn',
                 `The old bytes come from the game (${countOf(tried.old, 'byte')}). Check whether you may publish them.`],
         ];
@@ -246,6 +251,18 @@ class PublishPanel {
         this.edited = false;
         sayAt(this.said, notice('good', ['Saved: ', nameOf(name)], 'Players open it with a double click, and drop their image there.'));
     }
+}
+
+/**
+ * @param {App['survey']} survey
+ * @returns {Row}
+ */
+function soundRow(survey) {
+    if (survey === null || !survey.over) return ['quiet', 'Reading your image…'];
+    if (survey.ended === 0) return ['bad', 'Your image was not read to its end. Read it again under Disc.'];
+    const findings = survey.marks.findings();
+    return findings === 0 ? ['good', 'Your image is sound.']
+        : ['warn', `Your image has ${countOf(findings, 'finding')}: players with a sound disc have another SHA-1.`];
 }
 
 /** @type {Record<string, string>} */

@@ -1,9 +1,10 @@
 // What a patcher is made of: the script as it was tried on the image, and the name that the patched image gets.
 
 import { RESULT } from '../../core/module/records.js';
+import { pieceReader } from '../../core/piece_reader.js';
 import { applyPatches } from '../../core/script/patches.js';
 import { isImageName } from '../player/index.js';
-import { patchedName, pieceReader, scriptFor } from '../save/index.js';
+import { patchedName, scriptFor } from '../save/index.js';
 import { stemOf } from '../ui/index.js';
 
 /** @typedef {import('../app/state.js').App} App */

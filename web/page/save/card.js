@@ -19,7 +19,7 @@ import { patchedName } from './save.js';
 /** @typedef {import('../../core/script/patches.js').Patched} Patched */
 /** @typedef {import('../ui/fill.js').Child} Child */
 
-/** What stands in the place of the card Check while an image is saved, and after that until it is closed. */
+/** Replaces the card Check while an image is being saved, and after that until it is closed. */
 export class SaveCard {
     /**
      * @param {App} app
@@ -113,11 +113,11 @@ export class SaveCard {
      * @param {Saved} saved
      */
     showSaved(image, saved) {
-        const { made, name, size, streamed } = saved;
+        const { made, name, size, streamed, file } = saved;
         this.saved = saved;
         this.leaving = !streamed;
         const refused = made.outcomes.filter(it => it.result !== RESULT.OK).length;
-        const without = refused === 0 ? '' : `, without ${refused} of ${countOf(made.outcomes.length, 'patch', 'patches')}`;
+        const without = refused === 0 ? '' : `, without ${refused} of ${countOf(made.outcomes.length, 'change')}`;
         const tone = refused === 0 ? 'good' : 'warn';
         this.sayWhole = () => fill(this.said, notice(tone, ['Saved: ', nameOf(name), without], 'All other bytes are as before.'));
         if (streamed) this.sayWhole();
@@ -127,24 +127,25 @@ export class SaveCard {
         const sheet = sheetNaming(image.sheet, image.renamed);
         const sheetName = image.disc.files.length > 1 ? patchedName(image.from) : name.replace(/(\.[^.]*)?$/, '.cue');
         const others = [...image.renamed.values()].filter(it => it !== name);
+        const next = sheet !== '' && element('p', {}, 'Your emulator opens a cue sheet: save one that names the new image, beside it.');
         fill(this.checked, !streamed && element('p', { class: 'small quiet' }, 'To check what was saved, drop the file on this page.'));
         this.show(streamed ? 'Saved' : 'Saving by your browser', this.said,
             element('dl', { class: 'hashes' }, element('dt', {}, 'size'), element('dd', {}, counted(size)), ...this.sumsOf(saved)),
-            this.checked, sheet !== '' && others.length > 0 && element('p', { class: 'small quiet' },
+            this.checked, next, sheet !== '' && others.length > 0 && element('p', { class: 'small quiet' },
                 'The cue sheet names files too that you saved before: ', ...namesOf(others)),
-            element('div', { class: 'row' }, sheet !== '' && button('', () => downloadText(sheet, sheetName), 'Save a cue sheet…'),
-                (saved.blob || saved.file) && button('', () => this.openNew(saved), 'Open the new image'),
-                button('next', () => this.close(), 'Back to Check')));
+            element('div', { class: 'row' }, sheet !== '' && button('main next', () => downloadText(sheet, sheetName), 'Save a cue sheet…'),
+                file && button('', () => this.openNew(file), 'Open the new image'),
+                button(sheet === '' ? 'next' : '', () => this.close(), 'Back to Check')));
     }
 
     /**
      * Opens what was saved in place of the open image.
-     * @param {Saved} saved
+     * @param {File} file
      */
-    openNew({ blob, file, name }) {
+    openNew(file) {
         this.close();
         readImage(this.app, null);
-        this.app.open([file || new File([/** @type {Blob} */ (blob)], name)], 'look');
+        this.app.open([file], 'look');
     }
 
     /**
@@ -153,12 +154,12 @@ export class SaveCard {
      */
     sumsOf(saved) {
         const [sha1, crc32] = ['saved-sha1', 'saved-crc32'].map(id => element('dd', { id }, '…'));
-        const file = saved.blob || saved.file;
+        const { file } = saved;
         if (file === null) {
             sha1.textContent = 'not known, for the browser does not read the file again';
             return [element('dt', {}, 'SHA-1'), sha1];
         }
-        const sums = sumsOf(this.app.parts, fileReader(new File([file], saved.name)), { aborted: false }, done => {
+        const sums = sumsOf(this.app, fileReader(file), { aborted: false }, done => {
             sha1.textContent = `(${Math.floor(100 * done / saved.size)} %)`;
         });
         this.sum = sums.then(it => it.sha1);
@@ -190,7 +191,7 @@ export class SaveCard {
         }, 'Open it');
         fill(this.checked, right ? notice('good', ['Right: ', nameOf(file.name)], 'Its size and SHA-1 are those of the patched image.',
             element('div', { class: 'row' }, open))
-            : notice('bad', ['Not what it should be: ', nameOf(file.name)], wrong || 'Its SHA-1 is another one. Save it again.'));
+            : notice('bad', ['Not what it should be: ', nameOf(file.name)], wrong || 'Its SHA-1 does not match. Save it again.'));
         this.leaving = this.leaving && !right;
         if (right) {
             this.sayWhole();

@@ -42,7 +42,7 @@ function sameName(one, other) {
  * @param {File} chosen
  * @param {Reader} reader of the image
  */
-export function assertOther(chosen, reader) {
+function assertOther(chosen, reader) {
     const own = fileOf(reader);
     if (own && isSameFile(chosen, own)) {
         throw workRefused(`This is the open image itself: ${shownName(own.name)}`,

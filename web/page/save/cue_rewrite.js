@@ -18,10 +18,25 @@ export function sheetNaming(sheet, names) {
     return found ? lines.join('\n') : '';
 }
 
+/**
+ * The files that a cue sheet names, beside one.
+ * @param {string} sheet
+ * @param {string} but
+ */
+export function otherFiles(sheet, but) {
+    const names = sheet.split('\n').flatMap(line => fileParts(line)?.name || []).map(withoutPath);
+    return [...new Set(names)].filter(name => name.toLowerCase() !== but.toLowerCase());
+}
+
 /** @param {string} path perhaps in quotes, as a sheet has it */
-function lastName(path) {
+function withoutPath(path) {
     const name = path.replace(/^"|"$/g, '');
-    return name.slice(Math.max(name.lastIndexOf('/'), name.lastIndexOf('\\')) + 1).toLowerCase();
+    return name.slice(Math.max(name.lastIndexOf('/'), name.lastIndexOf('\\')) + 1);
+}
+
+/** @param {string} path */
+function lastName(path) {
+    return withoutPath(path).toLowerCase();
 }
 
 /**

@@ -14,6 +14,22 @@ export function canStream() {
 }
 
 /**
+ * Whether this is Firefox. While it knows the address of a Blob of more than some ten parts that was downloaded, it holds all its bytes in
+ * memory; what a Response gives stands in a file of the browser's own. WebKit holds that in memory instead.
+ */
+function isFirefox() {
+    return 'mozInnerScreenX' in globalThis;
+}
+
+/**
+ * The same Blob as it takes least memory when it is downloaded.
+ * @param {Blob} blob of many parts
+ */
+export async function asDownloaded(blob) {
+    return isFirefox() ? new Response(blob).blob().catch(() => blob) : blob;
+}
+
+/**
  * Lets the user choose a file to write, or returns null if he chooses none.
  * @param {string} name that is proposed
  * @returns {Promise<ChosenFile | null>}
@@ -30,15 +46,32 @@ export async function chosenFile(name) {
 }
 
 /**
- * Gives a file to the browser's downloads. Its address is kept as long as the page, for nothing says when the download has ended.
+ * Gives a file to the browser's downloads, and returns its address, which is kept as long as the page: nothing says when the download has
+ * ended.
  * @param {Blob} blob
  * @param {string} name
  */
 export function download(blob, name) {
-    const link = element('a', { href: URL.createObjectURL(blob), download: name });
+    const href = URL.createObjectURL(blob);
+    const link = element('a', { href, download: name });
     document.body.append(link);
     link.click();
     link.remove();
+    return href;
+}
+
+/** The address of the image that was saved last. */
+const image = { address: '' };
+
+/**
+ * The same for an image. Firefox, which goes on with a download that has begun, forgets the address of the one before, and with it the
+ * file in which that stands.
+ * @param {Blob} blob
+ * @param {string} name
+ */
+export function downloadImage(blob, name) {
+    if (isFirefox() && image.address !== '') URL.revokeObjectURL(image.address);
+    image.address = download(blob, name);
 }
 
 /**

@@ -1,44 +1,85 @@
-// Saving an image that is known in pieces: a repaired one.
+// Saving an image that comes in pieces: as a stream to a file that the user chooses, or as a download.
 
-import { fileOf } from '../open/index.js';
+import { bytesOfPieces, forwardOf, keptPiece } from '../../core/bytes.js';
+import { cancelled } from '../../core/faults.js';
+import { fileOf, fileReader } from '../open/index.js';
 import { chosenOther } from './chosen_file.js';
-import { canStream, download } from './files_out.js';
+import { canStream, downloadImage } from './files_out.js';
 import { blobOfPieces, saveToSink } from './save.js';
 
 /** @typedef {import('../../core/bytes.js').Reader} Reader */
 /** @typedef {import('../../core/bytes.js').Piece} Piece */
+/** @typedef {import('./save.js').Maker} Maker */
 /** @typedef {import('./save.js').Watch} Watch */
 /** @typedef {import('./chosen_file.js').OpenFile} OpenFile */
+/**
+ * A file's name; whether it was written to its end, else the browser is still at it; and the file, if the browser reads it again.
+ * @typedef {{ name: string, streamed: boolean, file: File | null }} SavedFile
+ */
 
 /**
- * Saves the pieces of an image. Returns the file's name, whether it was written to its end, and what it has, if the browser reads it
- * again; null if the user chose no file.
+ * Saves an image. Returns null if the user chose no file. Throws a Fault if he chose an open one, and what saveToSink throws; then
+ * nothing is kept.
  * @param {Reader[]} readers of the image that slices are of, and of the others that must not be written over
- * @param {Piece[]} pieces
+ * @param {() => Promise<Maker>} making who makes the pieces. He is asked for after the file: a browser lets a page ask for that only
+ *     shortly after a click.
  * @param {string} name that is proposed
  * @param {OpenFile[]} opened all files that are open
  * @param {Watch} watch
+ * @returns {Promise<SavedFile | null>}
  */
-export async function savePieces(readers, pieces, name, opened, watch) {
-    const [reader] = readers;
-    if (!canStream()) {
-        const file = fileOf(reader);
-        if (file === null) throw new Error('this image is no file');
-        const blob = await blobOfPieces(file, pieces);
-        download(blob, name);
-        return { name, streamed: false, file: new File([blob], name) };
-    }
+export async function saveImage(readers, making, name, opened, watch) {
+    if (!canStream()) return downloadPieces(readers[0], await making(), name, watch);
     const chosen = await chosenOther(name, readers, opened);
     if (chosen === null) return null;
     const before = await chosen.getFile();
-    const give = async (/** @type {(piece: Piece) => Promise<void>} */ take) => {
-        for (const piece of pieces) await take(piece);
-    };
     try {
-        await saveToSink(await chosen.createWritable(), reader, give, watch);
+        const make = await making();
+        await saveToSink(await chosen.createWritable(), readers[0], make, watch);
     } catch (error) {
         if (before.size === 0 && chosen.remove) await chosen.remove().catch(() => {});
         throw error;
     }
     return { name: chosen.name, streamed: true, file: await chosen.getFile().catch(() => null) };
+}
+
+/**
+ * A maker of pieces that are known.
+ * @param {Piece[]} pieces
+ * @returns {Maker}
+ */
+export function givingAll(pieces) {
+    return async take => {
+        for (const piece of pieces) await take(piece);
+    };
+}
+
+/**
+ * Gives the image to the browser's downloads, if it is accepted.
+ * @param {Reader} reader
+ * @param {Maker} make
+ * @param {string} name
+ * @param {Watch} watch
+ * @returns {Promise<SavedFile>}
+ */
+async function downloadPieces(reader, make, name, { signal, progress, seen, accept }) {
+    const source = fileOf(reader);
+    if (source === null) throw new Error('this image is no file');
+    /** @type {Piece[]} */
+    const pieces = [];
+    await make(async piece => void pieces.push(keptPiece(piece)));
+    const blob = await blobOfPieces(source, pieces);
+    const file = new File([blob], name);
+    let done = 0;
+    if (seen) {
+        for await (const bytes of bytesOfPieces(forwardOf(fileReader(file)), [{ from: 0, to: file.size }])) {
+            if (signal.aborted) throw cancelled();
+            await seen(bytes);
+            progress(done += bytes.length);
+        }
+    }
+    if (accept) await accept();
+    if (signal.aborted) throw cancelled();
+    downloadImage(blob, name);
+    return { name, streamed: false, file };
 }

@@ -3,6 +3,7 @@
 
 import { extentOf, pieceWithin, readBytes, readInto } from '../../core/bytes.js';
 import { newBytes } from '../../core/faults.js';
+import { NEAR_WRITTEN } from '../../core/script/patch_run.js';
 
 /** @typedef {import('../../core/bytes.js').Reader} Reader */
 /** @typedef {import('../../core/bytes.js').Piece} Piece */
@@ -15,8 +16,8 @@ import { newBytes } from '../../core/faults.js';
 /** @typedef {{ type: 'write', position: number, data: Uint8Array | Blob }} Write */
 
 const MOST_IN_REGION = 1 << 24;
-/** Patched sectors with fewer bytes between them are one part, as slices are one read: one of its own takes as long as to read these. */
-const PART_COST = 1 << 17;
+/** Patched sectors with fewer bytes between them are one part, as slices are one read. */
+const PART_COST = NEAR_WRITTEN;
 
 /** Cuts pieces, which come in order, into regions. */
 export class RegionCutter {

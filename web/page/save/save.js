@@ -3,6 +3,8 @@
 import { forwardOf, readBytes } from '../../core/bytes.js';
 import { FAULT, Fault, cancelled } from '../../core/faults.js';
 import { fileOf } from '../open/index.js';
+import { nextTurn } from '../ui/index.js';
+import { asDownloaded } from './files_out.js';
 import { RegionCutter, bytesOfRegion, dataOfRegion } from './regions.js';
 
 /** @typedef {import('../../core/bytes.js').Reader} Reader */
@@ -107,7 +109,7 @@ export async function saveToSink(sink, reader, make, watch) {
     }
 }
 
-/** So many parts of a Blob are made before others get their turn: a browser needs up to a millisecond for each. */
+/** Parts of a Blob that are made before others get their turn: a browser needs up to a millisecond for each. */
 const MOST_PARTS = 100;
 
 /**
@@ -119,11 +121,12 @@ export async function blobOfPieces(file, pieces) {
     /** @type {Blob[]} */
     const blobs = [];
     for (let i = 0; i < pieces.length; i += MOST_PARTS) {
-        if (i > 0) await new Promise(resolve => setTimeout(resolve));
+        if (i > 0) await nextTurn();
         const some = pieces.slice(i, i + MOST_PARTS);
         blobs.push(new Blob(some.map(piece => 'bytes' in piece ? piece.bytes : file.slice(piece.from, piece.to))));
     }
-    return new Blob(blobs, { type: 'application/octet-stream' });
+    const blob = new Blob(blobs, { type: 'application/octet-stream' });
+    return asDownloaded(blob);
 }
 
 /**

@@ -67,7 +67,8 @@ export class CheckCard {
     drawCard() {
         if (this.saving.shown()) return fill(this.card, ...this.saving.parts());
         const { lines } = this.owner;
-        fill(this.head, element('h2', {}, 'Check'), this.patched && element('span', { class: 'tag' }, `${this.seconds.toFixed(1)} s`));
+        const took = this.patched !== null && this.seconds >= 0.05 && element('span', { class: 'tag' }, `${this.seconds.toFixed(1)} s`);
+        fill(this.head, element('h2', {}, 'Check'), took);
         fill(this.card, this.head, this.body);
         if (this.app.image === null) return fill(this.body, lines.faults > 0 && this.faults(),
             element('p', {}, 'Open the image that this script patches.'),
@@ -103,20 +104,19 @@ export class CheckCard {
     outcomes(apply) {
         const { lines } = this.owner;
         if (this.patched === null) {
-            return [element('p', {}, lines.long ? 'Check says which patches fit this image. Nothing is changed.'
-                : lines.patches === 0 ? 'The script has no patch yet.' : lines.patches === 1
-                ? 'Check says whether the patch fits this image. Nothing is changed.'
-                : `Check says which of the ${counted(lines.patches)} patches fit this image. Nothing is changed.`)];
+            if (lines.patches === 0 && !lines.long) return [element('p', {}, 'The script has no change yet.')];
+            const what = lines.long ? 'its changes' : lines.patches === 1 ? 'its change' : `its ${counted(lines.patches)} changes`;
+            return [element('p', {}, `Check tries ${what} on this image, and writes nothing.`)];
         }
         const { outcomes } = this.patched;
         const applied = outcomes.filter(it => it.result === RESULT.OK).length;
         const refused = outcomes.length - applied;
         const tally = (/** @type {string} */ tone, /** @type {number} */ count, /** @type {string} */ word) =>
-            element('div', { class: count > 0 ? tone : '' }, element('b', {}, counted(count)), word);
+            element('div', { class: tone }, element('b', {}, counted(count)), word);
         const first = lines.nextWrong(lines.lines.length - 1, 1);
         const { tone, head, rest } = this.fit(this.patched);
         return [notice(tone, head, rest, element('div', { class: 'row' }, apply)),
-            element('div', { class: 'tally' }, tally('good-ink', applied, applied === 1 ? 'fits' : 'fit'),
+            refused > 0 && element('div', { class: 'tally' }, applied > 0 && tally('good-ink', applied, applied === 1 ? 'fits' : 'fit'),
                 tally('bad-ink', refused, refused === 1 ? 'does not fit' : 'do not fit')),
             first >= 0 && element('div', { class: 'row next' },
                 button('slim', () => this.owner.goTo(first), `Go to line ${first + 1}`))];
@@ -128,9 +128,10 @@ export class CheckCard {
      */
     footnote(ready) {
         if (!ready) return ['Fix the errors to continue.'];
-        const applied = this.patched ? this.patched.outcomes.filter(it => it.result === RESULT.OK).length : -1;
+        const outcomes = this.patched ? this.patched.outcomes : [];
+        const applied = outcomes.filter(it => it.result === RESULT.OK).length;
         const name = this.app.image ? this.app.image.name : '';
-        const fitting = applied < 0 ? '' : ` with the ${countOf(applied, 'patch that fits', 'patches that fit')}`;
+        const fitting = applied === outcomes.length ? '' : ` with the ${countOf(applied, 'change that fits', 'changes that fit')}`;
         return [`Saves a new image${fitting}. `, element('b', {}, nameOf(name)),
             ' stays as it is.'];
     }
@@ -218,6 +219,6 @@ export class CheckCard {
  * A notice on a failure, which says that nothing was done.
  * @param {unknown} error
  */
-export function failureOf(error) {
+function failureOf(error) {
     return notice('bad', messageOf(error), adviceOf(error, 'Nothing was saved. Open it again.'));
 }

@@ -3,6 +3,7 @@
 
 import { VERB } from '../../core/module/records.js';
 import { element } from '../ui/index.js';
+import { chosenHelps } from './helps.js';
 import { colored } from './line_parts.js';
 
 /** @typedef {import('../app/script_lines.js').ScriptLines} ScriptLines */
@@ -60,23 +61,10 @@ export class ScriptEditor {
     /** Draws all anew, after a change of the text or of what is said of it. */
     draw() {
         this.current = Math.min(this.current, this.lines.lines.length - 1);
-        this.chooseHelps();
+        this.helps = chosenHelps(this.lines, line => this.owner.help(line));
         this.drawCurrent();
         this.place();
         this.drawRows();
-    }
-
-    /** Help stands below a wrong line if the wrong line before has other help. */
-    chooseHelps() {
-        this.helps = new Map();
-        if (this.lines.faults === 0 && this.lines.outcomes.size === 0) return;
-        let before = '';
-        for (let i = 0; i < this.lines.lines.length; i++) {
-            if (!this.lines.isWrong(i)) continue;
-            const help = this.owner.help(i);
-            if (help.text !== '' && help.text !== before) this.helps.set(i, help);
-            before = help.text || before;
-        }
     }
 
     /** Calculates where each line begins. */

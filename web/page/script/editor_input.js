@@ -112,7 +112,7 @@ function pressedAlone(editor, { key, shiftKey, altKey, isComposing }) {
     if (key === 'ArrowDown') return atEdge(editor, 1) && move(editor, current + 1, column, shiftKey);
     if (key === 'PageUp') return move(editor, current - page, column, shiftKey);
     if (key === 'PageDown') return move(editor, current + page, column, shiftKey);
-    if (key === 'Escape' && editor.anchor >= 0) return forget(editor);
+    if (key === 'Escape' && editor.anchor >= 0) return unselect(editor);
     if (key === 'F8') return showLine(editor, lines.nextWrong(current, shiftKey ? -1 : 1));
     if (editor.anchor >= 0 && editor.anchor !== current) return pressedOnChosen(editor, key);
     editor.anchor = -1;
@@ -150,12 +150,12 @@ function pressedOnChosen(editor, key) {
     if (key === 'Backspace' || key === 'Delete') return removeChosen(editor, []);
     if (key === 'Enter') return removeChosen(editor, ['', '']);
     if (key.length === 1) removeChosen(editor, ['']);
-    else if (/^(Arrow|Home|End)/.test(key)) forget(editor);
+    else if (/^(Arrow|Home|End)/.test(key)) unselect(editor);
     return false;
 }
 
 /** @param {ScriptEditor} editor */
-function forget(editor) {
+function unselect(editor) {
     editor.anchor = -1;
     editor.draw();
     return true;
@@ -243,7 +243,7 @@ function lineUnder({ target }) {
 function pointed(editor, event) {
     const line = lineUnder(event);
     if (line < 0 || event.button !== 0) {
-        if (event.target === editor.area) forget(editor);
+        if (event.target === editor.area) unselect(editor);
         return;
     }
     event.preventDefault();

@@ -4,7 +4,7 @@ import { filesAt } from '../../core/iso/files.js';
 import { CONTENT, isFault } from '../../core/module/records.js';
 import { wordsOf } from '../../core/script/line_words.js';
 import { chosenEncoding } from '../text/index.js';
-import { element, fill, shownPaths, term, visible } from '../ui/index.js';
+import { element, fill, shownPaths, shownText, term } from '../ui/index.js';
 import { HEAD_IN_WORDS, helpOfFault, patchInWords } from './plain_words.js';
 
 /** @typedef {import('../app/state.js').App} App */
@@ -62,6 +62,6 @@ function pairOf(app, { fresh, old }) {
     if (fresh.length === 0) return null;
     const encoding = chosenEncoding(app);
     const row = (/** @type {string} */ name, /** @type {Uint8Array} */ bytes) => [element('span', { class: 'quiet' }, name),
-        element('span', { class: 'mono' }, visible(encoding.text(bytes.subarray(0, MOST_BYTES_SHOWN))))];
+        element('span', { class: 'mono' }, shownText(encoding.text(bytes.subarray(0, MOST_BYTES_SHOWN))))];
     return element('div', { class: 'pair' }, ...row('new', fresh), ...old ? row('old', old) : []);
 }

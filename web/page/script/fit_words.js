@@ -15,7 +15,7 @@ import { countOf, counted, nameOf } from '../ui/index.js';
  */
 export function fitWords(name, image, fitting, all) {
     const [script, disc, left] = [name === '' ? 'The script' : nameOf(name), nameOf(image), all - fitting];
-    if (all === 0) return { tone: 'plain', head: [script, ' has no patch.'], rest: 'The saved image would be a copy.' };
+    if (all === 0) return { tone: 'plain', head: [script, ' has no change.'], rest: 'The saved image would be a copy.' };
     const changes = countOf(all, 'change');
     if (left === 0) return { tone: 'good', head: [script, `: ${changes}, ${all === 1 ? 'which fits' : 'all fit'} `, disc, '.'], rest: '' };
     if (fitting === 0) {

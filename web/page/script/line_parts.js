@@ -2,7 +2,7 @@
 
 import { CONTENT, VERB, isFault } from '../../core/module/records.js';
 import { faultyWord, lineParts, partOfWord } from '../../core/script/line_words.js';
-import { element, visible } from '../ui/index.js';
+import { element, shownText } from '../ui/index.js';
 
 /** @typedef {import('../app/script_lines.js').ScriptLines} ScriptLines */
 /** @typedef {import('../../core/script/model.js').ScriptLine} ScriptLine */
@@ -61,7 +61,7 @@ function readTexts(encoding, lines, i) {
     if (before && before.encoding === encoding) return before;
     const patch = lines.patchAt(i);
     const text = (/** @type {Uint8Array} */ bytes) =>
-        `${visible(encoding.text(bytes.subarray(0, MOST_BYTES)))}${bytes.length > MOST_BYTES ? '…' : ''}`;
+        `${shownText(encoding.text(bytes.subarray(0, MOST_BYTES)))}${bytes.length > MOST_BYTES ? '…' : ''}`;
     const texts = { encoding, old: patch && patch.old && text(patch.old), fresh: patch ? text(patch.fresh) : '' };
     known.set(line, texts);
     return texts;

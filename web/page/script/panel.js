@@ -67,7 +67,7 @@ class ScriptPanel {
 
     listen() {
         const { app } = this;
-        askBeforeLeaving(() => this.isLost(), 'Your script is in no file yet.');
+        askBeforeLeaving(() => this.isLost(), 'Your script is not saved.');
         app.serve({ takeBackBytes: () => takeBackBytes(this.editor), saveScript: () => this.save() });
         app.on('line', line => this.goTo(line));
         app.on('check', () => void this.check.checkAtOnce());
@@ -113,7 +113,7 @@ class ScriptPanel {
             this.load(null);
             turnBack(this.editor, line);
         };
-        showNotice('warn', 'Your script was not saved, and has made way for this one.', element('div', { class: 'row' },
+        showNotice('warn', 'This script replaced yours, which was not saved.', element('div', { class: 'row' },
             button('slim', back, 'Bring it back')));
     }
 

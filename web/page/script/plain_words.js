@@ -1,7 +1,7 @@
 // What a line of a script means, and what to do about a fault or a refusal, in plain words. [block] and [offset] are words with a note.
 
 import { CONTENT, MOST_PATCHES, PATCH_SIZE, RESULT, VERB } from '../../core/module/records.js';
-import { lacksDigit, wordsOf } from '../../core/script/line_words.js';
+import { contentOf, faultyWord, lacksDigit, wordsOf } from '../../core/script/line_words.js';
 import { lastBlockOf } from '../../core/script/model.js';
 import { USER_SIZE, addressText } from '../../core/sectors/sector.js';
 
@@ -99,23 +99,23 @@ function helpOfHead({ words: [first, version], line }) {
  * @param {Faulty} faulty
  * @returns {Help}
  */
-function helpOfVerb({ words: [verb, ...rest], version }) {
-    const small = verb.toLowerCase();
-    if (verb === 'address' && version < 2) {
+function helpOfVerb({ words: [verb, ...rest], line, calls }) {
+    const isKnown = (/** @type {string} */ text) => contentOf(calls, CONTENT.VERSION_2, text) !== CONTENT.UNKNOWN_VERB;
+    if (isKnown(line)) {
         const fix = { says: 'Make it cdpatch 2', lines: ['cdpatch 2'], head: /** @type {const} */ (true) };
-        return { text: 'The verb address needs the head line cdpatch 2.', fix };
+        return { text: `The verb ${verb} needs the head line cdpatch 2.`, fix };
     }
-    if (verb === 'cdpatch') return helped('A script has one head line, and it is the first.');
-    if (verb !== small && Object.keys(VERB_FORMS).includes(small)) {
-        return helped('Verbs are written in small letters.', `${small}?`, [small, ...rest].join(' '));
-    }
+    const small = verb.toLowerCase();
+    if (small === 'cdpatch') return helped('A script has one head line, and it is the first.');
+    const smallLine = [small, ...rest].join(' ');
+    if (isKnown(smallLine)) return helped('Verbs are written in small letters.', `${small}?`, smallLine);
     return helped('The verbs are set, fill and rebuild, and in version 2 address, in small letters.');
 }
 
 /** @param {Faulty} faulty */
-function helpOfHex({ words, calls }) {
-    const odd = words.slice(words[0] === 'fill' ? 4 : 3).find(word => lacksDigit(calls, word));
-    if (odd) return helped(`An odd number of digits: ${odd.length}. Two digits make one byte.`);
+function helpOfHex({ words, line, calls }) {
+    const odd = words[faultyWord(calls, line, CONTENT.BAD_HEX)];
+    if (odd && lacksDigit(calls, odd)) return helped(`An odd number of digits: ${odd.length}. Two digits make one byte.`);
     return helped('Bytes are hexadecimal digits, two for each byte: no 0x, no quotes, no spaces between them.');
 }
 

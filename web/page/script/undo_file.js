@@ -40,16 +40,17 @@ async function makeUndoAt(app, image, { bar: place, said }, lines, carry) {
             const bar = jobBar('Making the undo script', cancel);
             fill(place, element('h3', {}, 'Making ', nameOf(name)), ...bar.parts);
             const script = [new TextEncoder().encode(lines.text())];
-            return undoScript(app.calls, watched(image.reader, { signal, progress: bar.at }), script, { base: image.base, carry });
+            const how = { base: image.base, carry, crew: app.crew };
+            return undoScript(app.calls, watched(image.reader, { signal, progress: bar.at }), script, how);
         });
         if (made instanceof Refusal) throw new Fault('The script has a fault.');
         downloadBytes(made.script.pieces, name);
         const left = made.left.length > 0
             && `, but for the damage of ${blocksText(made.left, 8)}: their address and user data come back`;
-        const how = carry && ' Apply it with carry, as this script.';
+        const wants = carry && ' Apply it with carry, as this script.';
         const long = made.script.long && ' It is longer than cdpatch and this page take: cdscript applies it with --long.';
         sayAt(said, notice(left || long ? 'warn' : 'good', ['Saved: ', nameOf(name)],
-            'Apply it to the patched image to get the original back', left, '.', how, long));
+            'Apply it to the patched image to get the original back', left, '.', wants, long));
     } catch (error) {
         const rest = 'No undo script was made.';
         sayAt(said, isCancelled(error) ? notice('plain', 'Cancelled.', rest) : notice('bad', sentence(error), rest));

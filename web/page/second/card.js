@@ -1,5 +1,6 @@
 // The card of a second image: repair from it, or compare with it.
 
+import { isSameRange } from '../../core/images/common_part.js';
 import { readImage } from '../open/index.js';
 import { button, element, fill, isCancelled, keyed, nameOf, notice, oneStop, refuseWhileSaving, said, sentence } from '../ui/index.js';
 import { SecondCompare } from './compare.js';
@@ -11,7 +12,7 @@ import { SecondRepair } from './repair.js';
 /**
  * A job with two images: it works once, shows what it found in `body` and `table`, and on the map.
  * @typedef {{ body: HTMLElement, table: HTMLElement, model: () => MapModel | null, begin: () => Promise<void>,
- *     forget: () => void }} PairJob
+ *     forget: () => void }} PairPanel
  */
 
 export class SecondCard {
@@ -94,6 +95,10 @@ export class SecondCard {
     drawTabs() {
         /** @type {[Job, string][]} */
         const names = [['repair', 'Repair from it'], ['compare', 'Compare']];
+        const { image, second } = this.app;
+        // A script changes no length, and no sector's place.
+        if (image === null || second === null || !isSameRange(image, second)) names.pop();
+        this.tabs.hidden = names.length === 1;
         fill(this.tabs, ...names.map(([tab, label]) => keyed(tab, element('button', {
             type: 'button', role: 'tab', 'data-tab': tab, 'aria-selected': String(tab === this.tab), 'aria-controls': 'second-body',
             click: () => this.choose(tab),

@@ -2,7 +2,7 @@
 
 import { FIELD_COUNT, SECOND_STATE, tailsDiffer } from '../../core/images/compare.js';
 import { patchedName } from '../save/index.js';
-import { button, countOf, element, fill, jobBar, notice, tableCard, tallyOf, term } from '../ui/index.js';
+import { button, countOf, element, fill, jobBar, nameOf, notice, tableCard, tallyOf, term } from '../ui/index.js';
 import { addDiffering, compareMarks } from './marks.js';
 import { writeScript } from './script.js';
 
@@ -92,7 +92,8 @@ export class SecondCompare {
     write(then) {
         const { image, second } = this.app;
         if (image !== null && second !== null) {
-            writeScript(this.app, this.place, image, second.reader, patchedName(second.name, 'changes', '.txt'), then);
+            const name = patchedName(second.name, 'changes', '.txt');
+            writeScript(this.app, this.place, { image, fresh: second.reader, goal: nameOf(second.name), name }, then);
         }
     }
 

@@ -1,25 +1,30 @@
 // Repair from a second image: what it would take, shown before anything is saved.
 
 import { readBytes } from '../../core/bytes.js';
+import { shiftOf } from '../../core/images/common_part.js';
 import { mergeImages } from '../../core/images/merge.js';
 import { filesAt } from '../../core/iso/files.js';
+import { pieceReader } from '../../core/piece_reader.js';
 import { blocksIn, blocksText } from '../../core/sectors/runs.js';
 import { SECTOR_SIZE } from '../../core/sectors/sector.js';
 import { findingOf } from '../../core/sectors/survey.js';
 import { MARK, sha1Of } from '../app/index.js';
 import { fileReader, readImage } from '../open/index.js';
-import { failureOfSaving, patchedName, pieceReader, savePieces } from '../save/index.js';
+import { failureOfSaving, givingAll, patchedName, saveImage } from '../save/index.js';
 import { askBeforeLeaving, button, countOf, counted, element, fill, hashParts, jobBar, messageOf, nameOf, notice } from '../ui/index.js';
 import { runAt, shownName, tableCard, tallyOf, term } from '../ui/index.js';
 import { repairMarks } from './marks.js';
 import { writeScript } from './script.js';
+import { sectorOfSecond } from './sector.js';
 
 /** @typedef {import('../app/state.js').App} App */
 /** @typedef {import('../../core/images/merge.js').Repair} Repair */
 /** @typedef {import('../../core/bytes.js').Piece} Piece */
 /** @typedef {import('../ui/fill.js').Child} Child */
 /** @typedef {import('./marks.js').PairMarks} PairMarks */
-/** @typedef {{ repair: Repair, pieces: Piece[] }} Found the pieces are those of the repaired image */
+/** @typedef {Awaited<ReturnType<typeof shiftOf>>} Shift */
+/** The pieces are those of the repaired image; the shift is that of a second image which is refused. */
+/** @typedef {{ repair: Repair, pieces: Piece[], shift: Shift }} Found */
 /** @typedef {{ block: number, here: string, there: string, file: string, same: boolean }} DamageRow */
 
 const MOST_ROWS = 200;
@@ -70,9 +75,11 @@ export class SecondRepair {
                 fill(this.body, ...bar.parts);
                 return mergeImages(app.crew, image, [second], { signal, progress: bar.sectors }, piece => { pieces.push(piece); });
             });
+            const shift = repair.refused ? await shiftOf(app.calls, image, second, repair.differing[0]) : null;
             if (app.second !== second) return;
-            this.found = { repair, pieces };
+            this.found = { repair, pieces, shift };
             this.draw();
+            app.setRepair(repair);
             await this.drawTable();
         } catch (error) {
             if (app.second !== second) return;
@@ -93,14 +100,14 @@ export class SecondRepair {
     draw() {
         const { found, app: { survey } } = this;
         if (found === null || survey === null) return;
-        const { repair, pieces } = found;
+        const { repair, pieces, shift } = found;
         const unrepaired = this.unrepaired();
         this.marks = repair.refused ? null : repairMarks(survey.marks);
         if (this.marks) {
             this.marks.setRuns(repair.taken, 0);
             this.marks.setRuns(unrepaired, 1);
         }
-        const words = repair.refused ? [refusedRepair(repair)] : this.foundWords(repair, pieces, blocksIn(unrepaired));
+        const words = repair.refused ? [refusedRepair(repair, shift)] : this.foundWords(repair, pieces, blocksIn(unrepaired));
         fill(this.body, ...words);
         this.changed();
     }
@@ -126,9 +133,21 @@ export class SecondRepair {
             `${countOf(blocksIn(repair.doubtful), 'sector has', 'sectors have')} other data here, and another EDC.`,
             `Perhaps the second image is another release of the disc: look at ${blocksText(repair.doubtful, MOST_RUNS_NAMED)} first.`);
         const tail = repair.tails[0] && notice('warn', 'The bytes after the last sector differ.', 'They stay as they are here.');
-        return [tally, ...none, doubt, ...warning, tail, element('p', { class: 'small quiet' },
+        return [tally, this.partWords(repair), ...none, doubt, ...warning, tail, element('p', { class: 'small quiet' },
             'Whole sectors are copied, and only those that are damaged here and sound there. A sound sector is never changed. ' +
             'Your file stays as it is.'), taken > 0 && element('div', { class: 'row' }, save, script), this.place];
+    }
+
+    /**
+     * Which blocks the second image does not have.
+     * @param {Repair} repair
+     */
+    partWords({ parts: [{ from, to }], sectors }) {
+        const { image } = this.app;
+        if (image === null || to - from === sectors) return null;
+        const missing = [{ first: 0, last: from - 1 }, { first: to, last: sectors - 1 }].filter(({ first, last }) => first <= last)
+            .map(({ first, last }) => ({ first: first + image.base, last: last + image.base }));
+        return notice('plain', `The second image does not have ${blocksText(missing)}.`, 'These stay as they are here.');
     }
 
     /** @param {Piece[]} pieces */
@@ -149,7 +168,7 @@ export class SecondRepair {
                 this.saving = true;
                 const progress = (/** @type {number} */ done) => bar.at(done, image.reader.size);
                 const name = patchedName(image.name, 'repaired');
-                return savePieces([image.reader, second.reader], pieces, name, app.openFiles(), { signal, progress });
+                return saveImage([image.reader, second.reader], async () => givingAll(pieces), name, app.openFiles(), { signal, progress });
             });
             this.saving = saved !== null && !saved.streamed;
             show(...saved ? this.savedWords(saved, image.reader.size) : []);
@@ -185,7 +204,8 @@ export class SecondRepair {
     async script(pieces) {
         const { image } = this.app;
         if (image === null) return;
-        await writeScript(this.app, this.place, image, pieceReader(image.reader, pieces), patchedName(image.name, 'repair', '.txt'));
+        const [fresh, name] = [pieceReader(image.reader, pieces), patchedName(image.name, 'repair', '.txt')];
+        await writeScript(this.app, this.place, { image, fresh, goal: 'the repaired image', name });
     }
 
     /** Lists what is not repaired, again as soon as the files are known. */
@@ -221,11 +241,12 @@ export class SecondRepair {
         if (image === null || second === null) return [];
         const rows = [];
         for (const block of blocks) {
-            const at = (block - image.base) * SECTOR_SIZE;
-            const [old, other] = await Promise.all([image, second].map(it => readBytes(it.reader, at, SECTOR_SIZE)));
-            const said = [old, other].map(sector => findingOf(calls, block, calls.survey(sector, block)) || 'not of Mode 1');
+            const old = await readBytes(image.reader, (block - image.base) * SECTOR_SIZE, SECTOR_SIZE);
+            const other = await sectorOfSecond(this.app, block);
+            const said = [old, other].map(sector => sector === null ? 'not there'
+                : findingOf(calls, block, calls.survey(sector, block)) || 'not of Mode 1');
             const [file] = files === null ? [] : filesAt(files.files, block, 0);
-            const same = old.every((it, i) => it === other[i]);
+            const same = other !== null && old.every((it, i) => it === other[i]);
             const where = file ? shownName(file.path) : files === null ? '–' : 'in no file';
             rows.push({ block, here: said[0], there: said[1], file: where, same });
         }
@@ -233,9 +254,19 @@ export class SecondRepair {
     }
 }
 
-/** @param {Repair} repair that is refused */
-function refusedRepair({ different: [different] }) {
-    return notice('bad', 'These are not dumps of the same disc, or one of them is shifted.',
+/**
+ * @param {Repair} repair that is refused
+ * @param {Shift} shift
+ */
+function refusedRepair({ different: [different] }, shift) {
+    if (shift !== null) {
+        const by = Math.abs(shift.by);
+        const why = shift.by > 0 ? countOf(by, 'sector before it is missing', 'sectors before it are missing')
+            : countOf(by, 'sector before it is too many', 'sectors before it are too many');
+        return notice('bad', `The second image is shifted by ${countOf(by, 'sector')} from block ${shift.first} on.`,
+            `Its addresses say so: ${why}. Nothing is taken.`);
+    }
+    return notice('bad', 'These are not dumps of the same disc.',
         `${countOf(different, 'sector is sound in both and differs', 'sectors are sound in both and differ')}: ` +
         'more than one in a hundred. Nothing is taken.');
 }

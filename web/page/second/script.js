@@ -4,7 +4,7 @@ import { compareImages } from '../../core/images/compare.js';
 import { leftText } from '../../core/script/sector_lines.js';
 import { blocksIn, blocksText } from '../../core/sectors/runs.js';
 import { download } from '../save/index.js';
-import { button, countOf, counted, element, fill, isCancelled, jobBar, notice, runAt, sentence } from '../ui/index.js';
+import { button, countOf, counted, element, fill, isCancelled, jobBar, nameOf, notice, runAt, sentence } from '../ui/index.js';
 
 /** @typedef {import('../app/state.js').App} App */
 /** @typedef {import('../app/state.js').Image} Image */
@@ -12,6 +12,10 @@ import { button, countOf, counted, element, fill, isCancelled, jobBar, notice, r
 /** @typedef {import('../../core/images/compare.js').Comparison} Comparison */
 /** @typedef {import('../../core/script/script_writer.js').Script} Script */
 /** @typedef {Comparison['left'][number]} Left */
+/** @typedef {import('../ui/fill.js').Child} Child */
+
+/** What a script is written of: the open image, the other one, what that is called, and the name of the script's file. */
+/** @typedef {{ image: Image, fresh: Reader, goal: Child, name: string }} Wanted */
 
 /** What becomes of a script that was written: it is saved, opened in the panel Script, or what the user presses then. */
 /** @typedef {'save' | 'open' | ''} Then */
@@ -24,26 +28,23 @@ const MOST_LEFT_NAMED = 8;
  * Writes the script, and says in a place how it went.
  * @param {App} app
  * @param {HTMLElement} place
- * @param {Image} image
- * @param {Reader} fresh
- * @param {string} name of the script's file
+ * @param {Wanted} wanted
  * @param {Then} [then]
  * @param {boolean} [skipDamaged]
  */
-export function writeScript(app, place, image, fresh, name, then = '', skipDamaged = false) {
-    return runAt(place, () => writeScriptAt(app, place, image, fresh, name, then, skipDamaged));
+export function writeScript(app, place, wanted, then = '', skipDamaged = false) {
+    return runAt(place, () => writeScriptAt(app, place, wanted, then, skipDamaged));
 }
 
 /**
  * @param {App} app
  * @param {HTMLElement} place
- * @param {Image} image
- * @param {Reader} fresh
- * @param {string} name
+ * @param {Wanted} wanted
  * @param {Then} then
  * @param {boolean} skipDamaged
  */
-async function writeScriptAt(app, place, image, fresh, name, then, skipDamaged) {
+async function writeScriptAt(app, place, wanted, then, skipDamaged) {
+    const { image, fresh, name } = wanted;
     const { second } = app;
     const show = (/** @type {Node[]} */ ...parts) => {
         if (app.second === second) fill(place, ...parts);
@@ -55,10 +56,10 @@ async function writeScriptAt(app, place, image, fresh, name, then, skipDamaged) 
             const how = { base: image.base, signal, progress: bar.sectors, skipDamaged };
             return compareImages(app.calls, app.crew, image.reader, fresh, how);
         });
-        const again = () => void writeScript(app, place, image, fresh, name, then, true);
+        const again = () => void writeScript(app, place, wanted, then, true);
         if (compared.script === null) return show(refusedScript(compared, again));
         const does = doesWith(app, compared.script, name);
-        show(written(compared.script, compared.left, then === '' ? does : {}));
+        show(written(compared.script, compared.left, wanted, then === '' ? does : {}));
         if (then !== '' && app.second === second) does[then]?.();
     } catch (error) {
         const rest = 'No script was written.';
@@ -87,15 +88,17 @@ function doesWith(app, { pieces, size, long }, name) {
 /**
  * @param {Script} script
  * @param {Left[]} left what the script does not say
+ * @param {Wanted} wanted
  * @param {{ open?: () => void, save?: () => void }} does what buttons do with it
  */
-function written({ size, patches, long }, left, { open, save }) {
-    const but = left.length === 0 ? 'gives just this image'
-        : `gives this image but for ${blocksText(left, MOST_LEFT_NAMED)}, which it leaves as they are`;
+function written({ size, patches, long }, left, { image, goal }, { open, save }) {
+    const stays = blocksIn(left) === 1 ? 'it is' : 'they are';
+    const gives = left.length === 0 ? [' gives exactly ', goal]
+        : [' gives ', goal, `, but for ${blocksText(left, MOST_LEFT_NAMED)}, which it leaves as ${stays}`];
     const rest = long ? ' This is more than cdpatch takes: cdscript applies it with --long.' : '';
     const head = element('b', {}, `The script has ${countOf(patches, 'patch', 'patches')}.`);
     return element('div', { class: left.length === 0 ? 'say good' : 'say warn', role: 'status' }, head,
-        `${counted(size)} bytes. It was applied by the proved code, and ${but}.${rest}`,
+        `${counted(size)} bytes. Verified: applied to `, nameOf(image.name), ' it', ...gives, `.${rest}`,
         element('div', { class: 'row' }, open !== undefined && button('main', open, 'Open in Script'),
             save !== undefined && button('', save, 'Save the script…')));
 }

@@ -13,7 +13,7 @@ export async function closeImage(app) {
     if (image === null || refuseWhileSaving(app)) return;
     const lost = lostByClosing();
     const isSure = lost.length === 0 || await asked(['Close ', nameOf(image.name), '?'], [lost.join(' ')],
-        [['close', ['Close it all the same']]], '') === 'close';
+        [['close', ['Close it anyway']]], '') === 'close';
     if (!isSure || app.image !== image) return;
     app.close();
     byId('open-files').focus();

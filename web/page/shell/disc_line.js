@@ -1,10 +1,11 @@
 // The line with the open image, which stands over every panel; and on the Disc panel the verdict, or how far reading has come.
 
 import { LAST_BASE, SECTOR_SIZE } from '../../core/sectors/sector.js';
-import { MARK } from '../app/index.js';
-import { dumpWords, modeOneSectors, otherBase, placesOf } from '../disc/index.js';
+import { MARK, lookOf } from '../app/index.js';
+import { dumpWords, isAllOver, modeOneSectors, otherBase, placesOf } from '../disc/index.js';
 import { changeBase, imageOfTrack, readImage } from '../open/index.js';
-import { button, byId, copyButton, countOf, counted, element, fill, jobEnd, keyed, nameOf, seen, shownName, term } from '../ui/index.js';
+import { button, byId, capital, copyButton, countOf, counted, element, fill, jobEnd, keyed, nameOf } from '../ui/index.js';
+import { seen, shownName, term } from '../ui/index.js';
 import { closeImage } from './close_image.js';
 import { tracksInWords } from './tracks.js';
 
@@ -71,25 +72,26 @@ function facts(app, image, drawn) {
     const { survey, panel } = app;
     const counts = survey ? survey.marks.counts : new Uint32Array(16);
     const findings = survey ? survey.marks.findings() : 0;
-    const over = survey !== null && survey.over && survey.known === image.sectors;
     const mode1 = survey ? survey.marks.mode1() : 0;
-    const tone = findings > 0 ? 'bad-ink' : over && mode1 > 0 ? 'good-ink' : 'quiet';
     const cell = (/** @type {string} */ name, /** @type {Child[]} */ ...value) => element('div', {}, element('dt', {}, name),
         element('dd', {}, ...value));
-    const change = button('slim bare tiny change next', () => askBase(app, drawn), 'Change');
-    const own = [cell('Base', term('base', String(image.base)), ' ', change)];
-    own.push(cell('Mode 1', counted(mode1)));
-    if (counts[MARK.MODE2] > 0 || mode1 === 0) own.push(cell('Mode 2', counted(counts[MARK.MODE2])));
-    if (counts[MARK.NOSYNC] > 0 || panel === 'disc') own.push(cell('Audio, no sync', counted(counts[MARK.NOSYNC])));
-    own.push(cell('Findings', element('b', { class: tone }, counted(findings))));
+    const isMoved = image.base !== 0 || (survey !== null && survey.marks.isElsewhere());
+    const change = button('slim bare tiny change next', () => askBase(app, drawn), isMoved ? 'Change' : 'Set the base…');
+    const own = isMoved ? [cell('Base', term('base', String(image.base)), ' ', change)] : [];
+    const sectors = (/** @type {number} */ mark, count = counts[mark]) => cell(capital(lookOf(mark).name), counted(count));
+    if (mode1 > 0 || survey === null || !survey.over) own.push(sectors(MARK.MODE1, mode1));
+    if (counts[MARK.MODE2] > 0) own.push(sectors(MARK.MODE2));
+    if (counts[MARK.NOSYNC] > 0) own.push(sectors(MARK.NOSYNC));
+    if (findings > 0) own.push(cell('Findings', element('b', { class: 'bad-ink' }, counted(findings))));
     if (panel !== 'disc') {
         const hash = cell('SHA-1', ...shaOf(image, drawn, 12));
         hash.className = 'hash';
         own.push(hash);
     }
     const close = button('slim bare tiny', () => void closeImage(app), 'Close', element('span', { class: 'hide' }, ' the image'));
-    const name = element('div', { class: 'row' }, element('p', { class: 'name' }, nameOf(image.name)), close);
-    return [element('div', {}, name, ...lineParts(app, image),
+    const name = element('div', { class: 'row' }, element('p', { class: 'name' }, nameOf(image.name)), close,
+        !isMoved && panel === 'disc' && change);
+    return [element('div', {}, name, ...imageParts(app, image),
         panel === 'disc' && element('p', { class: 'small quiet' }, 'SHA-1 ', ...shaOf(image, drawn, 40)), dumpWords(app, image)),
     element('dl', {}, ...own)];
 }
@@ -99,9 +101,9 @@ function facts(app, image, drawn) {
  * @param {Image} image
  * @returns {Child[]}
  */
-function lineParts(app, image) {
-    const tail = image.tail === 0 ? 'no tail' : `a tail of ${countOf(image.tail, 'byte')}`;
-    const parts = `${counted(image.reader.size)} bytes · ${countOf(image.sectors, 'sector')} · ${tail}`;
+function imageParts(app, image) {
+    const tail = image.tail === 0 ? '' : ` · a tail of ${countOf(image.tail, 'byte')}`;
+    const parts = `${counted(image.reader.size)} bytes · ${countOf(image.sectors, 'sector')}${tail}`;
     const from = image.from === '' ? [] : [' · from ', element('span', { class: 'mono' }, nameOf(image.from)), ': ',
         ...tracksInWords(image)];
     const tracks = image.disc.tracks.filter(track => track.image !== null);
@@ -237,8 +239,9 @@ function verdict(app, image, { marks }) {
     const head = damaged === 0 ? element('b', { class: 'good-ink' }, `The EDC and parity of ${modeOneSectors(mode1)} fit`)
         : element('b', { class: 'bad-ink' },
             `${counted(damaged)} of ${countOf(mode1, 'Mode 1 sector')} ${damaged === 1 ? 'is' : 'are'} damaged,`);
-    const hurt = places.filter(it => it.counts[MARK.EDC] + it.counts[MARK.PARITY] > 0).length;
-    const where = damaged === 0 ? '' : ` in ${countOf(hurt, 'place')}`;
+    const hurt = places.filter(it => it.counts[MARK.EDC] + it.counts[MARK.PARITY] > 0);
+    const isOver = hurt.some(place => isAllOver(place, marks.known));
+    const where = damaged === 0 ? '' : isOver ? ' all over the disc' : ` in ${countOf(hurt.length, 'place')}`;
     const rest = [where, ...others].join('; ');
     return [element('span', {}, head, `${rest}.${damaged > 0 ? ' The rest is sound.' : ''}`),
         damaged > 0 && app.second === null && button('slim', () => app.choose('repair'), 'Repair from another dump…'),

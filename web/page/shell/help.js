@@ -2,7 +2,7 @@
 
 import { inflatedText, sha256Of } from '../app/index.js';
 import { pageSource } from '../player/index.js';
-import { byId, element, fill, hashParts, messageOf } from '../ui/index.js';
+import { byId, element, fill, hashParts, messageOf, setAttribute } from '../ui/index.js';
 
 /** @typedef {import('../app/state.js').App} App */
 /** @typedef {import('../ui/fill.js').Child} Child */
@@ -14,11 +14,13 @@ const KEYS = [
     ['Home, End', 'first, last sector'], ['N, P', 'next, previous finding'], ['R, Shift+R', 'next, previous run'],
     ['G', 'go to a block'], ['Enter', 'open the sector'],
     ['', 'Sector'], ['← → ↑ ↓', 'one byte, one row'], ['0 to 9, A to F', 'change the byte: a line of the script'],
+    ['T', 'type texts; Esc goes back to digits'], ['Shift+arrows, Ctrl+A', 'select'],
+    ['Ctrl+C, Ctrl+V', 'copy, paste: digits, or texts in their column'],
     ['Ctrl+Z', 'take back the bytes that were typed last'],
     ['Page Up, Page Down', 'one screen; past the end, the next sector'], ['Esc', 'back to the map'],
     ['', 'Script'], ['Ctrl+Enter, Ctrl+S', 'Check, save (on a Mac ⌘ for Ctrl)'], ['F8, Shift+F8', 'next, previous fault or refusal'],
     ['Ctrl+Z, Ctrl+Y', 'undo, redo'],
-    ['', 'Text'], ['Enter', 'find; in “New text”: add the line and go on'],
+    ['', 'Text'], ['Enter', 'find; in “New text”: replace and go on'],
 ];
 
 /** @param {App} app */
@@ -40,6 +42,7 @@ export function mountHelp(app) {
         'Tried in Chromium 156, Firefox ESR 153 and WebKitGTK 2.50, the engine of Safari. Chrome and Edge write a patched image straight ' +
         'to the file that you choose; the others give it to their downloads.',
         ...madeWith(app.parts.made)), ownHash(app), notices());
+    for (const note of document.querySelectorAll('[popover]')) setAttribute(note, 'aria-label', note.children[0].textContent);
 }
 
 /** @param {string[]} tools and their versions */

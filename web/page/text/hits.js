@@ -1,9 +1,9 @@
 // The lines of a script that replace hits of a search.
 
 import { MOST_PATCHES } from '../../core/module/records.js';
+import { lineText } from '../../core/script/line_list.js';
 import { replaceBytes } from '../../core/script/replace_bytes.js';
 import { leftHitText, replacedHits } from '../../core/texts/replace.js';
-import { hexOf } from '../ui/index.js';
 
 /** @typedef {import('../../core/module/calls.js').Calls} Calls */
 /** @typedef {import('../../core/disc/disc.js').DiscImage} DiscImage */
@@ -21,7 +21,7 @@ export const MOST_HITS = MOST_PATCHES;
  * @param {Uint8Array} old
  */
 export function replacingLine({ block, offset }, fresh, old) {
-    return `set ${block} ${offset} ${hexOf(fresh)} was ${hexOf(old)}`;
+    return lineText(lines => lines.set(block, offset, fresh, old));
 }
 
 /** @param {Lines} lines */

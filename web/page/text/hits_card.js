@@ -1,8 +1,8 @@
 // The table of hits, with the file and what stands round each.
 
 import { USER_SIZE } from '../../core/module/numbers.js';
-import { contextOf, filesWith } from '../../core/texts/context.js';
-import { button, copyButton, counted, element, fill, keyed, oneStop, shownPaths, term } from '../ui/index.js';
+import { contextOf, contextsOf, filesWith } from '../../core/texts/context.js';
+import { button, copyButton, counted, element, fill, keyed, oneStop, seen, shownPaths, term } from '../ui/index.js';
 import { chosenEncoding, signOf } from './encodings.js';
 
 /** @typedef {import('../app/state.js').App} App */
@@ -24,7 +24,7 @@ const BYTES_AFTER = 48;
 const HITS_AT_ONCE = 25;
 
 /** @param {string[]} characters */
-function shownText(characters) {
+function shownCharacters(characters) {
     return characters.map(signOf).join('');
 }
 
@@ -58,7 +58,7 @@ export class HitsCard {
             element('span', { class: 'small quiet' }, `in ${search.seconds.toFixed(1)} s`),
             search.count > search.hits.length && element('span', { class: 'tag warn' },
                 `only the first ${counted(search.hits.length)} are listed`),
-            copyButton('slim bare', () => this.table(), 'Copy', ' the hits'));
+            copyButton('slim bare', () => this.table(), 'Copy as a table', ' with file and text'));
         const column = (/** @type {string} */ name, /** @type {Child} */ shown) => element('th',
             { scope: 'col', class: name === 'n' ? 'n' : '' }, shown);
         const table = element('table', { class: 'hits' }, element('thead', {}, element('tr', {}, column('n', term('block', 'Block')),
@@ -115,8 +115,8 @@ export class HitsCard {
         const context = this.contexts.get(i);
         if (context === undefined) return [element('span', { class: 'ctx' }, '…')];
         const { before, hit, after, doubt } = context;
-        const parts = [element('em', {}, shownText(before.slice(-CHARACTERS_BEFORE))), element('mark', {}, shownText([...hit])),
-            element('em', {}, shownText(after.slice(0, CHARACTERS_AFTER)))];
+        const parts = [element('em', {}, shownCharacters(before.slice(-CHARACTERS_BEFORE))), element('mark', {}, shownCharacters([...hit])),
+            element('em', {}, shownCharacters(after.slice(0, CHARACTERS_AFTER)))];
         return [element('span', { class: 'ctx' }, ...parts), doubt !== '' && element('span', { class: 'tag warn' }, doubt)];
     }
 
@@ -155,8 +155,17 @@ export class HitsCard {
         this.reader += 1;
     }
 
-    /** The hits as a text. */
-    table() {
-        return this.search === null ? '' : this.search.hits.map(({ block, offset }) => `${block} ${offset}\n`).join('');
+    /** The hits as a table, for a spreadsheet: block, offset, file, and the text round each. */
+    async table() {
+        const { search, app: { image, files } } = this;
+        if (search === null || image === null) return '';
+        const rows = ['block\toffset\tfile\ttext\n'];
+        for await (const group of contextsOf(image, chosenEncoding(this.app), search.hits)) {
+            for (const { hit, context: { before, hit: text, after } } of group) {
+                const paths = files ? filesWith(files.files, hit).map(({ path }) => seen(path)) : [];
+                rows.push(`${hit.block}\t${hit.offset}\t${paths.join(' ')}\t${shownCharacters([...before, ...text, ...after])}\n`);
+            }
+        }
+        return rows.join('');
     }
 }

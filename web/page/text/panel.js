@@ -77,7 +77,7 @@ class TextPanel {
         return element('section', { class: 'card pad stack tight', 'aria-label': 'Find' }, element('div', { class: 'ask' },
             element('div', {}, label('find-text', 'Find this text'), this.field),
                 element('div', {}, label('find-encoding', 'Encoding'), this.choice),
-            button('', () => this.table.click(), 'Load a table (.tbl)…'), button('main', () => this.find(), 'Find')),
+            button('', () => this.table.click(), 'Load a .tbl file…'), button('main', () => this.find(), 'Find')),
         this.hint, this.search.place, this.texts.part);
     }
 

@@ -4,7 +4,7 @@ import { filledUp } from '../../core/script/replace_bytes.js';
 import { encodeText, fillsOf, spaceIn } from '../../core/texts/encoding.js';
 import { bytesOfHex, hexText } from '../../core/texts/hex.js';
 import { button, countOf, counted, element, fill, hexOf, isDisabled, messageOf, notice, said, sayAt } from '../ui/index.js';
-import { setDisabled, visible } from '../ui/index.js';
+import { setDisabled, shownText } from '../ui/index.js';
 import { chosenEncoding } from './encodings.js';
 import { replacingLine } from './hits.js';
 
@@ -48,7 +48,7 @@ export class ReplaceCard {
         this.rest = element('div', { class: 'stack' });
         this.job = element('div', { class: 'stack' });
         this.said = said();
-        this.add = button('main', () => this.addLine(), 'Add to the script');
+        this.add = button('main', () => this.addLine(), 'Replace');
         this.all = button('', () => this.addAll(), '');
         const filling = element('span', { class: 'row small quiet' }, 'Fill with', this.fill, this.other);
         this.card = element('section', { class: 'card', 'aria-label': 'Replace', hidden: true }, this.head,
@@ -56,7 +56,7 @@ export class ReplaceCard {
             element('div', {}, element('label', { for: 'new-text' }, 'New text'), this.input),
             element('div', { class: 'row spread' }, this.length, filling), this.rest,
             element('div', { class: 'row' }, this.add, this.all, button('slim bare', () => owner.skip(), 'Skip ▸')), this.job, this.said,
-            element('p', { class: 'small quiet' }, element('kbd', {}, 'Enter'), ' adds the line and goes to the next hit.')));
+            element('p', { class: 'small quiet' }, element('kbd', {}, 'Enter'), ' replaces and goes to the next hit.')));
     }
 
     /** @param {Target | null} target */
@@ -100,18 +100,18 @@ export class ReplaceCard {
         fill(this.head, element('h2', {}, `Replace: block ${hit.block} offset ${hit.offset}`),
             element('span', { class: 'small quiet' }, `hit ${counted(number)} of ${counted(of)}`));
         fill(this.old, element('span', { class: 'label' }, `Old text: ${countOf(old.length, 'byte')}`),
-            element('p', { class: 'mono old-text' }, visible(chosenEncoding(this.app).text(old))));
+            element('p', { class: 'mono old-text' }, shownText(chosenEncoding(this.app).text(old))));
         const { bytes, fault } = this.fresh();
         const filling = this.filling();
         const filled = filledTo(bytes, old.length, filling);
         const ready = filled !== null && fault === '' && this.input.value !== '';
         const replaces = this.rewritten(target, old) !== '';
-        fill(this.add, replaces ? `Replace line ${line}` : 'Add to the script');
+        fill(this.add, replaces ? `Update line ${line}` : 'Replace');
         this.add.classList.toggle('main', line === 0 || replaces);
         fill(this.length, ...this.lengthWords(bytes, old.length, fault));
         this.input.setAttribute('aria-invalid', String(fault !== '' || bytes.length > old.length));
         fill(this.rest, gauge(bytes, old.length, filling), ...this.advice(bytes, old, filled, fault, line));
-        fill(this.all, `Add for all ${counted(left)} left`);
+        fill(this.all, `Replace all ${counted(left)}`);
         const had = document.activeElement === this.all;
         this.all.hidden = left < 2;
         if (had && left < 2) this.input.focus();
@@ -185,7 +185,7 @@ export class ReplaceCard {
         if (line === '') return this.owner.add(target.hit, filled, target.old);
         this.app.replaceLine(target.line, line);
         this.owner.skip();
-        sayAt(this.said, notice('good', `Line ${target.line} is replaced.`));
+        sayAt(this.said, notice('good', `Line ${target.line} is updated.`));
     }
 
     addAll() {

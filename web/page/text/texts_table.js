@@ -12,7 +12,7 @@ import { encodingsOfRows, leftRowText, replaceList, rowsOfList } from '../../cor
 import { fileReader } from '../open/index.js';
 import { downloadBytes } from '../save/index.js';
 import { announce, button, countOf, counted, element, fill, isCancelled, jobBar, messageParts, nameOf, notice } from '../ui/index.js';
-import { runAt, showFailure, tableCard, visible } from '../ui/index.js';
+import { runAt, showFailure, shownText, tableCard } from '../ui/index.js';
 import { AroundCard, readAround } from './around_card.js';
 import { chosenEncoding, tableSource } from './encodings.js';
 
@@ -202,8 +202,8 @@ export class TextsTable {
         const { number, block, offset, text, fresh } = row;
         const open = element('button', { type: 'button', class: 'fold', click: () => void this.showPlace(image, row) }, number);
         const place = element('td', { class: 'nowrap', 'data-l': 'at' }, block < 0 ? '–' : `${block}, ${offset}`);
-        return element('tr', {}, element('td', {}, open), place, element('td', { class: 'mono small wide' }, visible(text), ' → ',
-            visible(fresh)), element('td', { class: 'wide' }, visible(why)));
+        return element('tr', {}, element('td', {}, open), place, element('td', { class: 'mono small wide' }, shownText(text), ' → ',
+            shownText(fresh)), element('td', { class: 'wide' }, shownText(why)));
     }
 
     /**

@@ -12,13 +12,13 @@ const copying = { label: '', says: '', ends: 0 };
 /**
  * A button that copies a text.
  * @param {string} looks classes, as of other buttons
- * @param {() => string} text
+ * @param {() => string | Promise<string>} text
  * @param {string} label
  * @param {string} [what] it copies, if the label does not say so, for screen readers
  */
 export function copyButton(looks, text, label, what = '') {
     const made = button(looks, async () => {
-        say(`${label}${what}`, await isCopied(text()) ? 'Copied' : 'Not copied');
+        say(`${label}${what}`, await isCopied(await text()) ? 'Copied' : 'Not copied');
     });
     Object.assign(made.dataset, { copies: label, what });
     drawCopying(made);

@@ -22,7 +22,7 @@ export function seen(text) {
  * A text in which spaces at the end and bytes without a sign can be seen.
  * @param {string} text
  */
-export function visible(text) {
+export function shownText(text) {
     return text.replace(/ +$/, spaces => '␣'.repeat(spaces.length)).replace(/[\p{Cc}\uFFFD]/gu, '·');
 }
 
@@ -32,6 +32,14 @@ export function visible(text) {
  */
 export function seenTitle(text) {
     return text.replace(/[\p{Cc}\p{Cs}\p{Zl}\p{Zp}\p{Bidi_Control}]/gu, '·');
+}
+
+/**
+ * A text as the first words of a line.
+ * @param {string} text
+ */
+export function capital(text) {
+    return text.charAt(0).toUpperCase() + text.slice(1);
 }
 
 /**

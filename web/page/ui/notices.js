@@ -4,7 +4,7 @@ import { FAULT, failedBy } from '../../core/faults.js';
 import { copyButton } from './copying.js';
 import { button, byId, element } from './dom.js';
 import { fill } from './fill.js';
-import { nameOf, namesOf, seen, withNames } from './names.js';
+import { capital, nameOf, namesOf, seen, withNames } from './names.js';
 
 /** @typedef {import('./fill.js').Child} Child */
 /** @typedef {import('../app/state.js').App} App */
@@ -107,7 +107,7 @@ const TOGETHER = 'Open them all together.';
 const MOST_MESSAGE = 1000;
 
 /** @param {unknown} error */
-function wordsOf(error) {
+function errorWords(error) {
     const message = error instanceof Error ? error.message : String(error);
     if (failedBy(error, FAULT.MISSING_FILES)) return `${error.facts.sheet} also needs ${(error.facts.names || []).join(', ')}. ${TOGETHER}`;
     if (failedBy(error, FAULT.IMAGE_ENDED)) return 'The file is shorter than it was when it was opened.';
@@ -120,7 +120,7 @@ function wordsOf(error) {
  * @param {unknown} error
  */
 export function messageOf(error) {
-    return seen(wordsOf(error));
+    return seen(errorWords(error));
 }
 
 /**
@@ -129,9 +129,9 @@ export function messageOf(error) {
  * @param {string[]} names
  */
 export function messageParts(error, names) {
-    const text = wordsOf(error);
+    const text = errorWords(error);
     const begins = names.some(name => name !== '' && text.startsWith(name));
-    return withNames(begins ? text : text.charAt(0).toUpperCase() + text.slice(1), names);
+    return withNames(begins ? text : capital(text), names);
 }
 
 /**
@@ -139,8 +139,7 @@ export function messageParts(error, names) {
  * @param {unknown} error
  */
 export function sentence(error) {
-    const text = messageOf(error);
-    return text.charAt(0).toUpperCase() + text.slice(1);
+    return capital(messageOf(error));
 }
 
 /** @param {unknown} error */

@@ -1,7 +1,10 @@
 //! The examples of cd_run.
 
 use cd_patch::Outcome;
-use cd_run::{Ahead, PatchRun, Step, counts_line, outcome_line, script_fault_line};
+use cd_run::{
+    Ahead, PatchRun, Step, counts_line, long_image_line, long_script_line, outcome_line,
+    script_fault_line, text_line,
+};
 use cd_script::{Edit, LentBytes, Patch, ScriptFault, is_patch};
 use cd_sector::{SECTOR_SIZE, Sector, USER_SIZE, encode};
 
@@ -82,5 +85,23 @@ fn lines_of_a_log(rt: HostRuntime) {
 #[test]
 fn the_line_of_a_scripts_fault(rt: HostRuntime) {
     let line = script_fault_line(ScriptFault::Hex(3));
-    assert_eq!(rt; line.as_slice(), b"script line 3: bad hex\n".as_slice());
+    assert!(rt; line.as_slice().starts_with(b"script line 3: "));
+}
+
+#[test]
+fn lines_of_a_run_that_ends_early(rt: HostRuntime) {
+    assert_eq!(rt;
+        text_line(b"no memory\n").as_slice(),
+        b"no memory\n".as_slice()
+    );
+    let line = long_script_line();
+    assert!(rt;
+        line.as_slice()
+            .starts_with(b"cdpatch: the script is longer than ")
+    );
+    let line = long_image_line();
+    assert!(rt;
+        line.as_slice()
+            .starts_with(b"cdpatch: the image has more than ")
+    );
 }

@@ -472,6 +472,7 @@ fn numbers_of_faults(rt: HostRuntime) {
     assert_eq!(rt; ScriptFault::of_number(8, 3), Some(ScriptFault::Hex(3)));
     assert_eq!(rt; ScriptFault::of_number(14, 3), None);
     assert_eq!(rt; ScriptFault::Hex(3).line(), 3);
+    assert_eq!(rt; ScriptFault::Hex(3).text(), ScriptFault::Hex(4).text()); // of any line
 }
 
 #[test]

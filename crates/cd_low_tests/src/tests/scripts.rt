@@ -60,11 +60,14 @@ fn texts(rt: HostRuntime) {
     }
 }
 
+/// The line of the patch after the most.
+const ONE_MORE: u32 = MAX_PATCHES as u32 + 2;
+
 /// What comes after as many patches as there may be, and the number of all, or the fault.
 const MANY: &[(&str, Result<usize, ScriptFault>)] = &[
-    ("", Ok(65_535)),
-    ("set 0 0 41\n", Err(TooMany(65_537))),
-    ("set 0 0 4", Err(Hex(65_537))),
+    ("", Ok(MAX_PATCHES)),
+    ("set 0 0 41\n", Err(TooMany(ONE_MORE))),
+    ("set 0 0 4", Err(Hex(ONE_MORE))),
 ];
 
 #[test]
@@ -79,25 +82,25 @@ fn as_many_patches_as_there_may_be(rt: HostRuntime) -> Result<(), AllocError> {
     Ok(())
 }
 
-/// A fault, and its text.
-const FAULTS: &[(ScriptFault, &str)] = &[
-    (Head(7), "no cdpatch 1 line"),
-    (Verb(7), "unknown verb"),
-    (Words(7), "wrong number of words"),
-    (Number(7), "bad number"),
-    (Hex(7), "bad hex"),
-    (Length(7), "bad length"),
-    (Offset(7), "offset over 2047"),
-    (TooMany(7), "more than 65535 patches"),
-    (NoMemory, "no memory"),
-    (Address(7), "bad address"),
+/// Each fault.
+const FAULTS: &[ScriptFault] = &[
+    Head(7),
+    Verb(7),
+    Words(7),
+    Number(7),
+    Hex(7),
+    Length(7),
+    Offset(7),
+    TooMany(7),
+    NoMemory,
+    Address(7),
 ];
 
 #[test]
 fn texts_of_faults(rt: HostRuntime) -> Result<(), AllocError> {
-    for (fault, text) in FAULTS {
+    for fault in FAULTS {
         let came = format!(in rt.alloc(); "{fault}")?;
-        assert_eq!(rt; came.as_str(), *text);
+        assert_eq!(rt; came.as_str(), fault.text());
     }
     Ok(())
 }

@@ -6,8 +6,6 @@ pub const NO_SCRIPT: &str = "cdpatch: cannot read the script\n";
 
 pub const NO_OUTPUT: &str = "cdpatch: cannot make the output file\n";
 
-pub const LONG_SCRIPT: &str = "cdpatch: the script is longer than 67108864 bytes\n";
-
 pub const LONG_IMAGE: &str = "cdpatch: the image has more than 1000000 sectors\n";
 
 pub const NO_MEMORY: &str = "cdpatch: no memory\n";

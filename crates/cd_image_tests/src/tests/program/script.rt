@@ -1,142 +1,122 @@
 //! The lines of a script's faults, and how its file is read.
 
 use super::commands::ALL;
-use super::messages::{LONG_SCRIPT, NO_SCRIPT};
-use super::{holds, holds_at};
+use super::holds_at;
+use super::messages::NO_SCRIPT;
 use crate::tests::images::{Resuming, repeated};
 use cd_image::{FailAfter, FromRead, Short, Sink, SliceSink, SliceSource, Source, ZeroSource};
+use cd_line::Line;
 use cd_program::{load_script, read_script};
-use cd_script::MAX_TEXT;
+use cd_run::{long_script_line, script_fault_line};
+use cd_script::ScriptFault::{Address, Head, Hex, Length, Number, Offset, TooMany, Verb, Words};
+use cd_script::{MAX_BYTES, MAX_PATCHES, MAX_TEXT, ScriptFault};
 use std::alloc::{AllocError, Global};
 use std::process::Abort;
 
-/// Reads a text as a script: it gives this line, none if it is one, and then the status 2.
-fn expect_line(rt: &impl Abort, alloc: Global, text: &[u8], line: &str) {
+/// The line of a fault, empty for none.
+fn line_of(fault: Option<ScriptFault>) -> Line {
+    match fault {
+        None => Line::new(),
+        Some(fault) => script_fault_line(fault),
+    }
+}
+
+/// Reads a text as a script: it gives the line of this fault and the status 2, none if it is one.
+fn expect_line(rt: &impl Abort, alloc: Global, text: &[u8], fault: Option<ScriptFault>) {
     assert!(rt; text.len() <= MAX_TEXT);
     let mut space = [0; 64];
     let mut log = SliceSink::new(&mut space);
     let status = read_script(alloc, text, &mut log).err();
-    let due = if line.is_empty() { None } else { Some(2) };
+    let due = fault.map(|_| 2);
     let is_due = status == due && log.finished() == due.is_some();
-    holds(rt, is_due && log.written() == line.as_bytes(), line);
+    let is_line = log.written() == line_of(fault).as_slice();
+    assert!(rt; is_due && is_line, "{fault:?}");
 }
 
-/// A text, and its line.
-const TEXTS: &[(&str, &str)] = &[
-    (
-        "cdpatch 1\nset 0 2048 41",
-        "script line 2: offset over 2047\n",
-    ),
-    ("cdpatch 1\nset 0 0 4", "script line 2: bad hex\n"),
-    (
-        "cdpatch 1\nset 0 0 41 was 4142",
-        "script line 2: bad length\n",
-    ),
-    (
-        "cdpatch 1\nset 0 0 41 were 41",
-        "script line 2: wrong number of words\n",
-    ),
-    ("cdpatch 1\nfill 0 0 0 FF", "script line 2: bad length\n"),
-    ("set 0 0 41", "script line 1: no cdpatch 1 line\n"),
-    ("", "script line 1: no cdpatch 1 line\n"),
-    ("cdpatch 1\nset 0 0 41\r", "script line 2: bad hex\n"),
-    ("cdpatch 1\nset 0 0 41\r\r\n", "script line 2: bad hex\n"),
-    ("cdpatch 1\nrebuild 999999999", ""),
-    (
-        "cdpatch 2\naddress 0 00:60:00",
-        "script line 2: bad address\n",
-    ),
-    (
-        "cdpatch 2\naddress 0 00:02:75",
-        "script line 2: bad address\n",
-    ),
-    (
-        "cdpatch 2\naddress 0 0:02:00",
-        "script line 2: bad address\n",
-    ),
-    (
-        "cdpatch 2\naddress x 00:60:00",
-        "script line 2: bad number\n",
-    ),
-    (
-        "cdpatch 2\naddress 0",
-        "script line 2: wrong number of words\n",
-    ),
-    (
-        "cdpatch 1\naddress 0 00:02:00",
-        "script line 2: unknown verb\n",
-    ),
-    ("cdpatch 3", "script line 1: no cdpatch 1 line\n"),
+/// A text, and its fault.
+const TEXTS: &[(&str, Option<ScriptFault>)] = &[
+    ("cdpatch 1\nset 0 2048 41", Some(Offset(2))),
+    ("cdpatch 1\nset 0 0 4", Some(Hex(2))),
+    ("cdpatch 1\nset 0 0 41 was 4142", Some(Length(2))),
+    ("cdpatch 1\nset 0 0 41 were 41", Some(Words(2))),
+    ("cdpatch 1\nfill 0 0 0 FF", Some(Length(2))),
+    ("set 0 0 41", Some(Head(1))),
+    ("", Some(Head(1))),
+    ("cdpatch 1\nset 0 0 41\r", Some(Hex(2))),
+    ("cdpatch 1\nset 0 0 41\r\r\n", Some(Hex(2))),
+    ("cdpatch 1\nrebuild 999999999", None),
+    ("cdpatch 2\naddress 0 00:60:00", Some(Address(2))),
+    ("cdpatch 2\naddress 0 00:02:75", Some(Address(2))),
+    ("cdpatch 2\naddress 0 0:02:00", Some(Address(2))),
+    ("cdpatch 2\naddress x 00:60:00", Some(Number(2))),
+    ("cdpatch 2\naddress 0", Some(Words(2))),
+    ("cdpatch 1\naddress 0 00:02:00", Some(Verb(2))),
+    ("cdpatch 3", Some(Head(1))),
 ];
 
 #[test]
 fn texts_have_their_lines(rt: HostRuntime) {
-    for (text, line) in TEXTS {
-        expect_line(&rt, rt.alloc(), text.as_bytes(), line);
+    for (text, fault) in TEXTS {
+        expect_line(&rt, rt.alloc(), text.as_bytes(), *fault);
     }
 }
 
-/// A text, a number of copies of a part after it, and the line of both.
-const LONG: &[(&str, &str, u32, &str)] = &[
-    ("cdpatch 1\nset 0 0 ", "0", 8192, ""),
-    ("cdpatch 1\nset 0 0 ", "0", 8193, "script line 2: bad hex\n"),
-    (
-        "cdpatch 1\nset 0 0 ",
-        "0",
-        8194,
-        "script line 2: bad length\n",
-    ),
-    (
-        "cdpatch 1\nset",
-        " 0",
-        1_000_000,
-        "script line 2: wrong number of words\n",
-    ),
-    ("cdpatch 1\n", "rebuild 0\n", 65_535, ""),
+/// The most digits of bytes, and the most patches.
+const DIGITS: u32 = 2 * MAX_BYTES as u32;
+
+const PATCHES: u32 = MAX_PATCHES as u32;
+
+/// A text, a number of copies of a part after it, and the fault of both.
+const LONG: &[(&str, &str, u32, Option<ScriptFault>)] = &[
+    ("cdpatch 1\nset 0 0 ", "0", DIGITS, None),
+    ("cdpatch 1\nset 0 0 ", "0", DIGITS + 1, Some(Hex(2))),
+    ("cdpatch 1\nset 0 0 ", "0", DIGITS + 2, Some(Length(2))),
+    ("cdpatch 1\nset", " 0", 1_000_000, Some(Words(2))),
+    ("cdpatch 1\n", "rebuild 0\n", PATCHES, None),
     (
         "cdpatch 1\n",
         "rebuild 0\n",
-        65_536,
-        "script line 65537: more than 65535 patches\n",
+        PATCHES + 1,
+        Some(TooMany(PATCHES + 2)),
     ),
 ];
 
 #[test]
 fn long_texts_have_their_lines(rt: HostRuntime) -> Result<(), AllocError> {
-    for (front, part, count, line) in LONG {
+    for (front, part, count, fault) in LONG {
         let text = repeated(rt.alloc(), front, part, *count, "")?;
-        expect_line(&rt, rt.alloc(), text.as_bytes(), line);
+        expect_line(&rt, rt.alloc(), text.as_bytes(), *fault);
     }
     Ok(())
 }
 
-/// The line of as many of a byte as a text may have.
-fn expect_longest(rt: &impl Abort, alloc: Global, byte: u8, line: &str) -> Result<(), AllocError> {
+/// As many of a byte as a text may have have no head line until this one.
+fn expect_longest(rt: &impl Abort, alloc: Global, byte: u8, line: u32) -> Result<(), AllocError> {
     let text = vec![in alloc; byte; MAX_TEXT]?;
-    expect_line(rt, alloc, &text, line);
+    expect_line(rt, alloc, &text, Some(Head(line)));
     Ok(())
 }
 
 #[test]
 fn the_longest_line(rt: HostRuntime) -> Result<(), AllocError> {
-    expect_longest(&rt, rt.alloc(), 0x00, "script line 1: no cdpatch 1 line\n")
+    expect_longest(&rt, rt.alloc(), 0x00, 1)
 }
 
 #[test]
 fn the_most_lines(rt: HostRuntime) -> Result<(), AllocError> {
-    let line = "script line 67108865: no cdpatch 1 line\n";
-    expect_longest(&rt, rt.alloc(), b'\n', line)
+    expect_longest(&rt, rt.alloc(), b'\n', MAX_TEXT as u32 + 1)
 }
 
 /// A log that passes only a number of bytes: they are the front of the line. The last passes all, and fails to finish.
 #[test]
 fn a_log_that_fails(rt: HostRuntime) {
-    const LINE: &[u8] = b"script line 2: bad hex\n";
-    for count in 0..=LINE.len() {
+    let line = script_fault_line(Hex(2));
+    let line = line.as_slice();
+    for count in 0..=line.len() {
         let mut space = [0; 64];
         let mut log = FailAfter::new(SliceSink::new(&mut space), count as u64);
         let status = read_script(rt.alloc(), b"cdpatch 1\nset 0 0 4\n", &mut log).err();
-        let is_due = log.failures() == 1 && log.get_ref().written() == &LINE[..count];
+        let is_due = log.failures() == 1 && log.get_ref().written() == &line[..count];
         holds_at(&rt, is_due && status == Some(2), count as u64);
     }
 }
@@ -155,46 +135,50 @@ fn files_are_read(rt: HostRuntime) {
     }
 }
 
-/// How many bytes `00` a file has and how many of them can be read; how many are read, or the status, and the line.
-type File = (u64, u64, Result<usize, u8>, &'static str);
+/// How many bytes `00` a file has and how many of them can be read; how many are read, or the status.
+type File = (u64, u64, Result<usize, u8>);
 
+/// Files, of which each that is not read has the line for that.
 const FILES: &[File] = &[
-    (0, ALL, Ok(0), ""),
-    (30_000, 0, Err(2), NO_SCRIPT),
-    (30_000, 16_384, Err(2), NO_SCRIPT),
-    (30_000, 30_000, Err(2), NO_SCRIPT),
+    (0, ALL, Ok(0)),
+    (30_000, 0, Err(2)),
+    (30_000, 16_384, Err(2)),
+    (30_000, 30_000, Err(2)),
 ];
 
-/// Whether bytes are those of a text.
-fn is_text(came: &[u8], due: &str) -> bool {
-    came == due.as_bytes()
-}
-
-fn expect_file(rt: &impl Abort, alloc: Global, row: &File) {
-    let (size, read, due, line) = *row;
+/// A file is read, or gives this line.
+fn expect_file(rt: &impl Abort, alloc: Global, row: &File, line: &[u8]) {
+    let (size, read, due) = *row;
     let mut space = [0; 64];
     let mut log = SliceSink::new(&mut space);
     let mut file = FailAfter::new(ZeroSource::new(size), read);
     let loaded = load_script(alloc, &mut file, &mut log).map(|text| text.len());
     let is_due = loaded == due && log.finished() == due.is_err();
-    holds_at(rt, is_due && is_text(log.written(), line), size);
+    let shown = if due.is_err() { line } else { b"".as_slice() };
+    holds_at(rt, is_due && log.written() == shown, size);
 }
 
 #[test]
 fn files_of_zeros(rt: HostRuntime) {
     for row in FILES {
-        expect_file(&rt, rt.alloc(), row);
+        expect_file(&rt, rt.alloc(), row, NO_SCRIPT.as_bytes());
     }
 }
 
 #[test]
 fn the_longest_file(rt: HostRuntime) {
-    expect_file(&rt, rt.alloc(), &(67_108_864, ALL, Ok(67_108_864), ""));
+    expect_file(&rt, rt.alloc(), &(MAX_TEXT as u64, ALL, Ok(MAX_TEXT)), b"");
 }
 
 #[test]
 fn a_byte_too_many(rt: HostRuntime) {
-    expect_file(&rt, rt.alloc(), &(67_108_865, ALL, Err(2), LONG_SCRIPT));
+    let line = long_script_line();
+    expect_file(
+        &rt,
+        rt.alloc(),
+        &(MAX_TEXT as u64 + 1, ALL, Err(2)),
+        line.as_slice(),
+    );
 }
 
 #[test]

@@ -12,7 +12,7 @@ returns-in-Err-clause-loads g c = record {
     (
       c.in-Err.fault,
       c.in-Err.ensures.answers,
-      rw (← c.load_fault_line.ensures, ← c.as_bytes.ensures.value) assumption,
+      rw (← c.load_fault_line.ensures, ← c.as_slice.ensures.bytes) assumption,
     ),
   );
 }
@@ -30,4 +30,4 @@ returns-in-Err-clause-failed_reads g c =
     (g.I.Source.seen c.read_all.new.file) (g.L.Sink.seen c.args.log.now)
     (g.L.Sink.seen c.print_and_fail.new.out) c.print_and_fail.result c.print_and_fail.ensures.status
     c.in-Err.ensures.answers
-    (rw (← c.load_fault_line.ensures, ← c.as_bytes.ensures.value) c.print_and_fail.ensures.line)
+    (rw (← c.load_fault_line.ensures, ← c.as_slice.ensures.bytes) c.print_and_fail.ensures.line)

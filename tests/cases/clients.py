@@ -1,0 +1,312 @@
+"""Who answers worked and random cases: the model, and clients of the calls, each in a coat of the same form."""
+
+import ctypes
+import importlib
+import io
+import json
+import os
+import re
+import subprocess
+import sys
+import tempfile
+from functools import lru_cache
+from multiprocessing.util import Finalize
+from pathlib import Path
+
+from forms import COMMANDS, Answer, listed
+from image import answer
+from script import ordered, script
+from sector import COLUMNS, DIAGONALS, SIZE, address_of, edc_bytes, parity, power, syndromes, times
+
+TESTS = Path(__file__).resolve().parent.parent
+sys.path.append(str(TESTS / 'library'))
+import by_lines  # noqa: E402
+import commands  # noqa: E402
+
+TIME = 300  # seconds, which no command takes
+# Files stand in memory if they can: a command that makes one waits until it is on the disk.
+ROOM = '/dev/shm' if os.access('/dev/shm', os.W_OK) else None
+
+
+class Model:
+    """The model of tests/model, which answers all."""
+    name = 'the model'
+
+    def answer(self, call, given):
+        if call in COMMANDS:
+            image, base, options, text = given
+            return Answer(*answer(call, image, base, options, text))
+        if call == 'order':
+            return ' '.join(str(patch.line) for patch in ordered(script(given[3]))) or '-'
+        return value(call, given)
+
+
+def value(call, given):
+    """A value of the codes, as a case writes it."""
+    if call == 'changes':
+        return ' '.join(f'{place}:{amount:02X}' for place, amount in parity_changes(*given))
+    if call == 'times':
+        return f'{times(int(given[0], 16), int(given[1], 16)):02X}'
+    if call == 'power':
+        return f'{power(int(given[0])):02X}'
+    if call == 'address':
+        made = address_of(int(given[0]))
+        return made.hex() if made else 'None'
+    made = {'edc': lambda v: edc_bytes(v, 0), 'parity': lambda v: parity(list(v), (0, 0)), 'syndromes': syndromes}
+    return bytes(made[call](listed(given[0]))).hex().upper()
+
+
+def parity_changes(place, amount):
+    """Where the parity of the sector with this one byte of 12 to 2075 differs from the sector of zeros."""
+    made = bytearray(SIZE)
+    made[int(place)] = int(amount, 16)
+    for word in COLUMNS + DIAGONALS:
+        made[word[-2]], made[word[-1]] = parity([made[i] for i in word[:-2]], (0, 0))
+    return [(i, made[i]) for i in range(2076, SIZE) if made[i]]
+
+
+class Commands:
+    """Runs the commands by a method `run` of its class, and so answers what a command can show."""
+
+    def answer(self, call, given):
+        if call in COMMANDS:
+            return self.run(call, *given)
+        if call == 'order':
+            # No patch finds a block in an empty image, and each has its line in the log.
+            printed = self.run('check', *given).text
+            return ' '.join(re.findall(r'^line (\d+): ', printed, re.MULTILINE)) or '-'
+        return None
+
+
+class Coat(Commands):
+    """A client of the calls. A class below has `made`: a command's status, text and new image, or None for that; and methods for the
+    values that it can show."""
+    name = ''
+    values = ()
+
+    def __init__(self, path):
+        self.path = str(Path(path).resolve())
+
+    def answer(self, call, given):
+        return getattr(self, call)(*given) if call in self.values else super().answer(call, given)
+
+    def run(self, command, image, base, options, text):
+        if set(options) - {'--carry'}:
+            return None
+        status, printed, out = self.made(command, image, base, '--carry' in options, text)
+        return Answer(status, printed.decode('utf-8', 'replace'), out)
+
+    def said(self, case):
+        """The status, the text and the new image of a random case."""
+        return self.made(case.command, case.image, case.base, case.carry, case.script)
+
+
+class Library(Coat):
+    """A shared library with the calls of cdpatch.h on images, and for the values that it can show."""
+    name = 'the library'
+    values = ('edc', 'address', 'changes')
+    commands = commands
+
+    def made(self, *given):
+        return self.commands.run(self.path, *given)
+
+    def edc(self, digits):
+        word = commands.opened(self.path).cdpatch_edc(listed(digits), ctypes.c_size_t(len(listed(digits))))
+        return (word % 2 ** 32).to_bytes(4, 'little').hex().upper()
+
+    def address(self, block):
+        made = ctypes.create_string_buffer(3)
+        has_one = commands.opened(self.path).cdpatch_address(ctypes.c_uint32(int(block)), made) & 255
+        return made.raw.hex() if has_one else 'None'
+
+    def changes(self, place, amount):
+        made = ctypes.create_string_buffer(SIZE)
+        made[int(place)] = int(amount, 16)
+        commands.opened(self.path).cdpatch_fill_parity(made)
+        return parity_of(made.raw)
+
+
+class ByLines(Library):
+    """A client that makes the commands of a shared library's calls on lines, patches and sectors."""
+    name = 'the library line by line'
+    commands = by_lines
+
+
+class Python(Coat):
+    """The package for Python in a directory, in memory and, for `apply`, by streams too."""
+    name = 'the package for Python'
+    values = ('edc', 'address', 'changes')
+
+    @property
+    def package(self):
+        os.environ.setdefault('CDPATCH_LIBRARY', str(TESTS.parent / 'library/libcdpatch.so.1'))
+        if self.path not in sys.path:
+            sys.path.append(self.path)
+        return importlib.import_module('cdpatch')
+
+    def made(self, command, image, base, carry, text):
+        try:
+            return self.reported(command, image, base, carry, text)
+        except self.package.Failed as fault:
+            return 2, f'{fault}\n'.encode(), None
+
+    def reported(self, command, image, base, carry, text):
+        package, out = self.package, None
+        if command == 'list':
+            return 0, package.listing(image, base).encode(), None
+        if command == 'audit':
+            report = package.audit(image, base)
+        elif command == 'check':
+            report = package.check(image, text, base, carry)
+        else:
+            out, *report = package.apply(image, text, base, carry)
+            stream = io.BytesIO()
+            if [*package.patch(io.BytesIO(image), text, stream, base, carry), stream.getvalue()] != [*report, out]:
+                raise ValueError('by streams another image or log came')
+        printed, found = report
+        return int(found), printed.encode(), out and bytes(out)
+
+    def edc(self, digits):
+        return self.package.edc(listed(digits)).to_bytes(4, 'little').hex().upper()
+
+    def address(self, block):
+        made = self.package.address(int(block))
+        return made.hex() if made else 'None'
+
+    def changes(self, place, amount):
+        made = bytearray(SIZE)
+        made[int(place)] = int(amount, 16)
+        return parity_of(self.package.with_parity(made))
+
+
+class Served(Coat):
+    """A client in node, which a process serves: `server` is its file, and `path` what that is given."""
+    server = ''
+
+    @property
+    def process(self):
+        return served(str(TESTS / self.server), self.path)
+
+    def ask(self, call, *parts, base=0, carry=False):
+        """The status that a call answers, and its pieces of bytes. Raises if the client complains."""
+        process = self.process
+        question = {'call': call, 'base': base, 'carry': carry, 'sizes': [len(part) for part in parts]}
+        process.stdin.write(json.dumps(question).encode() + b'\n' + b''.join(parts))
+        process.stdin.flush()
+        made = json.loads(process.stdout.readline())
+        pieces = [process.stdout.read(size) for size in made['sizes']]
+        if made['status'] < 0:
+            raise ValueError(pieces[0].decode())
+        return made['status'], pieces
+
+    def made(self, command, image, base, carry, text):
+        status, (printed, *out) = self.ask(command, image, text, base=base, carry=carry)
+        return status, printed, out[0] if out else None
+
+    def edc(self, digits):
+        return self.ask('edc', listed(digits))[1][0].hex().upper()
+
+    def address(self, block):
+        return self.ask('address', base=int(block))[1][0].hex() or 'None'
+
+    def changes(self, place, amount):
+        made = bytearray(SIZE)
+        made[int(place)] = int(amount, 16)
+        return parity_of(self.ask('parity', bytes(made))[1][0])
+
+
+class Module(Served):
+    """A WebAssembly module with the calls of cdpatch.h that take no memory, by its calls on lines, patches and sectors, and by runs."""
+    name = 'the module'
+    server = 'modules/serve.mjs'
+    values = ('edc', 'address', 'changes')
+
+
+class Core(Served):
+    """The core of the page and of cdscript in a directory, over library/cdpatch.wasm."""
+    name = 'the core'
+    server = 'core/serve.mjs'
+    values = ('edc', 'address', 'changes')
+
+
+class Command(Served):
+    """cdscript, called in one process by `main`."""
+    name = 'cdscript'
+    server = 'cdscript/serve.mjs'
+
+
+@lru_cache
+def served(server, path):
+    """The process that serves, one for each process of the tests, which waits for it at its own end: so its time is counted."""
+    environment = {**os.environ, **({'TMPDIR': ROOM} if ROOM else {})}
+    process = subprocess.Popen(['node', server, path], stdin=subprocess.PIPE, stdout=subprocess.PIPE, env=environment)
+    Finalize(process, process.communicate, exitpriority=0)
+    return process
+
+
+def parity_of(sector):
+    """The places of a sector's parity that are not 00, as a case writes them."""
+    return ' '.join(f'{i}:{sector[i]:02X}' for i in range(2076, SIZE) if sector[i])
+
+
+class Program(Commands):
+    """A program with the arguments of cdpatch."""
+    name = 'the program'
+    before = ()
+
+    def __init__(self, path):
+        self.path = str(Path(path).resolve())
+
+    def base_words(self, base):
+        """The option that says the base."""
+        return ['--base', str(base)] * (base > 0)
+
+    def run(self, command, image, base, options, text):
+        words = [command, 'image'] + ['script'] * (command in ('check', 'apply')) + ['out'] * (command == 'apply')
+        status, printed, out = self.ended(words + self.base_words(base) + options, image, text)
+        return Answer(status, printed.decode('utf-8', 'replace'), out)
+
+    def said(self, case):
+        """The status, the text and the new image of a random case."""
+        return self.ended(case.words, case.image, case.script, case.image if case.piped else b'')
+
+    def ended(self, words, image, script, given=b''):
+        """The same of a run in a directory with these files."""
+        with tempfile.TemporaryDirectory(dir=ROOM) as name:
+            directory = Path(name)
+            (directory / 'image').write_bytes(image)
+            (directory / 'script').write_bytes(script)
+            ended = subprocess.run([*self.before, self.path, *words], cwd=directory, input=given, capture_output=True, timeout=TIME,
+                                   check=False)
+            out = (directory / 'out').read_bytes() if (directory / 'out').exists() else None
+        return ended.returncode, ended.stdout + ended.stderr, out
+
+
+class CommandProcess(Program):
+    """cdscript as a process. It is told each base, since it would rather believe the addresses than 0."""
+    name = 'cdscript as a process'
+    before = ('node',)
+
+    def base_words(self, base):
+        return ['--base', str(base)]
+
+    def said(self, case):
+        words = case.words or [case.command, '-']
+        words = words if '--base' in words else [*words, *self.base_words(case.base)]
+        return self.ended(words, case.image, case.script, case.image if case.piped else b'')
+
+
+CLIENTS = {'program': Program, 'library': Library, 'by-lines': ByLines, 'python': Python, 'module': Module, 'core': Core,
+           'cdscript': Command, 'cdscript-process': CommandProcess}
+
+
+def add_clients(words):
+    """The arguments that name clients, of a parser."""
+    for name, made in CLIENTS.items():
+        words.add_argument(f'--{name}', metavar='PATH', help=f'ask {made.name} there')
+
+
+def clients_of(given):
+    """The clients that arguments name."""
+    named = [(made, getattr(given, name.replace('-', '_'))) for name, made in CLIENTS.items()]
+    return [made(path) for made, path in named if path]

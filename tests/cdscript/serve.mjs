@@ -1,0 +1,18 @@
+// Answers questions by cdscript, called by `main` in this process: `node serve.mjs COMMAND`.
+
+import { rmSync } from 'node:fs';
+import { join } from 'node:path';
+import { serve } from '../lib/serve.mjs';
+
+process.env.COMMAND = process.argv[2];
+const { call: called, inDirectory, read, write } = await import('./common.mjs');
+
+await inDirectory(room => serve(async ({ call, base, carry }, [image, script]) => {
+    const [imageName, scriptName, outName] = ['image', 'script', 'out'].map(name => join(room, name));
+    write(room, { image, script });
+    rmSync(outName, { force: true });
+    const options = ['--base', String(base), ...carry ? ['--carry'] : []];
+    const names = { check: [scriptName], apply: [scriptName, outName] }[call] ?? [];
+    const { status, bytes, errors } = await called(room, [call, ...options, imageName, ...names]);
+    return { status, text: Buffer.concat([bytes, Buffer.from(errors)]), out: read(room, 'out') };
+}));

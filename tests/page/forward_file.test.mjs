@@ -1,0 +1,73 @@
+// A file that is read forward: which bytes come, and how often the file is cut for them.
+
+import assert from 'node:assert/strict';
+import { createHash } from 'node:crypto';
+import { test } from 'node:test';
+import { core, page, summing } from './page.mjs';
+
+const { forwardOf } = await core('bytes.js');
+const { sumsOf } = await page('app/hashing.js');
+const { fileReader } = await page('open/file_reader.js');
+
+const MiB = 2 ** 20;
+const bytes = Buffer.alloc(40 * MiB + 7, Uint8Array.from({ length: 65537 }, (_, i) => i ^ i >> 9));
+
+/** A file that notes how many bytes each cut of it has. */
+function fileOf() {
+    const file = Object.assign(new Blob([bytes]), { name: 'game.bin', cuts: [] });
+    const slice = file.slice.bind(file);
+    file.slice = (...given) => {
+        const part = slice(...given);
+        file.cuts.push(part.size);
+        return part;
+    };
+    return file;
+}
+
+/** Reads places of a file in turn, by more reads if the first are short, and compares them. Returns what was cut of it. */
+async function cutsFor(places) {
+    const file = fileOf();
+    const reader = forwardOf(fileReader(file));
+    for (const [at, length] of places) {
+        const got = [await reader.read(at, length)];
+        for (let done = got[0].length; done < Math.min(length, bytes.length - at); done += got[got.length - 1].length) {
+            got.push(await reader.read(at + done, length - done));
+            assert.ok(got[got.length - 1].length > 0, `none at ${at + done}`);
+        }
+        assert.ok(Buffer.concat(got).equals(bytes.subarray(at, at + length)), `at ${at}`);
+    }
+    return file.cuts;
+}
+
+test('reads in a row are few slices', async () => {
+    const row = Array.from({ length: 41 }, (_, i) => [i * MiB, MiB]);
+    assert.deepEqual(await cutsFor(row), [MiB, 32 * MiB, 7 * MiB + 7]);
+    const cut = 20000;
+    assert.deepEqual(await cutsFor(row.slice(0, 40).map(([at, length]) => [at + cut, length - cut])), [MiB - cut, 32 * MiB, 7 * MiB + 7 - cut]);
+    assert.deepEqual(await cutsFor([[0, 5], [5, 34 * MiB], [5 + 34 * MiB, 10 * MiB]]), [5, 34 * MiB, 6 * MiB + 2]);
+});
+
+test('a read that goes on after a slice is one more', async () => {
+    assert.deepEqual(await cutsFor([[0, 7], [7, 9], [32 * MiB, 100], [33 * MiB, 7 * MiB], [40 * MiB, 9], [40 * MiB + 7, 9]]),
+        [7, 32 * MiB, 8 * MiB, 0]);
+});
+
+test('of reads that are far apart, or go back, no more is read than is asked for', async () => {
+    const places = [[0, 9], [5 * MiB, 9], [10 * MiB, 9], [3, 9], [2 * MiB, 9], [2, 5]];
+    assert.deepEqual(await cutsFor(places), places.map(([, length]) => length));
+});
+
+test('a file that is gone says so, whichever way it is read', async () => {
+    const file = fileOf();
+    const reader = forwardOf(fileReader(file));
+    await reader.read(0, 5);
+    file.slice = () => { throw new DOMException('gone', 'NotFoundError'); };
+    for (const at of [5, 9 * MiB]) await assert.rejects(reader.read(at, 5), { message: /game.bin\. Was it moved/ });
+});
+
+test('hashes are those of a file that is read in few slices', async () => {
+    const file = fileOf();
+    const { sha1 } = await sumsOf(summing, fileReader(file), { aborted: false }, () => {});
+    assert.equal(sha1, createHash('sha1').update(bytes).digest('hex'));
+    assert.ok(file.cuts.length <= 4, `${file.cuts}`);
+});

@@ -1,0 +1,473 @@
+"""The states of the page: how each is reached. The first line of a method says what is seen there; docs/DESIGN.md has these lines."""
+
+from collections.abc import Callable
+from pathlib import Path
+
+import common
+import discs
+from pages import PICKER, PageTest, applied, patcher
+from selenium.webdriver.common.keys import Keys
+
+NAME = 'Hoshizora Tantei (Japan).bin'
+FAULTY = ('cdpatch 1\n# Starlit Detective: English, version 1.2\n# title screen\nset {0} 26 537461727420202 was 8358835E815B8367\n'
+          'set {0} 35 436F6E74 was 82C282C3\nset {0} 2105 5365742E was 90DD92E8\n# saving\nreplace {0} 85 5361766520\nset {0} 102 5965 was 82CD\n')
+SENTENCES = ['ゲームをはじめからスタートします。', 'セーブしますか？それともつづけますか？', 'ドアは鍵がかかっている。だれかいるのか？', '星空探偵、登場。事件はまだ終わらない。']
+
+# Reads of more than a megabyte take so long, and workers can read nothing, so that the page reads for them.
+SLOW = '''globalThis.slow = 4000;
+const post = Worker.prototype.postMessage;
+Worker.prototype.postMessage = function (message, ...given) {
+    const pieces = message.pieces?.map(piece => piece.file ? { ...piece, file: new Blob() } : piece);
+    post.call(this, pieces ? { ...message, pieces } : message, ...given);
+};
+const real = Blob.prototype.arrayBuffer;
+Blob.prototype.arrayBuffer = async function () {
+    globalThis.reads = (globalThis.reads || 0) + Number(this.size > 1e6);
+    if (this.size > 1e6 && globalThis.reads > 12) await new Promise(done => setTimeout(done, globalThis.slow));
+    return real.call(this);
+};'''
+
+
+def told(times: int = 6) -> bytes:
+    """An image of a volume with so many times four sentences, each with a zero byte at its end, which are told from other bytes."""
+    data = b'\0'.join(text.encode('cp932') for text in SENTENCES * times) + b'\0'
+    return common.image_of(common.iso_of({'DATA/MSG00.DAT': data, 'README.TXT': b'Start of the game\n' * 20}))
+
+
+def with_new(table: str, fresh: dict[int, str]) -> str:
+    """A table of texts with new ones in the rows of these numbers, from 2."""
+    rows = [line.split('\t') for line in table.splitlines()]
+    for number, text in fresh.items():
+        rows[number - 1][-1] = text
+    return ''.join('\t'.join(row) + '\n' for row in rows)
+
+
+def dat_of(*dumps: tuple[str, bytes, str]) -> str:
+    """A list of known dumps, each with its name, its bytes and more attributes."""
+    rows = ''.join(f'<game name="x"><rom name="{name}" size="{len(data)}" sha1="{common.sha1(data).upper()}" {more}/></game>' for name, data, more in dumps)
+    return f'<?xml version="1.0"?><!-- a list --><!DOCTYPE datafile SYSTEM "x.dtd"><datafile>{rows}</datafile>'
+
+
+def another() -> bytes:
+    """Another release: as many blocks as the game, and other texts."""
+    return common.image_of([bytes([i % 256]) * 2048 for i in range(len(discs.game()) // common.SECTOR_SIZE)])
+
+
+class States(PageTest):
+    """Each method `to_NAME` reaches the state of that name, from the page as it is opened."""
+    stub = PICKER
+
+    def place(self, **files: bytes | str) -> dict[str, Path]:
+        """Files in a new directory; the image `game` has the name of a dump."""
+        paths = discs.written(**files)
+        if 'game' in paths:
+            paths['game'] = paths['game'].rename(paths['game'].with_name(NAME))
+        return paths
+
+    def sheet(self, files: dict[str, Path]) -> Path:
+        """The cue sheet of the image `game`."""
+        cue = files['game'].with_suffix('.cue')
+        cue.write_text(f'FILE "{NAME}" BINARY\n  TRACK 01 MODE1/2352\n    INDEX 01 00:00:00\n')
+        return cue
+
+    def begin(self, image: bytes, script: str = '') -> dict[str, Path]:
+        """Opens an image, and a script."""
+        files = self.place(game=image, english=script or '\n')
+        self.open_image(files['game'])
+        if script:
+            self.open_script(files['english'])
+            self.browser.wait('#panel-script .side .say')
+        return files
+
+    # ---- the first screen
+
+    def to_start(self) -> None:
+        """Three jobs, and under them the place for files."""
+
+    def to_start_job(self) -> None:
+        """A job was pressed: which files it needs stands where they are dropped."""
+        self.browser.run('HTMLInputElement.prototype.click = function () {}')
+        self.press('Play a patch')
+        self.browser.wait('#wanted', 'together with its patch')
+
+    def to_start_refused(self) -> None:
+        """A file that cannot be opened: what it is, and what to do about it."""
+        path = common.folder('chd') / 'Hoshizora Tantei.chd'
+        path.write_bytes(b'MComprHD' + bytes(5000))
+        self.open_files(path)
+        self.browser.wait('#start-message', 'A compressed image (CHD)')
+
+    def to_start_list(self) -> None:
+        """A list of known dumps was opened."""
+        self.open_files(self.dumps())
+        self.browser.wait('#start-message .say.good', 'known dump')
+
+    def dumps(self) -> Path:
+        path = common.folder('dat') / 'Hoshizora.dat'
+        path.write_text(dat_of((NAME, discs.game(), '')))
+        return path
+
+    # ---- a disc
+
+    def to_disc(self) -> None:
+        """The example disc, all read: the verdict, the map, and what was found."""
+        self.browser.click('#open-example')
+        self.wait_for_hash()
+        self.browser.wait('#panel-disc')
+
+    def to_disc_reading(self) -> None:
+        """A disc while it is read: hatched where it was not read yet."""
+        self.browser.run(SLOW)
+        self.open_files(self.place(game=discs.scratches())['game'])
+        self.browser.wait('#disc-line .lead', 'Reading the disc')
+        self.browser.wait('.legend')
+
+    def to_disc_damaged(self) -> None:
+        """A damaged disc: its places, one of them open, and a damaged sector."""
+        self.begin(discs.scratches())
+        self.press('Next finding')
+        self.browser.wait('#sector-title', 'block')
+        self.browser.click('#findings .fold')
+
+    def to_disc_runs(self) -> None:
+        """The runs of sectors of one kind."""
+        self.begin(discs.scratched())
+        self.browser.click('#findings [data-tab=runs]')
+
+    def to_disc_text(self) -> None:
+        """The same as the program prints it."""
+        self.begin(discs.scratched())
+        self.browser.click('#findings [data-tab=text]')
+
+    def to_disc_files(self) -> None:
+        """The files of the disc; one is chosen, and its sector open."""
+        self.begin(discs.game())
+        self.browser.click('#findings [data-tab=files]')
+        self.press('/DATA/MSG00.DAT')
+        self.browser.wait('#findings .row b', '/DATA/MSG00.DAT')
+        self.browser.wait('#sector-title', 'block')
+
+    def to_disc_replaced(self) -> None:
+        """A file was replaced by one of another length: how many lines that are."""
+        self.to_disc_files()
+        path = common.folder('fresh') / 'fresh.dat'
+        path.write_bytes(discs.messages()[:1500])
+        self.browser.give('#findings input[type=file]', [path])
+        self.browser.wait('#findings .say.good', 'added to the script.')
+
+    def to_disc_tracks(self) -> None:
+        """A disc of three tracks, of which one is not here."""
+        files = self.place(game=discs.game(), t2=bytes(2352 * 300))
+        sheet = files['t2'].with_name('Hoshizora Tantei (Japan).cue')
+        kinds = ((NAME, 'MODE1/2352'), ('t2.bin', 'AUDIO'), ('Hoshizora Tantei (Japan) (Track 3).bin', 'AUDIO'))
+        sheet.write_text(''.join(f'FILE "{name}" BINARY\n  TRACK 0{i + 1} {kind}\n    INDEX 01 00:00:00\n' for i, (name, kind) in enumerate(kinds)))
+        self.open_files(sheet, files['game'], files['t2'])
+        self.wait_for_hash()
+        self.browser.wait('#disc-line', '2 audio tracks')
+
+    def to_disc_known(self) -> None:
+        """A dump that a list names as verified."""
+        self.begin(discs.game())
+        self.open_files(self.dumps())
+        self.browser.wait('#disc-line .tag.good', 'verified')
+
+    # ---- a second image
+
+    def pair(self, first: bytes, second: bytes, answer: str = '') -> None:
+        """Opens two images, and answers what is asked of the second one."""
+        files = self.begin(first)
+        other = files['game'].with_name('Hoshizora Tantei (Japan) (Alt).bin')
+        other.write_bytes(second)
+        self.open_files(other)
+        self.browser.wait('#sheet', 'Cancel')
+        if answer:
+            self.browser.answer(answer)
+
+    def to_second_asked(self) -> None:
+        """A second image: what it is for is asked before it is read."""
+        self.pair(discs.scratched(), discs.game())
+
+    def to_second_longer(self) -> None:
+        """The same of an image of another length."""
+        self.pair(discs.scratched(), discs.game() + bytes(2352))
+
+    def to_second_repair(self) -> None:
+        """What a repair would take, on the map too, and what it leaves."""
+        self.pair(discs.scratches(), discs.scratches(other=True), 'Repair')
+        self.browser.wait('.tally', 'can be repaired')
+        self.browser.wait('[aria-label^="Cannot be repaired"]')
+
+    def to_second_saved(self) -> None:
+        """A repaired image was saved."""
+        self.pair(discs.scratched(), discs.game(), 'Repair')
+        self.press('Save repaired image')
+        self.browser.wait('#second-body .say.good', 'Saved: ')
+        self.browser.wait('#repaired-sha1', common.sha1(discs.game()))
+
+    def to_second_compare(self) -> None:
+        """Where two images differ, by fields."""
+        self.pair(discs.scratched(), discs.game(), 'Compare')
+        self.browser.wait('#second-body .tally', 'differs')
+
+    def to_second_script(self) -> None:
+        """Of two images that differ in damage no script is made before it is said that damage is left out."""
+        self.pair(discs.scratches(), discs.scratches(other=True), 'Compare')
+        self.browser.wait('#second-body .tally', 'differ')
+        self.press('Save the script')
+        self.browser.wait('#second-body .say.bad')
+
+    def to_close_asked(self) -> None:
+        """An image is closed while work would be lost."""
+        self.begin(discs.game())
+        self.browser.click('#tab-script')
+        self.browser.click('.editor textarea')
+        self.browser.press(Keys.ARROW_DOWN, 'rebuild 1')
+        self.press('Close')
+        self.browser.wait('#sheet', 'Close it anyway')
+
+    # ---- the script
+
+    def to_script_none(self) -> None:
+        """No patch yet: three ways to the first one."""
+        self.begin(discs.game())
+        self.browser.click('#tab-script')
+
+    def to_script_alone(self) -> None:
+        """A script without its image: the button that opens it."""
+        self.open_script(self.place(english=discs.script())['english'])
+        self.browser.wait('#panel-script .side', 'Open the image')
+
+    def to_script_fits(self) -> None:
+        """An image and its script were dropped together: all fit, and the button that saves."""
+        files = self.place(game=discs.game(), english=discs.script())
+        self.open_files(files['game'], files['english'])
+        self.browser.wait('#panel-script .say.good', 'all fit')
+        self.wait_for_hash()
+
+    def to_script_refused(self) -> None:
+        """Some changes do not fit: which, why, and where to go."""
+        self.begin(discs.scratched(), discs.refused())
+        self.browser.wait('.tally', 'not fit')
+        self.press('Go to line')
+        self.browser.wait('.explain', 'It does not fit')
+
+    def to_script_saving(self) -> None:
+        """The patched image is being saved."""
+        self.begin(discs.scratched(), discs.refused())
+        self.browser.run('chosen.hold()')
+        self.press('Apply and save')
+        self.browser.wait('#panel-script .progress')
+        common.waited(lambda: self.browser.run('return chosen.begun > 0'), 'nothing is written')
+
+    def to_script_saved(self) -> None:
+        """It was saved, and its hashes are known."""
+        self.begin(discs.scratched(), discs.refused())
+        self.press('Apply and save')
+        self.browser.wait('#panel-script .say.warn', 'Saved: ')
+        self.browser.wait('#saved-sha1', common.sha1(self.chosen_bytes()))
+
+    def to_script_cue(self) -> None:
+        """An image of a cue sheet was saved: the cue sheet for the emulator is next."""
+        files = self.place(game=discs.game(), english=discs.script())
+        self.open_files(self.sheet(files), files['game'], files['english'])
+        self.browser.wait('#panel-script .say.good', 'all fit')
+        self.wait_for_hash()
+        self.press('Apply and save')
+        self.browser.wait('#panel-script .side', 'Your emulator opens a cue sheet')
+        self.browser.wait('#saved-sha1', common.sha1(self.chosen_bytes()))
+
+    def to_script_undo(self) -> None:
+        """The undo script was saved: that is said in the card of the script."""
+        self.begin(discs.game(), discs.script())
+        self.press('Undo script')
+        self.browser.wait('[aria-label=Script] .say.good', 'Saved: ')
+
+    def to_script_faults(self) -> None:
+        """A script with faults: under each faulty line what to do, and a button that does it."""
+        self.begin(discs.game(), FAULTY.format(discs.first_block()))
+
+    def marked(self, data: bytes, says: str) -> None:
+        files = self.begin(discs.game())
+        path = files['game'].with_name('english.txt')
+        path.write_bytes(data)
+        self.open_files(path)
+        self.browser.wait('#panel-script .editor, #messages', says)
+
+    def to_script_head(self) -> None:
+        """A script without its head line, which one press adds."""
+        self.marked(discs.script().replace('cdpatch 1\n', '').encode(), 'Add it')
+
+    def to_script_version(self) -> None:
+        """A script of an unknown version."""
+        self.marked(discs.script().replace('cdpatch 1', 'cdpatch 3').encode(), 'Make it cdpatch 2')
+
+    def to_script_marked(self) -> None:
+        """A script in UTF-16: it was read, and one press saves it as UTF-8."""
+        self.marked(discs.script().encode('utf-16'), 'Save it as plain UTF-8')
+
+    # ---- texts
+
+    def search(self, text: str) -> None:
+        self.browser.click('#tab-text')
+        self.browser.click('#find-text')
+        self.browser.press(text, Keys.ENTER)
+
+    def to_text(self) -> None:
+        """Before a search: what to type, and the table of all texts."""
+        self.begin(discs.game())
+        self.browser.click('#tab-text')
+
+    def to_text_hits(self) -> None:
+        """The hits of a text, one of them to be replaced, and the bytes around it."""
+        self.begin(discs.game(), discs.script())
+        self.search('スタート')
+        common.waited(lambda: self.browser.run('return document.activeElement.id === "new-text"'), 'the new text has no focus')
+        self.browser.press('Start')
+
+    def to_text_long(self) -> None:
+        """A new text that is too long: by how much."""
+        self.to_text_hits()
+        self.browser.press(' game')
+
+    def to_text_added(self) -> None:
+        """All hits were replaced: that is said beside the button."""
+        self.begin(discs.many_texts())
+        self.search('スタート')
+        common.waited(lambda: self.browser.run('return document.activeElement.id === "new-text"'), 'the new text has no focus')
+        self.browser.press('Start')
+        self.press('Replace all')
+        self.browser.wait('[aria-label=Replace] .say.good', '400 lines added to the script.')
+
+    def to_text_none(self) -> None:
+        """No hit: what was searched, and what else it may be."""
+        self.begin(discs.game())
+        self.search('存在しない')
+        self.browser.wait('#panel-text .say', 'No hit')
+
+    def table(self, fresh: dict[int, str]) -> None:
+        """Imports the table of all texts, with new ones in rows of these numbers."""
+        image = self.begin(told())['game']
+        self.browser.click('#tab-text')
+        path = image.with_name('texts.tsv')
+        path.write_text(with_new(common.cdscript_prints('texts', image), fresh))
+        self.browser.give('#panel-text input[accept^=".tsv"]', [path])
+
+    def to_texts_saved(self) -> None:
+        """All texts of the disc were saved as a table."""
+        self.begin(told())
+        self.browser.click('#tab-text')
+        self.press('Export texts')
+        self.browser.wait('#panel-text .say.good', 'Saved: ')
+
+    def to_texts_taken(self) -> None:
+        """A table was imported, and all of it fits."""
+        self.table({2: 'The game starts.', 3: 'Save?', 5: 'The end.'})
+        self.browser.wait('#panel-text .say.good', 'All 3 new texts fit.')
+
+    def to_texts_left(self) -> None:
+        """A table with rows that do not fit: each with its place and why."""
+        self.table({2: 'The game starts.', 3: 'much too long ' * 9, 4: 'also too long ' * 9})
+        self.browser.wait('#panel-text h2', '2 rows do not fit')
+        self.press('3')
+        self.browser.wait('#panel-text .hex.around')
+
+    # ---- publishing, and the page of a patcher
+
+    def to_publish(self) -> None:
+        """What is ready before a patcher is saved, and what is not."""
+        self.begin(discs.game(), discs.script())
+        self.browser.click('#tab-publish')
+        self.browser.type('#patcher-title', 'Starlit Detective in English')
+        self.browser.type('#patcher-author', 'Team Comet, version 1.2')
+        self.browser.type('#patcher-note', 'All menus and chapters 1 to 3 are in English.\nWorks with the Japanese first print (two rings on the label).')
+        self.browser.wait('#panel-publish', 'all fit')
+
+    def play(self, image: bytes | None, words: str = '', script: str = '') -> None:
+        """Opens a patcher for the game, and gives it an image with its cue sheet."""
+        files = self.place(game=discs.game(), english=script or discs.script())
+        made = applied(files['game'], files['english'])[2]
+        cue = self.sheet(files)
+        path = files['game'].with_name('starlit.html')
+        path.write_bytes(patcher(discs.game(), made, script or discs.script(), author='Team Comet · version 1.2',
+                                 note='All menus and chapters 1 to 3 are in English. Chapter 4 follows in spring.\n\nYou need the Japanese first '
+                                      'print (two rings on the label). Start the game as usual; your saved games keep working.'))
+        self.browser.open(path)
+        self.browser.wait('#player h1')
+        if image is None:
+            return
+        files['game'].write_bytes(image)
+        self.browser.give('#player-files', [cue, files['game']])
+        self.browser.wait('#verdict', words)
+
+    def to_player(self) -> None:
+        """A patcher, as its player finds it."""
+        self.play(None)
+
+    def to_player_right(self) -> None:
+        """The right disc."""
+        self.play(discs.game(), 'right disc')
+
+    def to_player_fits(self) -> None:
+        """Another dump, which the patch fits."""
+        self.play(common.damaged(discs.game(), 150), 'but the patch fits', discs.named())
+
+    def to_player_unknown(self) -> None:
+        """Another dump, of which nothing shows whether the patch fits."""
+        self.play(common.damaged(discs.game(), 150), 'not the author’s disc')
+
+    def to_player_other(self) -> None:
+        """Another disc, which the patch does not fit."""
+        self.play(another(), 'does not fit')
+
+    def to_player_patched(self) -> None:
+        """A disc that is patched already."""
+        files = self.place(game=discs.game(), english=discs.script())
+        self.play(applied(files['game'], files['english'])[2], 'already')
+
+    def to_player_saving(self) -> None:
+        """The patched image is being saved."""
+        self.to_player_right()
+        self.browser.run('chosen.hold()')
+        self.press('Patch and save')
+        self.browser.wait('#player .progress')
+        common.waited(lambda: self.browser.run('return chosen.begun > 0'), 'nothing is written')
+
+    def to_player_done(self) -> None:
+        """It was saved, and the cue sheet is the last step."""
+        self.to_player_right()
+        self.press('Patch and save')
+        self.browser.wait('#saved', 'Saved:')
+
+    # ---- notes
+
+    def to_note_word(self) -> None:
+        """The note of a word, beside it."""
+        self.begin(discs.game(), discs.script())
+        self.browser.click('#tab-disc')
+        self.browser.click('#panel-disc .term')
+        self.browser.wait('#term-block')
+
+    def note(self, name: str) -> None:
+        self.browser.run(f"document.querySelector('[popovertarget={name}]').click()")
+        self.browser.wait(f'#{name}')
+
+    def to_note_keys(self) -> None:
+        """All keys."""
+        self.note('keys')
+
+    def to_note_words(self) -> None:
+        """All words that have a note."""
+        self.note('words')
+
+    def to_note_about(self) -> None:
+        """About: what this page is, and its hash."""
+        self.note('about')
+
+    def to_note_proved(self) -> None:
+        """What is proved, and what is not."""
+        self.note('proved')
+
+
+def all_states() -> dict[str, Callable[[States], None]]:
+    """Each state by its name, in the order of the page."""
+    return {name.removeprefix('to_'): method for name, method in vars(States).items() if name.startswith('to_')}

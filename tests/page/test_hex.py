@@ -1,0 +1,94 @@
+"""The bytes of a sector: what is selected, copied and pasted, texts that are typed, and how offsets are shown."""
+
+import chromium
+import discs
+from common import SECTOR_SIZE, waited
+from pages import PageTest
+from selenium.webdriver.common.action_chains import ActionChains
+from selenium.webdriver.common.keys import Keys
+
+CLIPBOARD = 'navigator.clipboard.writeText = async text => { globalThis.copied = text; };'
+
+
+class Hex(PageTest):
+    def sector_of(self, block: int, image: bytes) -> chromium.Chromium:
+        """Opens a sector of an image, whose bytes get the focus."""
+        browser = self.browser
+        self.open_image(discs.written(game=image)['game'])
+        browser.find('#map').send_keys('g')
+        browser.type('#go-to', f'{block}\n')
+        browser.wait('#sector-title', f'block {block}')
+        browser.find('#map').send_keys(Keys.ENTER)
+        waited(lambda: self.browser.run("return document.activeElement === document.querySelector('.hex')"), 'no focus in the sector')
+        return browser
+
+    def selected(self) -> list[int]:
+        return list(self.browser.run("return [...document.querySelectorAll('.hex i.sel')].map(it => Number(it.dataset.at) - 16)"))
+
+    def test_bytes_are_selected_and_copied_as_hex_and_as_text(self) -> None:
+        browser = self.sector_of(discs.first_block(), discs.game())
+        start = discs.START.hex(' ').upper()
+        for _ in range(7):
+            browser.press(Keys.ARROW_RIGHT, held=Keys.SHIFT)
+        self.assertEqual(self.selected(), [*range(8)])
+        browser.wait('#panel-disc .foot', '8 bytes selected, from offset 0 on')
+        browser.run(CLIPBOARD)
+        for label, text in (('Copy as hex', start), ('Copy as text', 'スタート')):
+            browser.run("[...document.querySelectorAll('.foot button')].find(it => it.innerText === arguments[0]).click()", label)
+            waited(lambda: browser.run('return globalThis.copied') == text, f'{label} copies something else')
+        self.assertEqual(self.copied(), start)
+        browser.press('t')
+        self.assertEqual(self.copied(), 'スタート')
+        browser.press(Keys.ESCAPE)
+        self.drag(4, 2)
+        self.assertEqual(self.selected(), [2, 3, 4])
+        browser.press('a', held=Keys.CONTROL)
+        self.assertEqual(self.selected(), [*range(2048)])
+
+    def copied(self) -> str:
+        """What Ctrl+C copies."""
+        script = '''const data = new DataTransfer();
+            document.activeElement.dispatchEvent(new ClipboardEvent('copy', { clipboardData: data, cancelable: true, bubbles: true }));
+            return data.getData('text/plain')'''
+        return str(self.browser.run(script))
+
+    def paste(self, text: str) -> None:
+        script = '''const data = new DataTransfer();
+            data.setData('text/plain', arguments[0]);
+            document.activeElement.dispatchEvent(new ClipboardEvent('paste', { clipboardData: data, cancelable: true, bubbles: true }))'''
+        self.browser.run(script, text)
+
+    def drag(self, first: int, last: int) -> None:
+        """Selects from one user byte to another with the mouse."""
+        cells = [self.browser.find(f'#byte-{16 + at}') for at in (first, last)]
+        ActionChains(self.browser.driver).click_and_hold(cells[0]).move_to_element(cells[1]).release().perform()
+
+    def test_bytes_are_pasted_and_texts_are_typed(self) -> None:
+        image = discs.game()
+        browser = self.sector_of(60, image)
+        old = image[60 * SECTOR_SIZE + 16:]
+        self.paste('c0 ff EE')
+        browser.press('t', 'O', 'k', '!')
+        self.paste('スタ')
+        line = f'set 60 0 C0FFEE4F6B218358835E was {old[:10].hex().upper()}'
+        browser.wait('#announced', f'In the script: {line}')
+        browser.press(Keys.ESCAPE)
+        self.paste('Ok')
+        browser.wait('#panel-disc .foot', 'These are no pairs of hexadecimal digits.')
+        self.paste('00' * 2039)
+        browser.wait('#panel-disc .foot', 'These are 2,039 bytes, and only 2038 follow here')
+        browser.press('t')
+        self.paste('é')
+        browser.wait('#panel-disc .foot .bad-ink', 'é')
+        browser.click('#tab-script')
+        self.assertEqual(self.script_text(), f'cdpatch 1\n{line}\n')
+
+    def test_offsets_are_shown_in_hexadecimal_too(self) -> None:
+        browser = self.sector_of(60, discs.game())
+        browser.press(Keys.ARROW_DOWN, Keys.ARROW_DOWN, Keys.ARROW_RIGHT)
+        browser.wait('#panel-disc .foot', 'offset 33')
+        browser.wait('#panel-disc .foot', '0x21')
+        rows = "return [...document.querySelectorAll('.hex .line .o')].slice(1, 5).map(it => it.innerText)"
+        self.assertEqual(browser.run(rows), ['0', '16', '32', '48'])
+        browser.run("[...document.querySelectorAll('#panel-disc header button')].find(it => it.innerText.startsWith('Offsets')).click()")
+        self.assertEqual(browser.run(rows), ['000', '010', '020', '030'])

@@ -1,0 +1,127 @@
+"""Each state of the page (tests/page/states.py), as everyone meets it: at three widths it ends where its footer ends and nothing is cut; in
+the accessibility tree each control has a name; a list is one stop of the Tab key; what has the focus is seen, with its ring; and no text
+is too faint in either scheme.
+
+With PICTURES, a directory, each state is drawn there at three widths in both schemes.
+"""
+
+import os
+from collections.abc import Callable
+from pathlib import Path
+from typing import Any
+
+from chromium import WIDTHS
+from selenium.webdriver.common.keys import Keys
+from states import States, all_states
+
+# How many stops of the Tab key a state has at most, the bar and the footer among them, by the first word of its name.
+MOST_STOPS = {'start': 13, 'publish': 28, 'player': 14}
+MOST_OF_OTHERS = 34
+
+# The lists that are shown and are more than one stop.
+LISTS = '''return [...document.querySelectorAll('tbody, [role=tablist], .legend, .fields, .hex')].filter(it => it.checkVisibility()).flatMap(list => {
+    const stops = [list, ...list.querySelectorAll('a, button, input, select, textarea, [tabindex]')].filter(it => it.tabIndex >= 0 && it.checkVisibility());
+    return stops.length > 1 ? `${list.tagName} ${list.className} ${list.getAttribute('aria-label')}: ${stops.length}` : [];
+})'''
+
+# Puts the focus before all that can have it.
+FIRST = '''const first = document.createElement('button');
+    (document.querySelector('dialog[open], :popover-open') || document.body).prepend(first);
+    first.focus();
+    first.remove();'''
+
+# What has the focus: what it is called, whether it or what it stands in has a ring, and how far it is out of the window.
+FOCUSED = '''const it = document.activeElement;
+    if (it === document.body) return null;
+    let ringed = it;
+    const hasRing = ({ outlineStyle, outlineWidth }) => outlineStyle !== 'none' && parseFloat(outlineWidth) >= 2;
+    while (ringed !== null && !hasRing(getComputedStyle(ringed))) ringed = ringed.parentElement;
+    const { top, bottom, left, right, width } = it.getBoundingClientRect();
+    const name = it.id || it.getAttribute('aria-label') || it.innerText || it.tagName;
+    return [name, ringed !== null, width < 2 ? Infinity : Math.max(top - innerHeight, -bottom, left - innerWidth, -right)]'''
+
+# The texts whose contrast with what is behind them is less than WCAG asks for: 4.5, or 3 of large ones.
+FAINT = '''const part = value => value <= 0.04045 ? value / 12.92 : ((value + 0.055) / 1.055) ** 2.4;
+    const luminance = colour => [0.2126, 0.7152, 0.0722].reduce((sum, weight, i) => sum + weight * part(colour[i] / 255), 0);
+    const colourOf = text => { const [red, green, blue, alpha = 1] = text.match(/[\\d.]+/g).map(Number); return [red, green, blue, alpha]; };
+    const over = (top, below) => below.map((value, i) => top[i] * top[3] + value * (1 - top[3]));
+    const behind = it => it === null ? [255, 255, 255] : over(colourOf(getComputedStyle(it).backgroundColor), behind(it.parentElement));
+    const within = document.querySelector('dialog[open]') || document.body;
+    const walker = document.createTreeWalker(within, NodeFilter.SHOW_TEXT), found = [];
+    for (let node = walker.nextNode(); node !== null; node = walker.nextNode()) {
+        const it = node.parentElement;
+        if (!node.nodeValue.trim() || it.closest('.hide, option, #data') || !it.checkVisibility({ visibilityProperty: true })) continue;
+        const style = getComputedStyle(it), size = parseFloat(style.fontSize), ground = behind(it);
+        const [low, high] = [luminance(over(colourOf(style.color), ground)), luminance(ground)].sort((a, b) => a - b);
+        const contrast = (high + 0.05) / (low + 0.05), isLarge = size >= 24 || size >= 18.66 && Number(style.fontWeight) >= 700;
+        if (contrast < (isLarge ? 3 : 4.5)) found.push(`${node.nodeValue.trim().slice(0, 30)}: ${contrast.toFixed(2)}`);
+    }
+    return found'''
+
+# Roles of controls and of what a reader goes to by its name.
+NAMED = {'button', 'link', 'tab', 'textbox', 'searchbox', 'combobox', 'checkbox', 'radio', 'slider', 'spinbutton', 'listbox', 'option', 'dialog',
+         'tablist', 'progressbar', 'heading', 'image', 'group', 'region', 'DisclosureTriangle'}
+
+
+class State(States):
+    def tearDown(self) -> None:
+        self.browser.size(1280)
+
+    def nodes(self) -> list[dict[str, Any]]:
+        return [node for node in self.browser.cdp('Accessibility.getFullAXTree')['nodes'] if not node['ignored']]
+
+    def judge_tree(self) -> None:
+        """Each control has a name, and each group of tabs one that is chosen."""
+        nodes = self.nodes()
+        nameless = [node for node in nodes if node['role']['value'] in NAMED and not node.get('name', {}).get('value')]
+        # What opens by a word of its own has its name by that.
+        elements = [self.browser.cdp('DOM.describeNode', backendNodeId=node['backendDOMNodeId'])['node'] for node in nameless]
+        self.assertEqual([it['nodeName'] for it in elements if it['nodeName'] != 'DETAILS'], [], 'has no name')
+        self.assertEqual(self.browser.nameless(), [])
+        by_id = {node['nodeId']: node for node in nodes}
+        for tabs in (node for node in nodes if node['role']['value'] == 'tablist'):
+            own = [by_id[child] for child in tabs['childIds'] if child in by_id]
+            chosen = [tab for tab in own if any(it['name'] == 'selected' and it['value']['value'] for it in tab.get('properties', []))]
+            self.assertEqual(len(chosen), 1, tabs['name']['value'])
+
+    def judge_stops(self, most: int) -> None:
+        """A list is one stop; each stop is seen, with its ring; and they are few."""
+        self.assertEqual(self.browser.run(LISTS), [], 'are more than one stop')
+        stops: list[str] = []
+        self.browser.run(FIRST)
+        while len(stops) <= most:
+            self.browser.press(Keys.TAB)
+            focused = self.browser.run(FOCUSED)
+            if focused is None or focused[0] in stops[:1]:
+                break
+            name, has_ring, out = focused
+            self.assertTrue(has_ring, f'{name} has no ring')
+            self.assertLessEqual(out, 0, f'{name} is not seen')
+            stops.append(name)
+        self.assertLessEqual(len(stops), most, stops)
+        self.assertTrue(stops or self.browser.run('return document.querySelector(":popover-open") !== null'))
+
+    def judge_colours(self) -> None:
+        for scheme in ('light', 'dark'):
+            self.browser.size(1280, scheme=scheme)
+            self.assertEqual(self.browser.run(FAINT), [], scheme)
+        self.browser.size(1280)
+
+    def judge(self, name: str) -> None:
+        all_states()[name](self)
+        self.assertEqual(self.browser.attempts(), [])
+        for width in WIDTHS:
+            self.assertEqual(self.browser.misfits(width), [], width)
+        if 'PICTURES' in os.environ:
+            self.browser.pictures(Path(os.environ['PICTURES']), name)
+        self.judge_colours()
+        self.judge_tree()
+        self.judge_stops(MOST_STOPS.get(name.split('_')[0], MOST_OF_OTHERS))
+
+
+def judged(name: str) -> Callable[[State], None]:
+    return lambda self: self.judge(name)
+
+
+for each in all_states():
+    setattr(State, f'test_{each}', judged(each))

@@ -1,0 +1,34 @@
+"""The example page of the package for npm, in Chromium: `python3 npm_page.py PACKAGE IMAGE SCRIPT PATCHED`. It is served from PACKAGE, the
+script is typed, the image is dropped on it, and what it saves has to be PATCHED; a script with an error is named, and nothing is offered."""
+
+import sys
+from pathlib import Path
+
+sys.path.insert(0, str(Path(__file__).resolve().parent.parent / 'page'))
+
+import chromium  # noqa: E402
+import common  # noqa: E402
+
+
+def main() -> None:
+    package, image, script, patched = (Path(it).resolve() for it in sys.argv[1:])
+    server, browser = common.Server(package), chromium.Chromium()
+    try:
+        browser.open(f'{server.url}/example.html')
+        browser.type('#script', script.read_text())
+        browser.drop('h1', [image])
+        browser.click('#made')
+        assert browser.downloaded('patched.bin').read_bytes() == patched.read_bytes(), 'it saves something else'
+        browser.type('#script', 'cdpatch 1\nset 0\n')
+        browser.drop('h1', [image])
+        browser.wait('#log', 'line 2')
+        assert not browser.find('#made').is_displayed(), 'it offers a file by a script with an error'
+        others = [it for it in browser.attempts() if 'favicon.ico' not in it and server.url not in it]
+        assert others == [], others
+    finally:
+        browser.quit()
+        server.close()
+
+
+if __name__ == '__main__':
+    main()

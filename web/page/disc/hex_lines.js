@@ -1,0 +1,146 @@
+// How the bytes of a sector are drawn: lines of hexadecimal digits, with the texts that they are beside them.
+
+import { SECTOR_SIZE, USER_OFFSET, USER_SIZE } from '../../core/sectors/sector.js';
+import { charactersFrom } from '../../core/texts/boundaries.js';
+import { columnLabel, signOf } from '../text/index.js';
+import { element } from '../ui/index.js';
+
+/** @typedef {import('../../core/texts/encoding.js').Encoding} Encoding */
+/** @typedef {{ name: string, label: string, from: number, to: number }} Field */
+/**
+ * What is shown: the bytes, the fields that they lie in, those that are outlined, those that the script has changed, and those of a
+ * second image, or null.
+ * @typedef {{ block: number, bytes: Uint8Array, old: Uint8Array, other: Uint8Array | null, mode1: boolean, fields: Field[],
+ *     crossings: Set<number>, encoding: Encoding, label: string }} Shown
+ */
+/** How lines are drawn: how many bytes each has, and whether offsets are hexadecimal. */
+/** @typedef {{ columns: number, hexadecimal: boolean }} LineHow */
+
+/** The byte after the user data. */
+export const USER_END = USER_OFFSET + USER_SIZE;
+
+/** @type {Record<number, string>} what begins at a byte of a Mode 1 sector */
+const CUTS = {
+    0: 'Sync field and header',
+    [USER_OFFSET]: `User data: ${USER_SIZE} bytes, offset 0 to ${USER_SIZE - 1}`,
+    [USER_END]: 'EDC, zeros and parity',
+};
+
+/**
+ * The line over the columns.
+ * @param {Shown} shown
+ * @param {LineHow} how
+ */
+export function headLine({ label }, { columns, hexadecimal }) {
+    const numbers = Array.from({ length: columns }, (_, i) => element('i', {}, hexadecimal ? i.toString(16).toUpperCase() : i));
+    return element('div', { class: 'head', 'aria-hidden': 'true' }, element('span', { class: 'o' }, 'offset'),
+        element('span', { class: 'b' }, ...numbers), element('span', { class: 't' }, columnLabel(label, columns)));
+}
+
+/**
+ * @param {Shown} shown
+ * @param {LineHow} how
+ */
+export function hexLines(shown, how) {
+    const texts = textCells(shown);
+    const lines = [];
+    const stops = shown.mode1 ? [0, USER_OFFSET, USER_END, SECTOR_SIZE] : [0, SECTOR_SIZE];
+    for (let part = 0; part + 1 < stops.length; part++) {
+        if (shown.mode1) lines.push(element('div', { class: 'cut', role: 'presentation' }, CUTS[stops[part]]));
+        for (let at = stops[part]; at < stops[part + 1]; at += how.columns) {
+            const end = Math.min(at + how.columns, stops[part + 1]);
+            lines.push(hexLine(shown, at, end, texts, how), ...otherLine(shown, at, end));
+        }
+    }
+    return lines;
+}
+
+/**
+ * @param {Shown} shown
+ * @param {number} from
+ * @param {number} to
+ * @param {(Node | string)[]} texts
+ * @param {LineHow} how
+ */
+function hexLine(shown, from, to, texts, { hexadecimal }) {
+    const isUser = shown.mode1 && from >= USER_OFFSET && from < USER_END;
+    const offset = isUser ? from - USER_OFFSET : from;
+    const digits = hexadecimal ? offset.toString(16).toUpperCase().padStart(3, '0') : offset;
+    const cells = [];
+    for (let at = from; at < to; at++) cells.push(byteCell(shown, at));
+    return element('div', { class: 'line', role: 'row' },
+        element('span', { class: 'o', role: 'rowheader' }, shown.mode1 && !isUser ? `·${digits}` : digits),
+        element('span', { class: 'b', role: 'presentation' }, ...cells),
+        element('span', { class: 't', role: 'gridcell' }, ...texts.slice(from, to)));
+}
+
+/**
+ * The name of a byte's place, as scripts count.
+ * @param {Shown} shown
+ * @param {number} at
+ */
+export function placeName({ mode1 }, at) {
+    return mode1 && at >= USER_OFFSET && at < USER_END ? `offset ${at - USER_OFFSET}` : `byte ${at} of the sector`;
+}
+
+/**
+ * @param {Shown} shown
+ * @param {number} at
+ */
+function byteCell({ bytes, old, other, fields, crossings }, at) {
+    const field = fields.find(it => at >= it.from && at < it.to);
+    const names = [`x-${field ? field.name : 'user'}`];
+    if (crossings.has(at)) names.push('sus');
+    if (other !== null && other[at] !== old[at]) names.push('dif');
+    if (bytes[at] !== old[at]) names.push('new');
+    else if (bytes[at] === 0) names.push('zero');
+    return element('i', { class: names.join(' '), role: 'gridcell', id: `byte-${at}`, 'data-at': at }, digitsOf(bytes[at]));
+}
+
+/**
+ * Under a line, the bytes of the second image that differ.
+ * @param {Shown} shown
+ * @param {number} from
+ * @param {number} to
+ */
+function otherLine({ old, other }, from, to) {
+    if (other === null || old.subarray(from, to).every((byte, i) => byte === other[from + i])) return [];
+    const cells = Array.from(other.subarray(from, to), (byte, i) => element('i', {}, byte === old[from + i] ? '' : digitsOf(byte)));
+    return [element('div', { class: 'line second', 'aria-hidden': 'true' }, element('span', { class: 'o' }, 'second'),
+        element('span', { class: 'b' }, ...cells))];
+}
+
+/** @param {number} byte */
+export function digitsOf(byte) {
+    return byte.toString(16).toUpperCase().padStart(2, '0');
+}
+
+/**
+ * What stands in the text column for each byte: a character at its first byte, a point for what is none.
+ * @param {Shown} shown
+ * @returns {(Node | string)[]}
+ */
+function textCells({ bytes, mode1, crossings, encoding }) {
+    /** @type {(Node | string)[]} */
+    const cells = new Array(SECTOR_SIZE).fill('');
+    const stops = mode1 ? [0, USER_OFFSET, USER_END, SECTOR_SIZE] : [0, SECTOR_SIZE];
+    for (let part = 0; part + 1 < stops.length; part++) {
+        for (const { at, size, text } of charactersFrom(encoding, bytes.subarray(stops[part], stops[part + 1]))) {
+            const place = stops[part] + at;
+            const isSeen = signOf(text) === text;
+            cells[place] = textCell(place, isSeen ? text : '·', isSeen, crossings.has(place));
+            for (let i = 1; i < size && !isSeen; i++) cells[place + i] = textCell(place + i, '·', false, false);
+        }
+    }
+    return cells;
+}
+
+/**
+ * @param {number} at
+ * @param {string} text
+ * @param {boolean} isSeen
+ * @param {boolean} suspect
+ */
+function textCell(at, text, isSeen, suspect) {
+    return element(isSeen ? suspect ? 'u' : 'span' : 'em', { 'data-at': at }, text);
+}

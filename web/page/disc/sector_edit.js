@@ -1,0 +1,194 @@
+// What keys, copy and paste do with the bytes of a sector.
+
+import { Fault } from '../../core/faults.js';
+import { SECTOR_SIZE, USER_OFFSET } from '../../core/sectors/sector.js';
+import { charactersFrom } from '../../core/texts/boundaries.js';
+import { encodeText } from '../../core/texts/encoding.js';
+import { bytesOfHex } from '../../core/texts/hex.js';
+import { chosenEncoding, signOf } from '../text/index.js';
+import { announce, byId, countOf, hexOf, messageOf } from '../ui/index.js';
+import { USER_END } from './hex_lines.js';
+import { Typing } from './typing.js';
+
+/** @typedef {import('../app/state.js').App} App */
+/** @typedef {import('./hex_view.js').HexView} HexView */
+
+export class SectorEdit {
+    /**
+     * @param {App} app
+     * @param {() => void} changed something else is to be said under the bytes
+     */
+    constructor(app, changed) {
+        this.app = app;
+        this.changed = changed;
+        this.typing = new Typing(app);
+        /** The first digit of a byte whose second one is not typed yet. */
+        this.digit = '';
+        /** Why the bytes that were typed or pasted last are not taken, or ''. */
+        this.fault = '';
+        this.view = /** @type {HexView | null} */ (null);
+    }
+
+    /** @param {HexView} view */
+    bind(view) {
+        this.view = view;
+        view.hex.addEventListener('moved', () => this.forget());
+        view.hex.addEventListener('copy', event => {
+            if (event.clipboardData === null) return;
+            event.clipboardData.setData('text/plain', view.column === 'text' ? this.selectedText() : this.selectedHex());
+            event.preventDefault();
+            const { first, end } = view.selection();
+            announce(`${countOf(end - first, 'byte')} copied.`);
+        });
+        view.hex.addEventListener('paste', event => {
+            const text = event.clipboardData ? event.clipboardData.getData('text/plain') : '';
+            event.preventDefault();
+            this.write(() => view.column === 'text' ? this.encoded(text) : pastedBytes(text));
+        });
+    }
+
+    /** A digit that was typed, and what was said, are of the byte that was chosen before. */
+    forget() {
+        this.digit = this.fault = '';
+        this.changed();
+    }
+
+    selectedBytes() {
+        const { view } = this;
+        if (view === null || view.shown === null) return new Uint8Array(0);
+        const { first, end } = view.selection();
+        return view.shown.bytes.subarray(first, end);
+    }
+
+    selectedHex() {
+        return hexOf(this.selectedBytes()).replace(/..(?=.)/g, '$& ');
+    }
+
+    selectedText() {
+        return [...charactersFrom(chosenEncoding(this.app), this.selectedBytes())].map(({ text }) => signOf(text)).join('');
+    }
+
+    /** @param {string} text */
+    encoded(text) {
+        return encodeText(chosenEncoding(this.app), text);
+    }
+
+    /**
+     * What keys do that do not move within the sector.
+     * @param {HexView} view
+     * @param {number} at
+     * @param {KeyboardEvent} event
+     */
+    pressed(view, at, event) {
+        const key = event.key.length === 1 && !event.isComposing ? event.key : '';
+        if (event.ctrlKey || event.metaKey) {
+            if (event.shiftKey || !['z', 'a'].includes(key.toLowerCase())) return;
+            if (key.toLowerCase() === 'a') view.selectAll();
+            else this.takeBack(view);
+        } else if (event.key === 'Escape') this.escape(view);
+        else if (event.key === 'PageDown' || event.key === 'PageUp') this.page(view, at, event.key === 'PageDown' ? 1 : -1);
+        else if (view.column === 'text' && key !== '') this.write(() => this.encoded(key));
+        else if (/^[0-9a-fA-F]$/.test(key)) this.typeDigit(key.toUpperCase());
+        else if (key.toLowerCase() === 't') view.typeIn('text');
+        else return;
+        event.preventDefault();
+    }
+
+    /**
+     * From texts back to digits, and from there to the map.
+     * @param {HexView} view
+     */
+    escape(view) {
+        if (view.column === 'text') return view.typeIn('hex');
+        if (this.digit === '') byId('map').focus();
+        return this.forget();
+    }
+
+    /**
+     * A screen on or back; past the end, the next sector.
+     * @param {HexView} view
+     * @param {number} at
+     * @param {number} step
+     */
+    page(view, at, step) {
+        const { app } = this;
+        const ends = step > 0 ? at >= SECTOR_SIZE - view.columns : at < view.columns;
+        if (!ends) return view.moveTo(at + step * view.screen());
+        const block = app.place.block + step;
+        if (app.image === null || block < app.image.base || block >= app.image.base + app.image.sectors) return undefined;
+        return app.goTo(block);
+    }
+
+    /**
+     * Takes back the digit or the bytes that were typed last.
+     * @param {HexView} view
+     */
+    takeBack(view) {
+        const { app, digit, typing } = this;
+        this.digit = '';
+        if (digit !== '') return this.changed();
+        const done = app.takeBackBytes();
+        if (done && typing.block === app.place.block) view.moveTo(USER_OFFSET + typing.offset);
+        return announce(done ? 'The bytes that were typed last are taken back.' : 'The last change of the script was not typed here.');
+    }
+
+    /** @param {string} digit of a byte */
+    typeDigit(digit) {
+        const first = this.digit;
+        if (first === '' && this.faultOf(1) === '') {
+            this.digit = digit;
+            return this.changed();
+        }
+        return this.write(() => Uint8Array.of(parseInt(first + digit, 16)));
+    }
+
+    /**
+     * Writes bytes from the first one on that is selected.
+     * @param {() => Uint8Array} bytesOf what is written. It may throw a Fault
+     */
+    write(bytesOf) {
+        const { view } = this;
+        if (view === null || view.shown === null) return;
+        const { shown } = view;
+        const { first } = view.selection();
+        this.digit = '';
+        try {
+            const bytes = bytesOf();
+            this.fault = this.faultOf(bytes.length);
+            if (this.fault === '' && bytes.length > 0) {
+                const old = shown.bytes.slice(first, first + bytes.length);
+                announce(`In the script: ${this.typing.type(shown.block, first - USER_OFFSET, bytes, old)}`);
+                shown.bytes = shown.bytes.slice();
+                shown.bytes.set(bytes, first);
+                return view.moveTo(Math.min(first + bytes.length, USER_END - 1));
+            }
+        } catch (error) {
+            this.fault = messageOf(error);
+        }
+        this.changed();
+        return announce(this.fault);
+    }
+
+    /**
+     * Why so many bytes cannot be written at the chosen place, or ''.
+     * @param {number} count
+     */
+    faultOf(count) {
+        const { view } = this;
+        if (view === null || view.shown === null) return '';
+        const { first } = view.selection();
+        if (!view.shown.mode1 || first < USER_OFFSET || first >= USER_END) return 'Only the user data of Mode 1 sectors can be typed over.';
+        const room = USER_END - first;
+        return count > room ? `These are ${countOf(count, 'byte')}, and only ${room} follow here in the user data of this sector.` : '';
+    }
+}
+
+/**
+ * The bytes of hexadecimal digits, with or without spaces. Throws a Fault if a text is none.
+ * @param {string} text
+ */
+function pastedBytes(text) {
+    const digits = text.replace(/\s+/g, '');
+    if (!/^(?:[0-9a-fA-F]{2})+$/.test(digits)) throw new Fault('These are no pairs of hexadecimal digits. Press T to paste it as text.');
+    return bytesOfHex(digits);
+}

@@ -1,0 +1,33 @@
+// One sector of the second image, and what a repair does with it.
+
+import { readBytes } from '../../core/bytes.js';
+import { commonPart } from '../../core/images/common_part.js';
+import { SECTOR_SIZE } from '../../core/sectors/sector.js';
+
+/** @typedef {import('../app/state.js').App} App */
+/** @typedef {import('../../core/sectors/runs.js').Run} Run */
+
+/**
+ * The sector of a block in the second image; null if there is none.
+ * @param {App} app
+ * @param {number} block
+ */
+export async function sectorOfSecond({ image, second }, block) {
+    if (image === null || second === null) return null;
+    const { from, to, later } = commonPart(image, second);
+    const place = block - image.base;
+    return place < from || place >= to ? null : readBytes(second.reader, (place - later) * SECTOR_SIZE, SECTOR_SIZE);
+}
+
+/**
+ * Whether a repair from the second image takes the sector of a block: '' as long as that is not known, or if it is refused.
+ * @param {App} app
+ * @param {number} block
+ * @returns {'' | 'taken' | 'doubtful' | 'none'}
+ */
+export function repairOf({ repair }, block) {
+    if (repair === null || repair.refused) return '';
+    const has = (/** @type {Run[]} */ runs) => runs.some(({ first, last }) => first <= block && block <= last);
+    if (has(repair.doubtful)) return 'doubtful';
+    return has(repair.taken) ? 'taken' : 'none';
+}
