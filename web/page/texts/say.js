@@ -1,0 +1,64 @@
+// Putting names, numbers and parts of the page into the texts of the page.
+
+import { LANGUAGE } from './english.js';
+
+/** @typedef {import('../ui/fill.js').Child} Child */
+/**
+ * The names in the braces of a text.
+ * @template {string} Text
+ * @typedef {Text extends `${string}{${infer Name}}${infer Rest}` ? Name | NamesIn<Rest> : never} NamesIn
+ */
+/**
+ * What goes into a text, by the names in its braces.
+ * @template {string} Text
+ * @template Part
+ * @typedef {[NamesIn<Text>] extends [never] ? [] : [{ [Name in NamesIn<Text>]: Part }]} Parts
+ */
+
+const counts = new Intl.PluralRules(LANGUAGE);
+const numbers = new Intl.NumberFormat(LANGUAGE);
+const { pluralCategories } = counts.resolvedOptions();
+
+/**
+ * A count with separators, as 1,329. Blocks and offsets have none, so that they can be copied into a script.
+ * @param {number} number
+ */
+export function counted(number) {
+    return numbers.format(number);
+}
+
+/**
+ * The form of a text for a count, if it has several, one for each kind of count in its language.
+ * @param {string} text
+ * @param {unknown} count
+ */
+function formOf(text, count) {
+    const forms = text.split('|');
+    if (typeof count !== 'number') return forms[0];
+    return forms[Math.min(pluralCategories.indexOf(counts.select(count)), forms.length - 1)];
+}
+
+/**
+ * A text with parts of the page in it, in place of the names in its braces. A number is written as a count, and `n` chooses the form.
+ * @template {string} Text
+ * @param {Text} text
+ * @param {Parts<Text, Child | Child[]>} given
+ * @returns {Child[]}
+ */
+export function say(text, ...given) {
+    const parts = /** @type {Record<string, Child | Child[]>} */ (given[0] || {});
+    return formOf(text, parts.n).split(/[{}]/).flatMap((piece, i) => {
+        const part = i % 2 === 0 ? piece : parts[piece];
+        return typeof part === 'number' ? counted(part) : part;
+    });
+}
+
+/**
+ * The same as a text, of texts and counts.
+ * @template {string} Text
+ * @param {Text} text
+ * @param {Parts<Text, string | number>} given
+ */
+export function told(text, ...given) {
+    return say(text, .../** @type {any} */ (given)).join('');
+}
