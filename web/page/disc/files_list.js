@@ -233,13 +233,13 @@ export class FilesList {
      */
     added({ pieces, patches, long }, { path, size: before }, size) {
         const { app } = this;
-        if (long) throw new Fault(texts.scriptTooLong);
+        if (long) throw new Fault(texts.scriptTooLongToReplace);
         if (patches === 0) return notice('plain', texts.nothingAdded, texts.newFileIsSame);
         app.addLines(new TextDecoder().decode(joinedBytes(pieces.slice(1))).trimEnd().split('\n'));
         const head = told(texts.linesAdded, { n: patches });
         announce(head);
         const length = size === before ? [] : say(texts.fileChangesLength, { name: nameOf(path), before, after: size });
         return notice('good', head, ...length,
-            element('div', { class: 'row' }, button('slim', () => app.showPanel('script'), texts.openScript)));
+            element('div', { class: 'row' }, button('slim', () => app.showPanel('script'), texts.openScriptPanel)));
     }
 }

@@ -213,7 +213,7 @@ export class Findings {
         const more = lines.length - 1 - MOST_TEXT_LINES;
         const label = told(texts.whatProgramPrints, { verb: this.text });
         fill(this.body, element('pre', { class: 'report', tabindex: 0, 'aria-label': label }, shown,
-            more > 0 && `\n${told(texts.moreLines, { n: more })}`));
+            more > 0 && `\n${told(texts.moreLinesPrinted, { n: more })}`));
         fill(this.foot, choice, element('span', {}, texts.printedToTheByte));
     }
 

@@ -159,6 +159,6 @@ function tipOf(app, sector) {
     const { kind, finding, codes, damaged } = sectorWords(app, survey, sector);
     const file = fileWords(app, block);
     return [`${blockWords(block)} · ${finding === '' ? kind : damaged ? texts.isDamaged : finding}`,
-        [...damaged ? [codes] : [], told(texts.addressIs, { address: addressOf(app, block) })].join(' · '),
+        [...damaged ? [codes] : [], told(texts.addressOfSector, { address: addressOf(app, block) })].join(' · '),
         ...file === '' ? [] : [file]];
 }

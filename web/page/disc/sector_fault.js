@@ -146,7 +146,7 @@ function otherKind(app, block, sector) {
     const noSync = app.calls.kind(sector.subarray(0, SECTOR_SIZE)) === SECTOR_KIND.NOSYNC;
     if (!lost) {
         return element('div', { class: 'say thin' }, element('b', {}, noSync ? texts.hasNoSync : texts.isNotModeOne),
-            noSync && `${texts.isAudioOrUnknown} `, texts.canBeLookedAt);
+            noSync && `${texts.isAudioOrUnknown} `, texts.onlyLookedAt);
     }
     const copies = repairOf(app, block);
     return element('div', { class: 'say bad thin' }, element('b', {}, noSync ? texts.hasLostSync : texts.hasLostMode),

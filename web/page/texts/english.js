@@ -42,7 +42,7 @@ export const sectorNotRead = 'not read yet';
 export const lostInModeOne = 'inside Mode 1: sync field or mode lost';
 export const isDamaged = 'damaged';
 export const isDamagedBy = 'damaged: {codes}';
-export const addressIs = 'address {address}';
+export const addressOfSector = 'address {address}';
 export const fileIs = 'file {name}';
 export const modeOneSectors = 'the Mode 1 sector|all {n} Mode 1 sectors';
 
@@ -122,10 +122,10 @@ export const sectorsNotModeOne =
 export const makingLines = 'Making the lines';
 export const nothingAdded = 'Nothing was added to the script.';
 export const newFileIsSame = 'The new file has the same bytes.';
-export const scriptTooLong = 'The script would be longer than cdpatch takes. cdscript replace-file makes it.';
+export const scriptTooLongToReplace = 'The script would be longer than cdpatch takes. cdscript replace-file makes it.';
 export const linesAdded = '{n} line added to the script.|{n} lines added to the script.';
 export const fileChangesLength = '{name} had {before} bytes, and gets {after}.';
-export const openScript = 'Open Script';
+export const openScriptPanel = 'Open Script';
 
 // runs
 export const runBlocksColumn = 'Blocks';
@@ -138,7 +138,7 @@ export const runIsNeighbours = 'A run is a row of neighbours of one kind. Begins
 // the text that the program prints
 export const whichText = 'Which text';
 export const whatProgramPrints = 'What cdpatch {verb} prints';
-export const moreLines = '… {n} more line: Copy and Save have all|… {n} more lines: Copy and Save have all';
+export const moreLinesPrinted = '… {n} more line: Copy and Save have all|… {n} more lines: Copy and Save have all';
 export const printedToTheByte = 'The text that the program prints, to the byte.';
 
 // lists of known dumps
@@ -189,7 +189,7 @@ export const baseTerm = 'base';
 export const hasNoSync = 'This sector has no sync field.';
 export const isNotModeOne = 'This sector is not of Mode 1.';
 export const isAudioOrUnknown = 'It is audio, or its form is not known.';
-export const canBeLookedAt = 'It can be looked at, not patched.';
+export const onlyLookedAt = 'It can be looked at, not patched.';
 export const hasLostSync = 'This sector has no sync field, and Mode 1 lies around it.';
 export const hasLostMode = 'This sector is not of Mode 1, and Mode 1 lies around it.';
 export const noPatchRepairsThat = 'So it has probably lost its sync field or its mode. No patch can repair that: a whole sector from ' +
