@@ -21,9 +21,233 @@ export const LANGUAGE = 'en-GB';
 
 // ---- disc: map, findings, files
 
+export const discHeading = 'Disc';
+
+// the map
+export const mapOfDisc = 'Map of the disc';
+export const squareIsSector = '1 square = 1 sector';
+export const pixelIsSector = '1 pixel = 1 sector';
+export const pixelIsSectors = '1 pixel = {n} sectors, the worst shown';
+export const minutesOnRuler = '{minute} min';
+export const noSectorChosen = 'No sector is chosen.';
+export const pressLegendEntry = 'Legend: press an entry to show it alone';
+export const toPreviousFinding = '◂ Previous finding';
+export const toNextFinding = 'Next finding ▸';
+
+// a sector in words: under the map, at the pointer, and as a screen reader says it
+export const blockNumber = 'Block {block}';
+export const spokenSector = 'Block {block}, {kind}';
+export const spokenFinding = 'Block {block}, {kind}, {finding}';
+export const sectorNotRead = 'not read yet';
+export const lostInModeOne = 'inside Mode 1: sync field or mode lost';
+export const isDamaged = 'damaged';
+export const isDamagedBy = 'damaged: {codes}';
+export const addressOfSector = 'address {address}';
+export const fileIs = 'file {name}';
+export const modeOneSectors = 'the Mode 1 sector|all {n} Mode 1 sectors';
+
+// the card of findings: its tabs and buttons; the second text of a copying button is what screen readers hear after the first
+export const findingsCard = 'Findings, files and runs';
+export const findingsTabs = 'Findings, files, runs, text';
+export const findingsTab = 'Findings';
+export const filesTab = 'Files';
+export const runsTab = 'Runs';
+export const asTextTab = 'As text';
+export const copyReport = 'Copy';
+export const copyReportWhat = ' the report';
+export const saveReport = 'Save…';
+
+// places of findings; the names of columns stand over wide tables, and labels in narrow ones
+export const placeColumn = 'Place ({blocks})';
+export const blocksTerm = 'blocks';
+export const sectorsColumn = 'Sectors';
+export const sectorsLabel = 'sectors';
+export const whatColumn = 'What';
+export const looksLikeColumn = 'Looks like';
+export const looksLikeIsGuess = '“Looks like” is a guess from the distances. The other columns are what cdpatch found.';
+export const moreFindings = 'and {n} more: “As text” has all';
+
+// what was found at a place
+export const dataFound = 'data';
+export const dataAndParityFound = 'data and parity';
+export const onlyParityFound = 'only parity';
+export const lostFound = '{count} × sync or mode lost';
+export const addressFound = 'address';
+export const addressesFound = '{count} × address';
+export const foundJoint = ', ';
+
+// what a place looks like; an ordinal has the forms of numbers as 1, as 2, as 3 and of all others
+export const anotherBase = 'another base?';
+export const notDamage = 'not damage';
+export const rowSpliced = '{count} in a row: spliced by hand? not damage';
+export const rowOnPurpose = '{count} in a row: perhaps on purpose (copy protection)';
+export const singleSector = 'a single sector';
+export const singleSectorUserDataFit = 'a single sector; its user data fit';
+export const singleSectors = 'single sectors';
+export const singleSectorsAllOver = 'single sectors all over the disc';
+export const userDataFit = '{what}; the user data fit';
+export const everySector = 'every {ordinal} sector';
+export const everySectorAllOver = 'every {ordinal} sector all over the disc';
+export const ordinals = '{n}st|{n}nd|{n}rd|{n}th';
+export const looksScratched = 'a scratch: {what}';
+export const scratchInEachTurn = 'a scratch: about one sector in each turn of the disc';
+
+// files
+export const filterFiles = 'Filter';
+export const fileNameColumn = 'Name';
+export const bytesColumn = 'Bytes';
+export const bytesLabel = 'bytes';
+export const blockColumn = 'Block';
+export const blockLabel = 'block';
+export const theNewFile = 'The new file';
+export const filesBeingListed = 'The files are being listed.';
+export const noVolumeFound = 'No ISO 9660 volume was found here, so no file can be named.';
+export const volumeHasNoFiles = 'The volume has no files.';
+export const noNameHasThis = 'No name has this in it.';
+export const filesByBlocks = 'As the volume names them, by their blocks.';
+export const filesCounted = '{n} file|{n} files';
+export const filesOfAll = '{count} of {all}';
+export const filesFromTo = '{from}–{to} of {all}';
+export const previousFiles = '◂ Previous';
+export const nextFiles = 'Next ▸';
+export const chooseFile = 'Choose a file: its first sector opens, and here it can be saved or replaced.';
+export const extractFile = 'Extract…';
+export const replaceFile = 'Replace…';
+export const fileJobCancelled = 'Cancelled.';
+export const readingFile = 'Reading the file';
+export const noFileSaved = 'No file was saved.';
+export const fileSaved = 'Saved: {name}';
+export const sectorsNotModeOne =
+    '{n} sector of it not Mode 1: other bytes may stand there.|{n} sectors of it not Mode 1: other bytes may stand there.';
+export const makingLines = 'Making the lines';
+export const nothingAdded = 'Nothing was added to the script.';
+export const newFileIsSame = 'The new file has the same bytes.';
+export const scriptTooLongToReplace = 'The script would be longer than cdpatch takes. cdscript replace-file makes it.';
+export const linesAdded = '{n} line added to the script.|{n} lines added to the script.';
+export const fileChangesLength = '{name} had {before} bytes, and gets {after}.';
+export const openScriptPanel = 'Open Script';
+
+// runs
+export const runBlocksColumn = 'Blocks';
+export const kindColumn = 'Kind';
+export const beginsAtColumn = 'Begins at';
+export const beginsAtLabel = 'begins at';
+export const moreRuns = 'and {n} more: “As text” has all.';
+export const runIsNeighbours = 'A run is a row of neighbours of one kind. Begins at: minutes, seconds, frames of 1/75 second.';
+
+// the text that the program prints
+export const whichText = 'Which text';
+export const whatProgramPrints = 'What cdpatch {verb} prints';
+export const moreLinesPrinted = '… {n} more line: Copy and Save have all|… {n} more lines: Copy and Save have all';
+export const printedToTheByte = 'The text that the program prints, to the byte.';
+
+// lists of known dumps
+export const dumpsLoaded = 'Loaded: {name}';
+export const dumpsListed = 'It lists {n} known dump.|It lists {n} known dumps.';
+export const openToLookUp = 'Open a disc image, to see whether it is one of them.';
+export const imageIsLookedUp = 'The open image is looked up in it.';
+export const notAListOfDumps = 'Not a list of known dumps that can be read: {name}';
+export const inNoListOfDumps = 'in none of the lists of known dumps';
+export const knownBadDump = 'known as a bad dump: {name}';
+export const verifiedDump = 'verified: {name}';
+
 // ---- end of disc
 
 // ---- disc: a sector
+
+// the card
+export const noSectorOpen = 'No sector is open';
+export const sectorOfBlock = 'Sector of {block} {number}';
+export const goToBlock = 'Go to block';
+export const blocksOfImage = 'The blocks of this image are {first} to {last}.';
+export const encodingOfBytes = 'Text';
+export const offsetsDecimal = 'Offsets: decimal';
+export const offsetsHexadecimal = 'Offsets: hexadecimal';
+export const howToOpenSector =
+    'Click the map, or a block in the findings. With the keyboard: {tab} to the map, then the arrows and {enter}.';
+export const tabKey = 'Tab';
+export const enterKey = 'Enter';
+
+// what is wrong with it
+export const sectorIsSound = 'This sector is sound.';
+export const edcAndParityFit = 'Its EDC and parity fit.';
+export const dataAreDamaged = 'The data of this sector are damaged. {line}';
+export const otherBytesDamaged = 'The user data of this sector fit their EDC; other bytes are damaged. {line}';
+export const edcDoesNotFit = 'The {edc} does not fit the bytes before it.';
+export const zerosDoNotFit = 'The eight bytes after the EDC are not all zero.';
+export const headerHasOtherAddress = 'The header has the address {address}, not that of the block.';
+export const codesDoNotFit = '{columns} of {ofColumns} P columns and {diagonals} of {ofDiagonals} Q diagonals do not fit';
+export const codesDoNotFitEither = '{columns} of {ofColumns} P columns and {diagonals} of {ofDiagonals} Q diagonals do not fit either';
+export const theyCrossNowhere = '{codes}; they cross nowhere.';
+export const theyCrossOnce = '{codes}; they cross at the outlined byte, {place}: it is probably the wrong one.';
+export const theyCross = '{codes}; they cross at the {count} outlined bytes, {place}: the wrong ones are probably among these.';
+export const bytesFromTo = '{first} to {last}';
+export const soundElsewhere = 'This sector is sound, but it has another address. {line}';
+export const headerSays = 'Its header says {has}, and block {block} has {wants}.';
+export const elsewhereIsNoDamage = 'This is no damage: perhaps the image was spliced by hand, or its {base} is another one.';
+export const baseTerm = 'base';
+export const hasNoSync = 'This sector has no sync field.';
+export const isNotModeOne = 'This sector is not of Mode 1.';
+export const isAudioOrUnknown = 'It is audio, or its form is not known.';
+export const onlyLookedAt = 'It can be looked at, not patched.';
+export const hasLostSync = 'This sector has no sync field, and Mode 1 lies around it.';
+export const hasLostMode = 'This sector is not of Mode 1, and Mode 1 lies around it.';
+export const noPatchRepairsThat = 'So it has probably lost its sync field or its mode. No patch can repair that: a whole sector from ' +
+    'another dump can.';
+
+// what can be done about it
+export const hasSoundCopy = '{name} has a sound copy: it will be taken.';
+export const copyIsDoubtful = 'But its data and EDC are others: compare both first. Perhaps it is another release.';
+export const hasNoSoundCopy = '{name} has no sound copy of it.';
+export const repairFromAnother = 'Repair from another dump…';
+export const repairFrom = 'Repair from {name}';
+export const addToScript = 'Add {verb} to the script';
+export const isInScript = '{verb} is in the script';
+export const rebuildHidesDamage =
+    '{verb} makes the sector valid with the bytes as they are. If these are wrong, it hides the damage for good.';
+
+// its fields and bytes
+export const pressFieldToGo = 'Fields: press one to go there';
+export const syncField = 'sync';
+export const headerField = 'header';
+export const userDataField = 'user data';
+export const edcField = 'EDC';
+export const zerosField = 'zeros';
+export const parityPField = 'P parity';
+export const parityQField = 'Q parity';
+export const allElseField = 'all else';
+export const bytesOfSector = 'Bytes of the sector';
+export const offsetWord = 'offset';
+export const syncAndHeader = 'Sync field and header';
+export const userDataOffsets = 'User data: {size} bytes, offset 0 to {last}';
+export const edcZerosParity = 'EDC, zeros and parity';
+export const ofSecondImage = 'second';
+export const offsetIs = '{offset} {at}';
+export const byteOfSector = 'byte {at} of the sector';
+export const placeHolds = '{place}: {digits}';
+
+// the chosen byte
+export const fileAt = 'file {name} at {position}';
+export const inNoFile = 'in no file';
+export const bytesSelected = '{n} bytes selected, from {place} on';
+export const copyAsHex = 'Copy as hex';
+export const copyAsText = 'Copy as text';
+export const changedByScript = 'changed by the script, {digits} in the file';
+export const inSecondImage = '{digits} in the second image';
+export const typeToChange = 'Type to change bytes, or T and then a text: each change becomes a line of the script.';
+export const changeWillBeRefused = 'This sector is damaged: Check refuses the change, unless damaged sectors are patched too (carry), ' +
+    'or a rebuild in the script comes before it.';
+export const edcFollowsFromData = 'Only user data can be typed over. EDC and parity follow from them.';
+export const onlyModeOneChanges = 'Only Mode 1 sectors can be changed.';
+
+// keys, copy and paste
+export const bytesCopied = '{n} byte copied.|{n} bytes copied.';
+export const inTheScript = 'In the script: {line}';
+export const bytesTakenBack = 'The bytes that were typed last are taken back.';
+export const notTypedHere = 'The last change of the script was not typed here.';
+export const onlyUserDataTyped = 'Only the user data of Mode 1 sectors can be typed over.';
+export const tooManyBytes = 'These are {n} bytes, and only {room} follow here in the user data of this sector.';
+export const noHexDigits = 'These are no pairs of hexadecimal digits. Press T to paste it as text.';
 
 // ---- end of a sector
 
