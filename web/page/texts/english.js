@@ -188,7 +188,7 @@ export const logIsPrinted = 'The same text as {command} prints, in the order of 
 export const savingImage = 'Saving';
 export const savingFile = 'Saving {name}';
 export const afterCancel = 'After Cancel no image is kept: the browser throws the unfinished file away.';
-export const patched = 'patched';
+export const patchedInName = 'patched';
 
 // what was saved
 export const imageSaved = 'Saved';
