@@ -2,7 +2,9 @@
 
 import { FIELD_COUNT, SECOND_STATE, tailsDiffer } from '../../core/images/compare.js';
 import { patchedName } from '../save/index.js';
-import { button, countOf, element, fill, jobBar, nameOf, notice, tableCard, tallyOf, term } from '../ui/index.js';
+import * as texts from '../texts/index.js';
+import { told } from '../texts/index.js';
+import { button, element, fill, jobBar, nameOf, notice, tableCard, tallyOf, term } from '../ui/index.js';
 import { addDiffering, compareMarks } from './marks.js';
 import { writeScript } from './script.js';
 
@@ -57,7 +59,7 @@ export class SecondCompare {
         const found = { rows: [], onlyCodes: 0, tail: false };
         try {
             await app.runPair((signal, cancel) => {
-                const bar = jobBar('Comparing both images', cancel);
+                const bar = jobBar(texts.comparingBoth, cancel);
                 fill(this.body, ...bar.parts);
                 const how = { base: image.base, signal, progress: bar.sectors };
                 return app.crew.share('differ', [image.reader, second.reader], {}, how, answer => addRows(marks, found, answer));
@@ -78,12 +80,12 @@ export class SecondCompare {
     draw(marks) {
         const [differ, damaged, others] = [0, 1, 2].map(which => marks.count(which));
         const all = differ + damaged + others;
-        const tally = tallyOf([[all, all === 1 ? 'sector differs' : 'sectors differ', ''], [this.onlyCodes, 'only in EDC or parity', ''],
-            [damaged, 'damaged in the second', damaged > 0 ? 'bad-ink' : '']]);
-        const write = element('div', { class: 'row' }, button('main', () => this.write('save'), 'Save the script…'),
-            button('', () => this.write('open'), 'Open in Script'));
-        const same = notice('good', `Both images are the same, ${this.tail ? 'sector for sector' : 'byte for byte'}.`);
-        const tail = this.tail && notice('warn', 'The bytes after the last sector differ.', 'No script changes them.');
+        const tally = tallyOf([[all, all === 1 ? texts.sectorDiffers : texts.sectorsDiffer, ''],
+            [this.onlyCodes, texts.differInCodesOnly, ''], [damaged, texts.damagedInSecond, damaged > 0 ? 'bad-ink' : '']]);
+        const write = element('div', { class: 'row' }, button('main', () => this.write('save'), texts.saveComparison),
+            button('', () => this.write('open'), texts.openInScript));
+        const same = notice('good', this.tail ? texts.bothSameSectors : texts.bothSameBytes);
+        const tail = this.tail && notice('warn', texts.tailsDiffer, texts.noScriptChangesThem);
         fill(this.body, tally, tail, all === 0 ? same : write, this.place);
         if (all > 0) this.drawTable(all);
     }
@@ -100,19 +102,18 @@ export class SecondCompare {
     /** @param {number} all */
     drawTable(all) {
         const { rows } = this;
-        const names = ['header', 'user data', 'EDC', 'parity'];
-        const head = element('tr', {}, element('th', { class: 'n' }, term('block', 'Block')), ...names.map(name =>
+        const names = [texts.columnHeader, texts.columnUserData, 'EDC', texts.columnParity];
+        const head = element('tr', {}, element('th', { class: 'n' }, term('block', texts.columnBlock)), ...names.map(name =>
             element('th', { class: 'n' }, name === 'EDC' ? term('edc', name) : name)));
         const body = rows.map(({ block, fields, state }) => element('tr', {},
-            element('td', { class: 'n', 'data-l': 'block' },
+            element('td', { class: 'n', 'data-l': texts.blockLabel },
                 button('slim bare tiny', () => this.app.goTo(block, -1, true), String(block)),
-                state === SECOND_STATE.DAMAGED && element('span', { class: 'tag bad' }, 'damaged in the second')),
+                state === SECOND_STATE.DAMAGED && element('span', { class: 'tag bad' }, texts.damagedInSecond)),
             ...fields.map((count, i) => element('td', { class: 'n', 'data-l': names[i] }, count))));
         const text = rows.map(({ block, fields }) => `${block}\t${fields.join('\t')}\n`).join('');
         const left = all - rows.length;
-        const foot = left > 0 ? `${countOf(left, 'more block has', 'more blocks have')} no row here.`
-            : 'If the user data differ and the EDC does not, one of the two is damaged.';
-        fill(this.table, tableCard('Bytes that differ, by field', head, body, text, foot));
+        const foot = left > 0 ? told(texts.moreBlocksWithoutRow, { n: left }) : texts.userDataWithoutEdc;
+        fill(this.table, tableCard(texts.bytesThatDiffer, head, body, text, foot));
     }
 }
 
