@@ -228,7 +228,7 @@ export class SecondRepair {
             element('th', {}, texts.columnInSecond), element('th', {}, texts.columnFile));
         const text = rows.map(({ block, here, there, file }) => `${block}\t${here}\t${there}\t${file}\n`).join('');
         const same = rows.filter(row => row.same).map(row => row.block);
-        fill(this.table, tableCard(told(texts.countNotRepaired, { count }), head, cells, text, footOf(same, count - rows.length)));
+        fill(this.table, tableCard(told(texts.countNotRepaired, { n: count }), head, cells, text, footOf(same, count - rows.length)));
     }
 
     /**
@@ -262,7 +262,7 @@ function refusedRepair({ different: [different] }, shift) {
         const by = Math.abs(shift.by);
         const why = told(shift.by > 0 ? texts.missingBefore : texts.tooManyBefore, { n: by });
         return notice('bad', told(texts.secondShifted,
-            { sectors: told(texts.shiftedBy, { n: by }), block: String(shift.first) }), told(texts.addressesSaySo, { why }));
+            { sectors: told(texts.countOfSectors, { n: by }), block: String(shift.first) }), told(texts.addressesSaySo, { why }));
     }
     return notice('bad', texts.notTheSameDisc, told(texts.tooManyDiffer, { sectors: told(texts.soundAndDiffer, { n: different }) }));
 }

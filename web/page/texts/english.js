@@ -29,6 +29,123 @@ export const LANGUAGE = 'en-GB';
 
 // ---- text: finding and replacing
 
+// in tables and notices, as of a second image
+export const columnBlock = 'Block';
+export const blockLabel = 'block';
+export const columnFile = 'File';
+export const isInNoFile = 'in no file';
+export const countOfSectors = '{n} sector|{n} sectors';
+export const jobCancelled = 'Cancelled.';
+export const fileSaved = 'Saved: {name}';
+
+// what is asked for
+export const findText = 'Find';
+export const findThisText = 'Find this text';
+export const findEncoding = 'Encoding';
+export const loadTableFile = 'Load a .tbl file…';
+export const tableToLoad = 'A table to load';
+export const searchesEverySector = 'Searches the {data} of every sector, including text that runs over into the next one.';
+export const searchedData = 'data';
+export const bytesAre = '{n} byte: {bytes}|{n} bytes: {bytes}';
+export const tableLoaded = 'Loaded: {name}';
+export const isEncodingNow = 'It is the encoding now, here and where bytes are shown as text.';
+export const noReadableTable = 'Not a table that can be read: {name}';
+
+// the search
+export const noImageIsOpen = 'No image is open.';
+export const openDiscFirst = 'Open the disc image first.';
+export const linesBeingMade = 'Lines are still being made.';
+export const searchWhenEnded = 'Search again when that has ended, or press Cancel there first.';
+export const searching = 'Searching';
+export const searchNotEnded = 'The search has not come to its end.';
+export const noHitIn = 'No hit in {encoding}.';
+export const noHit = 'No hit.';
+export const searchedToEnd = 'The user data of {sectors} were searched to the end.';
+export const anotherEncoding = 'Another encoding? A game may also have its own table, or packed texts.';
+
+// the hits
+export const theHits = 'Hits';
+export const hitsFound = '{n} hit|{n} hits';
+export const foundInSeconds = 'in {seconds} s';
+export const onlyFirstListed = 'only the first {n} are listed';
+export const copyAsTable = 'Copy as a table';
+export const withFileAndText = 'with file and text';
+export const columnOffset = 'Offset';
+export const columnContext = 'Context';
+export const offsetLabel = 'offset';
+export const hitNumber = 'hit {number}';
+export const inScriptLine = 'in the script, line {line}';
+export const overBorder = 'over a border of blocks';
+export const showMoreHits = 'Show {n} more';
+
+// replacing a hit
+export const replaceText = 'Replace';
+export const replaceAtPlace = 'Replace: block {block} offset {offset}';
+export const hitOfHits = 'hit {number} of {count}';
+export const oldTextHas = 'Old text: {n} byte|Old text: {n} bytes';
+export const newText = 'New text';
+export const bytesOfNewText = '{n} byte|{n} bytes';
+export const justAsMany = '{bytes} of {size}, just as many';
+export const moreToFill = '{bytes} of {size}, and {more} to fill';
+export const bytesTooMany = '{n} byte, {more} too many|{n} bytes, {more} too many';
+export const forOldText = '{bytes} for the {size} of the old text';
+export const fillWith = 'Fill with';
+export const byteToFillWith = 'The byte to fill with, two digits';
+export const chooseFill = 'choose…';
+export const anotherByte = 'another byte…';
+export const cannotMoveBytes = 'A patch cannot move bytes: the new text needs as many bytes as the old one, or fewer.';
+export const shortenBy = 'Shorten it by\u00A0{more}.';
+export const typeNewText = 'Type the new text.';
+export const cannotFill = '{n} byte cannot be filled with that.|{n} bytes cannot be filled with that.';
+export const chooseAnotherByte = 'Choose another byte.';
+export const lineWritesHere = 'Line {line} of the script writes here already. A second line would meet other old bytes.';
+export const takesPlaceOfLine = 'This line takes the place of line {line}';
+export const goesIntoScript = 'This line goes into the script';
+export const updateLine = 'Update line {line}';
+export const replaceAll = 'Replace all {n}';
+export const skipHit = 'Skip ▸';
+export const replacesAndNext = '{key} replaces and goes to the next hit.';
+export const enterKey = 'Enter';
+export const addedToScript = 'Added to the script.';
+export const nothingAdded = 'Nothing was added to the script.';
+export const lineUpdated = 'Line {line} is updated.';
+export const makingLines = 'Making the lines';
+export const makingOfHits = 'hits';
+export const linesAdded = '{n} line added to the script.|{n} lines added to the script.';
+export const hitsLeft = '{n} hit left: {why}|{n} hits left: {why}';
+export const allHitsInScript = 'All hits are in the script.';
+export const checkToTest = 'Open Script and press Check to test them.';
+
+// the bytes round a hit
+export const bytesAround = 'The bytes around it';
+export const bytesAroundPlace = 'The bytes around block {block} offset {offset}';
+export const openTheSector = 'Open the sector';
+
+// all texts of the disc
+export const allTextsAsTable = 'All texts of the disc, as a table for a spreadsheet:';
+export const exportTexts = 'Export texts…';
+export const lookingForTexts = 'Looking for texts';
+export const noTableSaved = 'No table was saved.';
+export const noTextFound = 'No text was found.';
+export const tableHasTexts = 'It has {n} text.|It has {n} texts.';
+export const writeNewTexts = 'Write the new ones in its column “new”, and import it.';
+export const importTable = 'Import a table…';
+export const tableToImport = 'A table to import';
+export const makingOfRows = 'rows';
+export const scriptTooLong = 'The script would be longer than cdpatch takes. cdscript replace --list makes it.';
+export const newTextsFit = 'The new text fits.|All {n} new texts fit.';
+export const someTextsFit = '{n} new text fits, {others}.|{n} new texts fit, {others}.';
+export const othersDoNot = '{n} does not|{n} do not';
+export const openScript = 'Open Script';
+export const rowsDoNotFit = '{n} row does not fit|{n} rows do not fit';
+export const columnRow = 'Row';
+export const columnPlace = 'Block, offset';
+export const columnText = 'Text';
+export const columnWhyNot = 'Why it does not fit';
+export const placeLabel = 'at';
+export const moreRowsCopied = 'and {n} more, which Copy has too.';
+export const pressRow = 'Press a row to see the bytes at its place. Correct it in the table, and import that again.';
+
 // ---- end of text
 
 // ---- script: editor and check
@@ -50,7 +167,6 @@ export const repairFromIt = 'Repair from it';
 export const compareWithIt = 'Compare';
 export const comparingBoth = 'Comparing both images';
 export const beginAgain = 'Begin again';
-export const jobCancelled = 'Cancelled.';
 export const nothingFoundOut = 'Nothing was found out.';
 
 // the map of both images
@@ -82,7 +198,6 @@ export const writeRepairAsScript = 'Write it as a script';
 
 // a repair that is refused
 export const secondShifted = 'The second image is shifted by {sectors} from block {block} on.';
-export const shiftedBy = '{n} sector|{n} sectors';
 export const addressesSaySo = 'Its addresses say so: {why}. Nothing is taken.';
 export const missingBefore = '{n} sector before it is missing|{n} sectors before it are missing';
 export const tooManyBefore = '{n} sector before it is too many|{n} sectors before it are too many';
@@ -91,17 +206,13 @@ export const tooManyDiffer = '{sectors}: more than one in a hundred. Nothing is 
 export const soundAndDiffer = '{n} sector is sound in both and differs|{n} sectors are sound in both and differ';
 
 // what is not repaired
-export const countNotRepaired = 'Cannot be repaired: {count}';
-export const columnBlock = 'Block';
+export const countNotRepaired = 'Cannot be repaired: {n}';
 export const columnHere = 'Here';
 export const columnInSecond = 'In the second image';
-export const columnFile = 'File';
-export const blockLabel = 'block';
 export const hereLabel = 'here';
 export const thereLabel = 'there';
 export const notThere = 'not there';
 export const notOfMode1 = 'not of Mode 1';
-export const isInNoFile = 'in no file';
 export const moreHaveNoRow = '{n} more has no row here.|{n} more have no row here.';
 export const differInEach = 'The images differ in each block.';
 export const sameBytesIn = 'In {blocks} both images hold the same bytes: perhaps the damage is on the disc itself, or on purpose.';
@@ -112,7 +223,6 @@ export const someOfBlocks = '{n} of these blocks';
 
 // saving the repaired image
 export const savingRepaired = 'Saving';
-export const fileSaved = 'Saved: {name}';
 export const othersAsBefore = 'All sectors that were not repaired are as before.';
 export const browserIsSaving = 'Your browser is saving {name}';
 export const keepPageOpen = '{size} MB. Keep this page open until the download is complete.';
@@ -140,7 +250,7 @@ export const writingScript = 'Writing the script';
 export const theSecondImage = 'the second image';
 export const theRepairedImage = 'the repaired image';
 export const scriptHasPatches = 'The script has {n} patch.|The script has {n} patches.';
-export const scriptHasBytes = '{size} bytes.';
+export const scriptHasBytes = '{n} bytes.';
 export const givesExactly = 'Verified: applied to {image} it gives exactly {goal}.';
 export const givesButForOne = 'Verified: applied to {image} it gives {goal}, but for {blocks}, which it leaves as it is.';
 export const givesButForSome = 'Verified: applied to {image} it gives {goal}, but for {blocks}, which it leaves as they are.';
