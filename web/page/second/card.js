@@ -10,12 +10,6 @@ import { SecondRepair } from './repair.js';
 
 /** @typedef {import('../app/state.js').App} App */
 /** @typedef {import('../app/state.js').PairJob} Job */
-/** @typedef {import('../app/marks.js').MapModel} MapModel */
-/**
- * A job with two images: it works once, shows what it found in `body` and `table`, and on the map.
- * @typedef {{ body: HTMLElement, table: HTMLElement, model: () => MapModel | null, begin: () => Promise<void>,
- *     forget: () => void }} PairPanel
- */
 
 export class SecondCard {
     /**

@@ -16,6 +16,7 @@ import { say, told } from '../texts/index.js';
 import { askBeforeLeaving, button, element, fill, hashParts, jobBar, messageOf, nameOf, notice } from '../ui/index.js';
 import { runAt, shownName, tableCard, tallyOf, term } from '../ui/index.js';
 import { repairMarks } from './marks.js';
+import { PairJob } from './pair_job.js';
 import { writeScript } from './script.js';
 import { sectorOfSecond } from './sector.js';
 
@@ -23,7 +24,6 @@ import { sectorOfSecond } from './sector.js';
 /** @typedef {import('../../core/images/merge.js').Repair} Repair */
 /** @typedef {import('../../core/bytes.js').Piece} Piece */
 /** @typedef {import('../ui/fill.js').Child} Child */
-/** @typedef {import('./marks.js').PairMarks} PairMarks */
 /** @typedef {Awaited<ReturnType<typeof shiftOf>>} Shift */
 /** The pieces are those of the repaired image; the shift is that of a second image which is refused. */
 /** @typedef {{ repair: Repair, pieces: Piece[], shift: Shift }} Found */
@@ -32,20 +32,14 @@ import { sectorOfSecond } from './sector.js';
 const MOST_ROWS = 200;
 const MOST_RUNS_NAMED = 8;
 
-export class SecondRepair {
+export class SecondRepair extends PairJob {
     /**
      * @param {App} app
      * @param {() => void} changed
      */
     constructor(app, changed) {
-        this.app = app;
-        this.changed = changed;
-        this.body = element('div', { class: 'stack' });
-        this.table = element('div');
-        this.place = element('div', { class: 'stack' });
-        this.marks = /** @type {PairMarks | null} */ (null);
+        super(app, changed);
         this.found = /** @type {Found | null} */ (null);
-        this.begun = false;
         this.drawn = 0;
         /** Whether a file is being saved, as far as this page can know. */
         this.saving = false;
@@ -54,40 +48,27 @@ export class SecondRepair {
         app.on('files', () => void this.drawTable());
     }
 
-    model() {
-        return this.marks;
-    }
-
     forget() {
-        this.begun = this.saving = false;
-        this.marks = this.found = null;
-        for (const part of [this.body, this.table, this.place]) fill(part);
+        this.saving = false;
+        this.found = null;
+        super.forget();
     }
 
     async begin() {
         const { app } = this;
         const { image, second } = app;
         if (this.begun || image === null || second === null) return;
-        this.begun = true;
-        try {
-            /** @type {Piece[]} */
-            const pieces = [];
-            const repair = await app.runPair((signal, cancel) => {
-                const bar = jobBar(texts.comparingBoth, cancel);
-                fill(this.body, ...bar.parts);
-                return mergeImages(app.crew, image, [second], { signal, progress: bar.sectors }, piece => { pieces.push(piece); });
-            });
-            const shift = repair.refused ? await shiftOf(app.calls, image, second, repair.differing[0]) : null;
-            if (app.second !== second) return;
-            this.found = { repair, pieces, shift };
+        /** @type {Piece[]} */
+        const pieces = [];
+        await this.once(async watch => {
+            const repair = await mergeImages(app.crew, image, [second], watch, piece => { pieces.push(piece); });
+            return { repair, pieces, shift: repair.refused ? await shiftOf(app.calls, image, second, repair.differing[0]) : null };
+        }, async found => {
+            this.found = found;
             this.draw();
-            app.setRepair(repair);
+            app.setRepair(found.repair);
             await this.drawTable();
-        } catch (error) {
-            if (app.second !== second) return;
-            this.begun = false;
-            throw error;
-        }
+        });
     }
 
     /** The blocks that are not repaired: damaged ones, and those inside Mode 1 that are it in neither image. */
