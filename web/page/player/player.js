@@ -55,7 +55,7 @@ export class Player {
             change: () => this.open([...this.input.files || []]) });
         this.steps = element('ol', { class: 'steps' });
         fill(place, how.note, authorsWords(data), this.steps, element('p', { class: 'safe left' }, icon('lock'),
-                element('span', {}, element('b', {}, texts.nothingLeaves), ' ', texts.newFileIsSaved)), moreOf(data), this.input);
+            element('span', {}, element('b', {}, texts.nothingLeavesYourComputer), ' ', texts.newFileIsSaved)), moreOf(data), this.input);
         this.start();
     }
 
@@ -153,7 +153,7 @@ export class Player {
         if (!isChosen) return this.showUnknown(name, said, image, judged);
         const first = this.step('1', 'done', texts.yourDisc, name, said, reasonForPlayer(judged, image.reader.size, this.data.image.size),
             this.details(image, judged));
-        if (verdict === 'patched') return this.show(first, this.step('2', 'done', texts.stepPatched, texts.nothingToDo),
+        if (verdict === 'patched') return this.show(first, this.step('2', 'done', texts.stepPatched, texts.nothingLeftToDo),
             this.playStep(image.name, this.sheetFor(image.name)));
         const patch = button('main big', () => this.patch(image, judged, first), texts.patchAndSave);
         const space = Math.ceil(image.reader.size / 1e6);
@@ -267,9 +267,9 @@ export class Player {
      */
     saved({ made, name, size, streamed, sha1 }, verdict, first) {
         const refused = made.outcomes.filter(it => it.result !== RESULT.OK).length;
-        const head = say(streamed ? texts.savedAs : texts.browserIsSaving, { name: nameOf(name) });
+        const head = say(streamed ? texts.savedAs : texts.browserSavesPatched, { name: nameOf(name) });
         const same = sha1 !== '' && texts.exactlyAuthorsImage;
-        const wait = !streamed && told(texts.keepPageOpen, { size: Math.ceil(size / 1e6) });
+        const wait = !streamed && told(texts.megabytesKeepPageOpen, { size: Math.ceil(size / 1e6) });
         const left = refused > 0 && told(texts.changesLeftOut, { n: refused });
         const unknown = verdict === 'unknown' && texts.nothingShowedFit;
         const tone = refused > 0 || unknown ? 'warn' : 'good';

@@ -21,7 +21,7 @@ export function showPlayer(app, data, how) {
     document.body.classList.add('player');
     home.data = texts.patcherMadeWith;
     const player = new Player(app, data, how, place);
-    const dropSays = () => [texts.dropToCheck];
+    const dropSays = () => [texts.dropToBeChecked];
     const giveBack = app.serve({ open: files => player.open(files), dropSays });
     const refused = said();
     const leave = async (/** @type {boolean} */ full) => {

@@ -64,7 +64,7 @@ class PublishPanel {
             element('label', { for: field.id }, label), field);
         this.cueRow = element('label', { class: 'check' }, this.sheet, element('span', {}, texts.offerCueSheet));
         this.carryRow = element('label', { class: 'check', hidden: true }, this.carry,
-            element('span', {}, ...say(texts.patchDamagedToo, { carry: term('carry', 'carry') })));
+            element('span', {}, ...say(texts.damagedTooAsOpened, { carry: term('carry', 'carry') })));
         return element('section', { class: 'card', 'aria-label': texts.patcherForPlayers },
             element('header', {}, element('h2', {}, texts.patcherForPlayers)),
             element('div', { class: 'pad stack' }, row(texts.patcherTitle, this.title), row(texts.patcherAuthor, this.author),
