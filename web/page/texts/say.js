@@ -9,10 +9,15 @@ import { LANGUAGE } from './english.js';
  * @typedef {Text extends `${string}{${infer Name}}${infer Rest}` ? Name | NamesIn<Rest> : never} NamesIn
  */
 /**
+ * The same and, if it has several forms, the number that chooses one.
+ * @template {string} Text
+ * @typedef {NamesIn<Text> | (Text extends `${string}|${string}` ? 'n' : never)} Given
+ */
+/**
  * What goes into a text, by the names in its braces.
  * @template {string} Text
  * @template Part
- * @typedef {[NamesIn<Text>] extends [never] ? [] : [{ [Name in NamesIn<Text>]: Part }]} Parts
+ * @typedef {[Given<Text>] extends [never] ? [] : [{ [Name in Given<Text>]: Part }]} Parts
  */
 
 const counts = new Intl.PluralRules(LANGUAGE);
