@@ -9,13 +9,17 @@ joined_page.js. The bytes follow only from these files and from the versions of 
     <link rel="stylesheet" href="style.css">
     <script type="module" src="main.js"></script>
     <plaintext hidden id="data">
+What stands there in braces is the text of that key of `page/texts/english.js`.
 """
 
 import argparse
+import ast
 import base64
 import gzip
 import hashlib
+import html
 import json
+import re
 import subprocess
 import sys
 import tempfile
@@ -53,6 +57,8 @@ ICON = '<link rel="icon" href="icon.svg">'
 STYLE = '<link rel="stylesheet" href="style.css">'
 DATA = '<plaintext hidden id="data">\n'
 END = f'<script type="module" src="main.js"></script>\n{DATA}'
+# A text of english.js, which may go on in lines that are set in.
+TEXT = re.compile(r'''^export const (\w+) = (['"].*(?:\n    .*)*);$''', re.MULTILINE)
 POLICY_TAG = '<meta http-equiv="Content-Security-Policy" content="'
 POLICY = ("default-src 'none'; script-src '{script}' 'wasm-unsafe-eval'; style-src '{style}'; worker-src blob:; img-src data: blob:; "
           "connect-src 'none'; form-action 'none'; base-uri 'none'; require-trusted-types-for 'script'; trusted-types cdpatch")
@@ -94,10 +100,27 @@ def cut(text: str, line: str) -> list[str]:
     return text.split(line)
 
 
+def texts_of(english: str) -> dict[str, str]:
+    """The texts of english.js by their keys. Texts that `+` joins over the end of a line are joined for Python as they stand."""
+    return {key: ast.literal_eval('(' + text.replace(' +\n', '\n') + ')') for key, text in TEXT.findall(english)}
+
+
+def with_texts(web: Path) -> str:
+    """page.html with its texts."""
+    texts = texts_of(read(web / 'page' / 'texts' / 'english.js').decode())
+
+    def text_of(found: re.Match[str]) -> str:
+        if found[1] not in texts:
+            sys.exit(f'pack.py: page.html: english.js has no text {found[1]}')
+        return html.escape(texts[found[1]])
+
+    return re.sub(r'\{(\w+)\}', text_of, read(web / 'page' / 'page.html').decode())
+
+
 def page_pieces(web: Path) -> list[str]:
     """What stands before the policy, between it and the style, between that and the script, and after it."""
     icon = base64.b64encode(read(web / 'page' / 'icon.svg')).decode()
-    text = f'<link rel="icon" href="data:image/svg+xml;base64,{icon}">'.join(cut(read(web / 'page' / 'page.html').decode(), ICON))
+    text = f'<link rel="icon" href="data:image/svg+xml;base64,{icon}">'.join(cut(with_texts(web), ICON))
     before, rest = cut(text, CHARSET)
     to_style, rest = cut(rest, STYLE)
     to_script, after = cut(rest, END)
