@@ -34,9 +34,9 @@ EVERY = ['--bundle', '--charset=utf8', '--legal-comments=none', '--log-level=war
          '--tsconfig=none.json', '--preserve-symlinks', '--minify-whitespace']
 COMMAND = ['--platform=node', '--target=node18', '--format=cjs', '--inject:tools/joined_command.js',
            '--footer:js=if (require.main === module) module.exports.start();']
-# esbuild does not say by itself that modules are strict.
-# --minify-syntax would write the line ends of texts as they are, and so the mark before a patcher's data would stand in the script.
-PAGE = ['--target=es2022', '--format=iife', '--minify-identifiers', "--banner:js='use strict';"]
+# esbuild does not say by itself that modules are strict. Of a text it writes the line ends as they are: a text with the mark before a
+# patcher's data is refused below, and has to be joined of two.
+PAGE = ['--target=es2022', '--format=iife', '--minify-identifiers', '--minify-syntax', "--banner:js='use strict';"]
 # A shell runs the lines to `exec`, which are a comment for node. Node would take a closed stream for an empty one.
 SHELL = f"""\
 #!/bin/sh

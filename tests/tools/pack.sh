@@ -10,7 +10,7 @@ tree=${TREE-$top}
 # wanted NAME COMMAND..: judges by this name, if it is wanted.
 wanted() { [ "${CASE-$1}" != "$1" ] || judge "$@"; }
 
-# A small `web`: a core of two modules, a command and a page, whose text has what would begin the data of a patcher.
+# A small `web`: a core of two modules, a command and a page, whose script has the mark before the data of a patcher, of two texts.
 mkdir -p small/{core,command,page/texts}
 printf '%s\n' '// What both doors use.' '' '/** @typedef {number} Size */' '' 'const step = 3;' '' '/**' ' * Adds.' ' * @param {number} n' ' */' \
     'export function more(n) {' '    return n + step; // stays' '}' > small/core/count.js
@@ -23,7 +23,7 @@ printf '%s\n' "import { basename } from 'node:path';" "import { gunzipSync } fro
     'export function start() {' '    main(process.argv.slice(2));' '}' > small/command/main.js
 printf '%s\n' "import { Twice } from '../core/twice.js';" "import { draw } from './draw.js';" 'globalThis.joined = JOINED;' \
     'draw(new Twice().of(1));' > small/page/main.js
-printf '%s\n' 'export function draw(...values) {' "    document.title = values.join('\\n<plaintext hidden id=\"data\">\\n');" '}' \
+printf '%s\n' 'export function draw(...values) {' "    document.title = ['', '<plaintext hidden id=\"data\">', ...values].join('\\n');" '}' \
     > small/page/draw.js
 printf '%s\n' "import { more } from '../core/count.js';" 'self.onmessage = event => self.postMessage([more(event.data)]);' > small/page/worker.js
 printf '%s\n' '<!doctype html>' '<meta charset="utf-8">' '<title>small</title>' '<link rel="icon" href="icon.svg">' \
@@ -147,6 +147,7 @@ test_refusals() {
     refuses page 'Could not resolve "node:fs"' page/draw.js before "import { readSync } from 'node:fs';"
     refuses page 'could end it, or change on its way' page/main.js after "draw('<!--');"
     refuses page 'could end it, or change on its way' page/main.js after 'draw(`\n<plaintext`);'
+    refuses page 'could end it, or change on its way' page/draw.js after "draw('\\\\n<plaintext');"
     refuses page 'english.js has no text KEYS' page/page.html sed 's/{small}/{KEYS}/'
     refuses page 'Expected ":"' page/style.css after 'p { colour red; }'
     refuses page 'it has another end or another script' page/page.html after 'text'
