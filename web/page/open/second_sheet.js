@@ -38,7 +38,7 @@ export async function takeSecond(app, second, aim) {
  */
 function askFor({ survey }, image, second, words) {
     /** @type {[PairJob | 'instead', Child[]][]} */
-    const jobs = [['repair', say(texts.repairFromIt, { name: nameOf(image.name) })], ['compare', [texts.compareIt]],
+    const jobs = [['repair', say(texts.repairItFrom, { name: nameOf(image.name) })], ['compare', [texts.compareIt]],
         ['instead', [texts.openItInstead]]];
     const isSound = survey !== null && survey.over && survey.marks.damaged() === 0;
     const { from, to } = commonPart(image, second);
@@ -56,7 +56,7 @@ function askFor({ survey }, image, second, words) {
  */
 function whyNoPair(image, second) {
     const [file, other] = [image, second].map(({ reader }) => fileOf(reader));
-    if (file && other && isSameFile(file, other)) return [texts.isOpenImage];
+    if (file && other && isSameFile(file, other)) return [texts.isImageItself];
     if (isSameRange(image, second)) return [];
     const { from, to, later } = commonPart(image, second);
     const [name, more] = [nameOf(image.name), second.sectors - image.sectors];

@@ -137,7 +137,7 @@ function trackChoice(app, image) {
  */
 function shaWaits({ reader }, { hashed }, length) {
     const percent = reader.size === 0 ? 0 : Math.floor(100 * hashed / reader.size);
-    const words = hashed < 0 ? texts.sumNotKnown : `(${told(texts.inPercent, { n: percent })})`;
+    const words = hashed < 0 ? texts.hashNotKnown : `(${told(texts.inPercent, { n: percent })})`;
     return words.padEnd(length).replace(/ /g, '\u00a0');
 }
 

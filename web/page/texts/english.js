@@ -193,10 +193,10 @@ export const renameToDisc = 'Rename it to disc.chd before that: a terminal may r
 export const notOpenedYet = 'Not opened.';
 
 // what a second image is for
-export const repairFromIt = 'Repair {name} from it';
+export const repairItFrom = 'Repair {name} from it';
 export const compareIt = 'Compare';
 export const openItInstead = 'Open it instead';
-export const isOpenImage = 'This is the open image itself.';
+export const isImageItself = 'This is the open image itself.';
 export const isAnotherPart = 'It is another part of a disc than {name}.';
 export const hasAnotherTail = 'It has another tail than {name}.';
 export const hasMoreSectors = 'It has {n} sector more than {name}.|It has {n} sectors more than {name}.';
@@ -219,7 +219,7 @@ export const tailOf = 'a tail of {n} byte|a tail of {n} bytes';
 export const fromSheet = 'from {sheet}: {tracks}';
 export const trackOfType = 'track {number}, {type}';
 export const dataTrack = 'Data track {choice}';
-export const sumNotKnown = 'not known';
+export const hashNotKnown = 'not known';
 export const sumsOfImage = '{name}\nsize {size}\nCRC-32 {crc32}\nSHA-1 {sha1}\n';
 export const copyHashes = 'Copy all hashes';
 export const blockOfFirst = 'The block of the first sector';
