@@ -57,8 +57,8 @@ ICON = '<link rel="icon" href="icon.svg">'
 STYLE = '<link rel="stylesheet" href="style.css">'
 DATA = '<plaintext hidden id="data">\n'
 END = f'<script type="module" src="main.js"></script>\n{DATA}'
-# A text of english.js, which may go on in lines that are set in.
-TEXT = re.compile(r'''^export const (\w+) = (['"].*(?:\n    .*)*);$''', re.MULTILINE)
+# The text of a key in english.js, which may go on in lines that are set in.
+TEXT = r'''^export const {} = (['"].*(?:\n    .*)*);$'''
 POLICY_TAG = '<meta http-equiv="Content-Security-Policy" content="'
 POLICY = ("default-src 'none'; script-src '{script}' 'wasm-unsafe-eval'; style-src '{style}'; worker-src blob:; img-src data: blob:; "
           "connect-src 'none'; form-action 'none'; base-uri 'none'; require-trusted-types-for 'script'; trusted-types cdpatch")
@@ -100,19 +100,15 @@ def cut(text: str, line: str) -> list[str]:
     return text.split(line)
 
 
-def texts_of(english: str) -> dict[str, str]:
-    """The texts of english.js by their keys. Texts that `+` joins over the end of a line are joined for Python as they stand."""
-    return {key: ast.literal_eval('(' + text.replace(' +\n', '\n') + ')') for key, text in TEXT.findall(english)}
-
-
 def with_texts(web: Path) -> str:
-    """page.html with its texts."""
-    texts = texts_of(read(web / 'page' / 'texts' / 'english.js').decode())
+    """page.html with its texts. Those that `+` joins over the end of a line are joined for Python as they stand."""
+    english = read(web / 'page' / 'texts' / 'english.js').decode()
 
     def text_of(found: re.Match[str]) -> str:
-        if found[1] not in texts:
+        text = re.search(TEXT.format(found[1]), english, re.MULTILINE)
+        if text is None:
             sys.exit(f'pack.py: page.html: english.js has no text {found[1]}')
-        return html.escape(texts[found[1]])
+        return html.escape(str(ast.literal_eval('(' + text[1].replace(' +\n', '\n') + ')')))
 
     return re.sub(r'\{(\w+)\}', text_of, read(web / 'page' / 'page.html').decode())
 
