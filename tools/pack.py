@@ -137,7 +137,6 @@ def page(parts: Path, made: list[str]) -> str:
     own = {'html': pieces, 'policy': policy.split('{script}'), 'made': made,
            'style': {'size': len(style.encode()), 'sha1': hashlib.sha1(style.encode()).hexdigest()}}
     (parts / 'own.gz').write_bytes(packed(json.dumps(own, ensure_ascii=False).encode()))
-    (parts / 'worker.gz').write_bytes(packed(esbuild('web/page/worker.js', *EVERY, *PAGE, at=parts).encode()))
     script = esbuild('web/page/main.js', *EVERY, *PAGE, '--inject:tools/joined_page.js', at=parts)
     if any(text in script.lower() + style.lower() for text in ('</script', '</style', '<!--', '\n<plaintext', '\r', '\0', '\ufeff')):
         sys.exit('pack.py: the script or the style has what could end it, or change on its way')

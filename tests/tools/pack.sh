@@ -21,11 +21,12 @@ printf '%s\n' "import { basename } from 'node:path';" "import { gunzipSync } fro
     "    const module = gunzipSync(Buffer.from(JOINED.module, 'base64')).toString('hex').slice(-8);" \
     '    console.log(new Twice().of(step), more(1), basename(JOINED.file), module, ...words);' '}' \
     'export function start() {' '    main(process.argv.slice(2));' '}' > small/command/main.js
-printf '%s\n' "import { Twice } from '../core/twice.js';" "import { draw } from './draw.js';" 'globalThis.joined = JOINED;' \
-    'draw(new Twice().of(1));' > small/page/main.js
+printf '%s\n' "import { Twice } from '../core/twice.js';" "import { draw } from './draw.js';" "import './worker.js';" \
+    'globalThis.joined = JOINED;' "if (JOINED.script !== '') draw(new Twice().of(1));" > small/page/main.js
 printf '%s\n' 'export function draw(...values) {' "    document.title = ['', '<plaintext hidden id=\"data\">', ...values].join('\\n');" '}' \
     > small/page/draw.js
-printf '%s\n' "import { more } from '../core/count.js';" 'self.onmessage = event => self.postMessage([more(event.data)]);' > small/page/worker.js
+printf '%s\n' "import { more } from '../core/count.js';" \
+    "if (typeof document === 'undefined') self.onmessage = event => self.postMessage([more(event.data)]);" > small/page/worker.js
 printf '%s\n' '<!doctype html>' '<meta charset="utf-8">' '<title>small</title>' '<link rel="icon" href="icon.svg">' \
     '<link rel="stylesheet" href="style.css">' '<p id="text" title="{title}">{small}</p>' '<script type="module" src="main.js"></script>' \
     '<plaintext hidden id="data">' > small/page/page.html
@@ -111,7 +112,7 @@ test_page() {
     missing node nodejs 'what a joined page has' && return
     judge 'it has the whole module' node "$tests/tools/packed_page.mjs" module page.html module 2> log
     judge 'it has the notices' node "$tests/tools/packed_page.mjs" notices page.html NOTICES 2> log
-    judge "it has the program of its workers" node "$tests/tools/packed_page.mjs" worker page.html 2> log
+    judge 'its script is the program of its workers' node "$tests/tools/packed_page.mjs" worker page.html 2> log
     judge 'it has what its own text is made of, and the names of what made it' node "$tests/tools/packed_page.mjs" own page.html 2> log
 }
 

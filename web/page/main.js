@@ -12,6 +12,7 @@ import { mountText } from './text/index.js';
 import * as texts from './texts/index.js';
 import { fill } from './ui/fill.js';
 import { byId, element, isCancelled, showFailure } from './ui/index.js';
+import './worker.js';
 
 /** @typedef {import('./app/state.js').Parts} Parts */
 
@@ -46,4 +47,4 @@ function refuseFrame() {
     return null;
 }
 
-if (typeof JOINED !== 'undefined') startPage(packedParts());
+if (typeof JOINED !== 'undefined' && JOINED.script !== '') startPage(packedParts());
