@@ -189,7 +189,7 @@ export class FilesList {
                 });
                 if (app.image === image) fill(this.said, said);
             } catch (error) {
-                if (app.image === image) fill(this.said, isCancelled(error) ? notice('plain', texts.fileJobCancelled, unmade)
+                if (app.image === image) fill(this.said, isCancelled(error) ? notice('plain', texts.jobCancelled, unmade)
                     : notice('bad', unmade, ...messageParts(error, [image.name])));
             } finally {
                 fill(this.job);

@@ -38,7 +38,7 @@ export class Findings {
         this.body = element('div', { class: 'scroll fit', id: 'findings-body', role: 'tabpanel' });
         this.foot = element('p', { class: 'foot' });
         this.files = new FilesList(app);
-        const tools = element('span', { class: 'row to-end' }, copyButton('slim bare', () => this.report(), texts.copyReport,
+        const tools = element('span', { class: 'row to-end' }, copyButton('slim bare', () => this.report(), texts.copy,
             texts.copyReportWhat), button('slim bare', () => downloadText(this.report(), `${this.reportName()}.txt`), texts.saveReport));
         this.part = element('section', { class: 'card', id: 'findings', 'aria-label': texts.findingsCard },
             element('header', {}, this.tabs, tools), this.files.tools, this.body, this.foot);

@@ -37,7 +37,7 @@ async function takeList(app, file) {
         await known.add(piecesOf(file));
         app.addDumps(known);
         const next = app.image === null ? texts.openToLookUp : texts.imageIsLookedUp;
-        showNotice('good', say(texts.dumpsLoaded, { name: nameOf(file.name) }),
+        showNotice('good', say(texts.fileLoaded, { name: nameOf(file.name) }),
             `${told(texts.dumpsListed, { n: known.dumps.size })} ${next}`);
     } catch (error) {
         showNotice('bad', say(texts.notAListOfDumps, { name: nameOf(file.name) }), messageOf(error));

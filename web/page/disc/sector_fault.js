@@ -98,7 +98,7 @@ function noCopy({ second }, copies) {
  */
 function repairButton(app) {
     const { second, repair } = app;
-    if (second === null || repair !== null) return button('slim main', () => app.choose('repair'), texts.repairFromAnother);
+    if (second === null || repair !== null) return button('slim main', () => app.choose('repair'), texts.repairFromOther);
     const words = say(texts.repairFrom, { name: nameOf(second.name) });
     return button('slim main', () => app.setSecond(second, 'repair'), element('span', {}, ...words));
 }

@@ -120,7 +120,7 @@ export class Player {
         const names = files.map(file => file.name);
         const kinds = await Promise.all(files.map(file => natureOf(this.app.calls, fileReader(file)).then(({ kind }) => kind, () => '')));
         const iso = names[kinds.indexOf('iso')];
-        return iso === undefined ? notice('bad', texts.discNotOpened, ...messageParts(error, names))
+        return iso === undefined ? notice('bad', texts.notOpenedYet, ...messageParts(error, names))
             : notice('bad', say(texts.isoOfPartSectors, { name: nameOf(iso) }), texts.needsFullDump);
     }
 
@@ -227,8 +227,8 @@ export class Player {
         const { app, data } = this;
         try {
             const saved = await app.runSave((signal, cancel) => {
-                const bar = jobBar(texts.savingPatched, cancel, { saves: true });
-                this.show(first, this.step('2', 'now', say(texts.savingPatchedAs, { name: nameOf(data.name) }), ...bar.parts));
+                const bar = jobBar(texts.savingImage, cancel, { saves: true });
+                this.show(first, this.step('2', 'now', say(texts.savingFile, { name: nameOf(data.name) }), ...bar.parts));
                 this.leaving = this.saving = true;
                 this.stop = cancel;
                 const wanted = verdict === 'right' ? data.result : '';
@@ -267,9 +267,9 @@ export class Player {
      */
     saved({ made, name, size, streamed, sha1 }, verdict, first) {
         const refused = made.outcomes.filter(it => it.result !== RESULT.OK).length;
-        const head = say(streamed ? texts.savedAs : texts.browserSavesPatched, { name: nameOf(name) });
+        const head = say(streamed ? texts.fileSaved : texts.browserIsSaving, { name: nameOf(name) });
         const same = sha1 !== '' && texts.exactlyAuthorsImage;
-        const wait = !streamed && told(texts.megabytesKeepPageOpen, { size: Math.ceil(size / 1e6) });
+        const wait = !streamed && told(texts.keepPageOpen, { size: Math.ceil(size / 1e6) });
         const left = refused > 0 && told(texts.changesLeftOut, { n: refused });
         const unknown = verdict === 'unknown' && texts.nothingShowedFit;
         const tone = refused > 0 || unknown ? 'warn' : 'good';

@@ -169,7 +169,7 @@ class PublishPanel {
     fitRow({ name }, { patches, refused, first, damaged }) {
         const { head } = fitWords(this.app.script.name, name, patches - refused, patches);
         const go = first > 0 && button('slim bare tiny', () => this.app.goToLine(first - 1),
-            told(texts.goToScriptLine, { line: String(first) }));
+            told(texts.goToLine, { line: String(first) }));
         return [patches > 0 && refused === 0 ? 'good' : 'bad', ...head, ' ', go,
             damaged > 0 && ` ${told(texts.changesForDamage, { n: damaged })}`];
     }
@@ -209,7 +209,7 @@ class PublishPanel {
             });
         } catch (error) {
             this.say();
-            sayAt(this.said, isCancelled(error) ? notice('plain', texts.patcherCancelled, texts.noPatcherSaved)
+            sayAt(this.said, isCancelled(error) ? notice('plain', texts.jobCancelled, texts.noPatcherSaved)
                 : notice('bad', sentence(error), texts.noPatcherSaved));
         } finally {
             this.busy = false;
@@ -244,7 +244,7 @@ class PublishPanel {
         const name = `${stemOf(data.title) || 'patcher'}.html`;
         download(new Blob([publishedSource(this.app.calls), await patcherText(this.app.calls, data)], { type: 'text/html' }), name);
         this.edited = false;
-        sayAt(this.said, notice('good', say(texts.savedAs, { name: nameOf(name) }), texts.playersOpenIt));
+        sayAt(this.said, notice('good', say(texts.fileSaved, { name: nameOf(name) }), texts.playersOpenIt));
     }
 }
 

@@ -122,9 +122,9 @@ export class SaveCard {
         const what = () => refused === 0 ? nameOf(name)
             : say(texts.fileWithout, { name: nameOf(name), refused: String(refused), n: made.outcomes.length });
         const tone = refused === 0 ? 'good' : 'warn';
-        this.sayWhole = () => fill(this.said, notice(tone, say(texts.savedFile, { name: what() }), texts.otherBytesAsBefore));
+        this.sayWhole = () => fill(this.said, notice(tone, say(texts.fileSaved, { name: what() }), texts.otherBytesAsBefore));
         if (streamed) this.sayWhole();
-        else fill(this.said, notice(tone, say(texts.browserIsSaving, { name: what() }), texts.keepPageOpen));
+        else fill(this.said, notice(tone, say(texts.browserIsSaving, { name: what() }), texts.keepPageOpenOnly));
         this.app.noteSaved(image, name);
         const sheet = sheetNaming(image.sheet, image.renamed);
         const sheetName = image.disc.files.length > 1 ? patchedName(image.from) : name.replace(/(\.[^.]*)?$/, '.cue');
@@ -163,7 +163,7 @@ export class SaveCard {
             return [element('dt', {}, 'SHA-1'), sha1];
         }
         const sums = sumsOf(this.app, fileReader(file), { aborted: false }, done => {
-            sha1.textContent = told(texts.sumPercent, { percent: Math.floor(100 * done / saved.size) });
+            sha1.textContent = told(texts.hashPercent, { percent: Math.floor(100 * done / saved.size) });
         });
         this.sum = sums.then(it => it.sha1);
         sums.then(it => {
@@ -171,7 +171,7 @@ export class SaveCard {
             crc32.textContent = it.crc32;
         }, error => {
             sha1.textContent = messageOf(error);
-            crc32.textContent = texts.sumNotKnown;
+            crc32.textContent = texts.hashNotKnown;
         });
         return [element('dt', {}, 'SHA-1'), sha1, element('dt', {}, 'CRC-32'), crc32];
     }

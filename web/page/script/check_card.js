@@ -70,7 +70,7 @@ export class CheckCard {
         if (this.saving.shown()) return fill(this.card, ...this.saving.parts());
         const { lines } = this.owner;
         const took = this.patched !== null && this.seconds >= 0.05
-            && element('span', { class: 'tag' }, told(texts.checkTook, { seconds: this.seconds.toFixed(1) }));
+            && element('span', { class: 'tag' }, told(texts.inSeconds, { seconds: this.seconds.toFixed(1) }));
         fill(this.head, element('h2', {}, texts.checkScript), took);
         fill(this.card, this.head, this.body);
         if (this.app.image === null) return fill(this.body, lines.faults > 0 && this.faults(),

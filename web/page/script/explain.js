@@ -70,5 +70,5 @@ function pairOf(app, { fresh, old }) {
     const encoding = chosenEncoding(app);
     const row = (/** @type {string} */ name, /** @type {Uint8Array} */ bytes) => [element('span', { class: 'quiet' }, name),
         element('span', { class: 'mono' }, shownText(encoding.text(bytes.subarray(0, MOST_BYTES_SHOWN))))];
-    return element('div', { class: 'pair' }, ...row(texts.newText, fresh), ...old ? row(texts.oldText, old) : []);
+    return element('div', { class: 'pair' }, ...row(texts.newTextShort, fresh), ...old ? row(texts.oldText, old) : []);
 }

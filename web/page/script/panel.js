@@ -144,7 +144,7 @@ class ScriptPanel {
         fill(this.head, element('h2', { class: name ? 'mono' : '' }, name ? nameOf(name) : texts.newScript),
             element('span', { class: `tag${fault ? ' bad' : ''}` }, this.amount()),
             this.isLost() && element('span', { class: 'tag warn' }, texts.scriptNotSaved),
-            button('slim bare', () => this.opening.click(), texts.openScript),
+            button('slim bare', () => this.opening.click(), texts.openOther),
             keyed('save', button('slim bare', () => this.save(), texts.saveScript)), undo);
         const count = byId('count-script');
         count.hidden = !fault && lines.patches === 0;
@@ -250,8 +250,8 @@ class ScriptPanel {
         const shown = text.length > MOST_LOG ? `${text.slice(0, text.lastIndexOf('\n', MOST_LOG))}\n…\n` : text;
         const command = element('span', { class: 'mono' }, 'cdpatch check');
         fill(this.log, element('header', {}, element('h2', {}, texts.logOfCheck),
-            copyButton('slim bare', () => text, texts.copyLog, texts.whichLog),
-            button('slim bare', () => downloadText(text, texts.logFile), texts.saveLog,
+            copyButton('slim bare', () => text, texts.copy, texts.whichLog),
+            button('slim bare', () => downloadText(text, texts.logFile), texts.saveReport,
                 element('span', { class: 'hide' }, texts.whichLog))),
         element('div', { class: 'pad stack tight' }, element('pre', { class: 'log', tabindex: 0, 'aria-label': texts.logOfCheck }, shown),
             element('p', { class: 'small quiet' }, ...say(texts.logIsPrinted, { command }))));

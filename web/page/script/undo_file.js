@@ -50,7 +50,7 @@ async function makeUndoAt(app, image, { bar: place, said }, lines, carry) {
         const { left, script: { long } } = made;
         const words = [left.length > 0 ? told(texts.undoButForDamage, { blocks: blocksText(left, 8) }) : texts.undoGetsOriginalBack,
             carry && texts.undoWithCarry, long && texts.undoIsLong];
-        sayAt(said, notice(left.length > 0 || long ? 'warn' : 'good', say(texts.savedFile, { name: nameOf(name) }),
+        sayAt(said, notice(left.length > 0 || long ? 'warn' : 'good', say(texts.fileSaved, { name: nameOf(name) }),
             words.filter(it => it).join(' ')));
     } catch (error) {
         sayAt(said, isCancelled(error) ? notice('plain', texts.jobCancelled, texts.noUndoMade)

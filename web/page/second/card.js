@@ -28,8 +28,8 @@ export class SecondCard {
         this.jobs = { repair: new SecondRepair(app, changed), compare: new SecondCompare(app, changed) };
         oneStop(this.tabs, '[role=tab]', tab => this.choose(/** @type {Job} */ (tab.dataset.tab)));
         const card = element('section', { class: 'card', 'aria-labelledby': 'second-title' },
-            element('header', {}, this.title, button('slim bare', () => this.openInstead(), texts.openSecondInstead),
-                button('slim bare', () => this.close(), texts.closeSecond)),
+            element('header', {}, this.title, button('slim bare', () => this.openInstead(), texts.openItInstead),
+                button('slim bare', () => this.close(), texts.close)),
             element('div', { class: 'pad stack' }, this.said, this.tabs, this.body));
         this.part = element('div', { class: 'side', hidden: true }, card, this.table);
     }
@@ -91,7 +91,7 @@ export class SecondCard {
 
     drawTabs() {
         /** @type {[Job, string][]} */
-        const names = [['repair', texts.repairFromIt], ['compare', texts.compareWithIt]];
+        const names = [['repair', texts.repairFromIt], ['compare', texts.compareIt]];
         const { image, second } = this.app;
         // A script changes no length, and no sector's place.
         if (image === null || second === null || !isSameRange(image, second)) names.pop();

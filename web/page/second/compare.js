@@ -45,7 +45,7 @@ export class SecondCompare extends PairJob {
         const all = differ + damaged + others;
         const tally = tallyOf([[all, all === 1 ? texts.sectorDiffers : texts.sectorsDiffer, ''],
             [onlyCodes, texts.differInCodesOnly, ''], [damaged, texts.damagedInSecond, damaged > 0 ? 'bad-ink' : '']]);
-        const write = element('div', { class: 'row' }, button('main', () => this.write('save'), texts.saveComparison),
+        const write = element('div', { class: 'row' }, button('main', () => this.write('save'), texts.saveTheScript),
             button('', () => this.write('open'), texts.openInScript));
         const same = notice('good', tail ? texts.bothSameSectors : texts.bothSameBytes);
         const other = tail && notice('warn', texts.tailsDiffer, texts.noScriptChangesThem);

@@ -141,7 +141,7 @@ export class SecondRepair extends PairJob {
         const show = (/** @type {Child[]} */ ...parts) => fill(place, ...parts);
         try {
             const saved = await app.runSave((signal, cancel) => {
-                const bar = jobBar(texts.savingRepaired, cancel, { saves: true });
+                const bar = jobBar(texts.savingImage, cancel, { saves: true });
                 show(...bar.parts);
                 this.saving = true;
                 const progress = (/** @type {number} */ done) => bar.at(done, image.reader.size);
@@ -175,7 +175,7 @@ export class SecondRepair extends PairJob {
         const open = button('', () => {
             readImage(app, null);
             app.open([file], 'look');
-        }, texts.openRepaired);
+        }, texts.openNewImage);
         return [said, element('dl', { class: 'hashes' }, element('dt', {}, 'SHA-1'), sum), element('div', { class: 'row' }, open)];
     }
 
@@ -227,7 +227,7 @@ export class SecondRepair extends PairJob {
                 : findingOf(calls, block, calls.survey(sector, block)) || texts.notOfMode1);
             const [file] = files === null ? [] : filesAt(files.files, block, 0);
             const same = other !== null && old.every((it, i) => it === other[i]);
-            const where = file ? shownName(file.path) : files === null ? '–' : texts.isInNoFile;
+            const where = file ? shownName(file.path) : files === null ? '–' : texts.inNoFile;
             rows.push({ block, here: said[0], there: said[1], file: where, same });
         }
         return rows;

@@ -99,7 +99,7 @@ function written({ size, patches, long }, left, { image, goal }, { open, save })
     const gives = left.length === 0 ? say(texts.givesExactly, it) : say(but, { ...it, blocks: blocksText(left, MOST_LEFT_NAMED) });
     return notice(left.length === 0 ? 'good' : 'warn', told(texts.scriptHasPatches, { n: patches }),
         told(texts.scriptHasBytes, { n: size }), ' ', ...gives, long && ` ${texts.appliedWithLong}`, element('div', { class: 'row' },
-            open !== undefined && button('main', open, texts.openInScript), save !== undefined && button('', save, texts.saveComparison)));
+            open !== undefined && button('main', open, texts.openInScript), save !== undefined && button('', save, texts.saveTheScript)));
 }
 
 /**

@@ -85,7 +85,7 @@ export async function takeTable(app, file) {
         const table = tableEncoding(text);
         sources.set(table, text);
         app.addTable(file.name, table);
-        return notice('good', say(texts.tableLoaded, { name: nameOf(file.name) }), texts.isEncodingNow);
+        return notice('good', say(texts.fileLoaded, { name: nameOf(file.name) }), texts.isEncodingNow);
     } catch (error) {
         return notice('bad', say(texts.noReadableTable, { name: nameOf(file.name) }), messageOf(error));
     }

@@ -99,8 +99,8 @@ export class HitsCard {
         const { app } = this;
         const files = app.files ? filesWith(app.files.files, hit) : [];
         const tags = [line > 0 && element('span', { class: 'tag good' }, told(texts.inScriptLine, { line: String(line) })),
-            hit.offset + hit.size > USER_SIZE && element('span', { class: 'tag' }, texts.overBorder),
-            app.files !== null && files.length === 0 && element('span', { class: 'tag' }, texts.isInNoFile)];
+            hit.offset + hit.size > USER_SIZE && element('span', { class: 'tag' }, texts.overBlockBorder),
+            app.files !== null && files.length === 0 && element('span', { class: 'tag' }, texts.inNoFile)];
         const place = element('td', { class: 'wide' }, ...this.context(i), ...tags);
         const choose = button('plain', () => this.choose(i), hit.block,
             element('span', { class: 'hide' }, `, ${told(texts.hitNumber, { number: String(i + 1) })}`));

@@ -150,7 +150,7 @@ export class TextsTable {
             const { parts, left } = await replaceList(app.calls, part, rows, encodingsOfRows(given, isTable), null, watch);
             const script = parts.script(app.calls);
             if (script.patches > 0) await assertFits(app.calls, image, script);
-            if (script.long) throw new Fault(texts.scriptTooLong);
+            if (script.long) throw new Fault(texts.scriptLongerThanTaken);
             if (app.image !== image) return null;
             if (script.patches > 0) {
                 app.addLines(new TextDecoder().decode(joinedBytes(script.pieces.slice(1))).trimEnd().split('\n'));
@@ -171,7 +171,7 @@ export class TextsTable {
             : told(texts.someTextsFit, { n: fit, others: told(texts.othersDoNot, { n: left }) });
         announce(`${added} ${rows}`);
         return notice(left === 0 ? 'good' : 'warn', added, rows, lines > 0 && element('div', { class: 'row' },
-            button('slim', () => this.app.showPanel('script'), texts.openScript)));
+            button('slim', () => this.app.showPanel('script'), texts.openScriptPanel)));
     }
 
     /**

@@ -99,7 +99,7 @@ export const openFiles = 'Open files…';
 export const orTryExample = 'or {example}: 300 sectors with a scratch and the text {text}';
 export const tryExample = 'try it with an example disc';
 export const takesFiles = 'Takes .bin and .img with 2352 bytes a sector, their .cue, patch scripts and patcher pages; not ISO or CHD.';
-export const nothingLeavesIt = 'Nothing leaves your computer.';
+export const nothingLeavesYourComputer = 'Nothing leaves your computer.';
 export const oneFileOffline = 'This page is one file without any connection. It works offline.';
 
 // words, and what they mean
@@ -299,7 +299,6 @@ export const findingsTab = 'Findings';
 export const filesTab = 'Files';
 export const runsTab = 'Runs';
 export const asTextTab = 'As text';
-export const copyReport = 'Copy';
 export const copyReportWhat = ' the report';
 export const saveReport = 'Save…';
 
@@ -359,7 +358,7 @@ export const nextFiles = 'Next ▸';
 export const chooseFile = 'Choose a file: its first sector opens, and here it can be saved or replaced.';
 export const extractFile = 'Extract…';
 export const replaceFile = 'Replace…';
-export const fileJobCancelled = 'Cancelled.';
+export const jobCancelled = 'Cancelled.';
 export const readingFile = 'Reading the file';
 export const noFileSaved = 'No file was saved.';
 export const fileSaved = 'Saved: {name}';
@@ -388,7 +387,7 @@ export const moreLinesPrinted = '… {n} more line: Copy and Save have all|… {
 export const printedToTheByte = 'The text that the program prints, to the byte.';
 
 // lists of known dumps
-export const dumpsLoaded = 'Loaded: {name}';
+export const fileLoaded = 'Loaded: {name}';
 export const dumpsListed = 'It lists {n} known dump.|It lists {n} known dumps.';
 export const openToLookUp = 'Open a disc image, to see whether it is one of them.';
 export const imageIsLookedUp = 'The open image is looked up in it.';
@@ -445,7 +444,6 @@ export const noPatchRepairsThat = 'So it has probably lost its sync field or its
 export const hasSoundCopy = '{name} has a sound copy: it will be taken.';
 export const copyIsDoubtful = 'But its data and EDC are others: compare both first. Perhaps it is another release.';
 export const hasNoSoundCopy = '{name} has no sound copy of it.';
-export const repairFromAnother = 'Repair from another dump…';
 export const repairFrom = 'Repair from {name}';
 export const addToScript = 'Add {verb} to the script';
 export const isInScript = '{verb} is in the script';
@@ -501,12 +499,8 @@ export const noHexDigits = 'These are no pairs of hexadecimal digits. Press T to
 
 // in tables and notices, as of a second image
 export const columnBlock = 'Block';
-export const blockLabel = 'block';
 export const columnFile = 'File';
-export const isInNoFile = 'in no file';
 export const countOfSectors = '{n} sector|{n} sectors';
-export const jobCancelled = 'Cancelled.';
-export const fileSaved = 'Saved: {name}';
 
 // what is asked for
 export const findText = 'Find';
@@ -517,7 +511,6 @@ export const tableToLoad = 'A table to load';
 export const searchesEverySector = 'Searches the {data} of every sector, including text that runs over into the next one.';
 export const searchedData = 'data';
 export const bytesAre = '{n} byte: {bytes}|{n} bytes: {bytes}';
-export const tableLoaded = 'Loaded: {name}';
 export const isEncodingNow = 'It is the encoding now, here and where bytes are shown as text.';
 export const noReadableTable = 'Not a table that can be read: {name}';
 
@@ -545,7 +538,7 @@ export const columnContext = 'Context';
 export const offsetLabel = 'offset';
 export const hitNumber = 'hit {number}';
 export const inScriptLine = 'in the script, line {line}';
-export const overBorder = 'over a border of blocks';
+export const overBlockBorder = 'over a border of blocks';
 export const showMoreHits = 'Show {n} more';
 
 // replacing a hit
@@ -575,13 +568,9 @@ export const updateLine = 'Update line {line}';
 export const replaceAll = 'Replace all {n}';
 export const skipHit = 'Skip ▸';
 export const replacesAndNext = '{key} replaces and goes to the next hit.';
-export const enterKey = 'Enter';
 export const addedToScript = 'Added to the script.';
-export const nothingAdded = 'Nothing was added to the script.';
 export const lineUpdated = 'Line {line} is updated.';
-export const makingLines = 'Making the lines';
 export const makingOfHits = 'hits';
-export const linesAdded = '{n} line added to the script.|{n} lines added to the script.';
 export const hitsLeft = '{n} hit left: {why}|{n} hits left: {why}';
 export const allHitsInScript = 'All hits are in the script.';
 export const checkToTest = 'Open Script and press Check to test them.';
@@ -602,11 +591,10 @@ export const writeNewTexts = 'Write the new ones in its column “new”, and im
 export const importTable = 'Import a table…';
 export const tableToImport = 'A table to import';
 export const makingOfRows = 'rows';
-export const scriptTooLong = 'The script would be longer than cdpatch takes. cdscript replace --list makes it.';
+export const scriptLongerThanTaken = 'The script would be longer than cdpatch takes. cdscript replace --list makes it.';
 export const newTextsFit = 'The new text fits.|All {n} new texts fit.';
 export const someTextsFit = '{n} new text fits, {others}.|{n} new texts fit, {others}.';
 export const othersDoNot = '{n} does not|{n} do not';
-export const openScript = 'Open Script';
 export const rowsDoNotFit = '{n} row does not fit|{n} rows do not fit';
 export const columnRow = 'Row';
 export const columnPlace = 'Block, offset';
@@ -628,7 +616,6 @@ export const charactersOfScript = '{n} character|{n} characters';
 export const patchesOfScript = '{n} patch|{n} patches';
 export const patchesAndVersion = '{patches}, version {version}';
 export const scriptNotSaved = 'not saved';
-export const openScript = 'Open…';
 export const scriptToOpen = 'A script to open';
 export const saveScript = 'Save script…';
 export const scriptFile = 'script.txt';
@@ -649,7 +636,6 @@ export const undoWithCarry = 'Apply it with carry, as this script.';
 export const undoIsLong = 'It is longer than cdpatch and this page take: cdscript applies it with --long.';
 export const scriptHasFault = 'The script has a fault.';
 export const noUndoMade = 'No undo script was made.';
-export const jobCancelled = 'Cancelled.';
 
 // its lines
 export const lineOfScript = 'Script, line {line} of {all}';
@@ -657,7 +643,6 @@ export const lineSays = '{where}: {words}';
 
 // what a line means: in these texts [block] and [offset] are the first two, as words that open their notes
 export const blockWord = 'block';
-export const offsetWord = 'offset';
 export const lineMeans = 'Line {line}:';
 export const emptyLine = 'an empty line.';
 export const commentLine = 'a comment. It changes nothing.';
@@ -674,7 +659,7 @@ export const writeByte = 'write {size} byte {byte} {place}.|write {size} bytes {
 export const calculateAnew = 'calculate EDC and parity of [block] {block} anew, from the bytes that it has.';
 export const writeAddress = 'write the address {address} in the header of [block] {block}.';
 export const patchIsRefused = 'It {words}.';
-export const newText = 'new';
+export const newTextShort = 'new';
 export const oldText = 'old';
 
 // what is wrong with a line, and what a button makes of it
@@ -707,7 +692,6 @@ export const isItThere = 'Block {block} offset {offset}?';
 // why a patch is refused, and what a button shows
 export const onlyMode1 = 'Only Mode 1 sectors are patched: this is audio, has another mode, or lost its sync field.';
 export const repairFirst = 'Repair the sector first, or tick “Patch damaged sectors too”.';
-export const openTheSector = 'Open the sector';
 export const hasBlocks = 'This image has the blocks {first} to {last}. Another track, or a wrong block?';
 export const lineHasChanged = 'Line {line} has changed these bytes already.';
 export const wrongReleaseOrPlace = 'Another release of the game, or a wrong block or offset.';
@@ -722,7 +706,6 @@ export const openAScript = 'Open a script…';
 
 // Check
 export const checkScript = 'Check';
-export const checkTook = '{seconds} s';
 export const openPatchedImage = 'Open the image that this script patches.';
 export const openTheImage = 'Open the image…';
 export const linesHaveFault = 'A line has a fault|{n} lines have a fault';
@@ -761,8 +744,6 @@ export const countDoesNotFit = '{n} does not fit|{n} do not fit';
 
 // the log; what its buttons are for is only heard
 export const logOfCheck = 'Log';
-export const copyLog = 'Copy';
-export const saveLog = 'Save…';
 export const whichLog = ' the log';
 export const logFile = 'log.txt';
 export const logIsPrinted = 'The same text as {command} prints, in the order of application: by block, then by line.';
@@ -780,15 +761,13 @@ export const patchedInName = 'patched';
 // what was saved
 export const imageSaved = 'Saved';
 export const savingByBrowser = 'Saving by your browser';
-export const savedFile = 'Saved: {name}';
 export const browserIsSaving = 'Your browser is saving {name}';
 export const fileWithout = '{name}, without {refused} of {n} change|{name}, without {refused} of {n} changes';
 export const otherBytesAsBefore = 'All other bytes are as before.';
-export const keepPageOpen = 'Keep this page open until the download is complete.';
+export const keepPageOpenOnly = 'Keep this page open until the download is complete.';
 export const sizeOfSaved = 'size';
-export const sumPercent = '({percent} %)';
+export const hashPercent = '({percent} %)';
 export const sumNotRead = 'not known, for the browser does not read the file again';
-export const sumNotKnown = 'not known';
 export const dropToCheck = 'To check what was saved, drop the file on this page.';
 export const emulatorOpensSheet = 'Your emulator opens a cue sheet: save one that names the new image, beside it.';
 export const sheetNamesOthers = 'The cue sheet names files too that you saved before: {names}';
@@ -829,11 +808,8 @@ export const notTheAuthorsImage = 'The patched image is not the one that the aut
 
 // the card, and the jobs that it offers
 export const whatWithSecond = 'What to do with the second image';
-export const openSecondInstead = 'Open it instead';
-export const closeSecond = 'Close';
 export const secondImageIs = 'Second image: {name}';
 export const repairFromIt = 'Repair from it';
-export const compareWithIt = 'Compare';
 export const comparingBoth = 'Comparing both images';
 export const beginAgain = 'Begin again';
 export const nothingFoundOut = 'Nothing was found out.';
@@ -891,12 +867,8 @@ export const theBlocks = 'blocks {blocks}';
 export const someOfBlocks = '{n} of these blocks';
 
 // saving the repaired image
-export const savingRepaired = 'Saving';
 export const othersAsBefore = 'All sectors that were not repaired are as before.';
-export const browserIsSaving = 'Your browser is saving {name}';
 export const keepPageOpen = '{size} MB. Keep this page open until the download is complete.';
-export const hashPercent = '({percent} %)';
-export const openRepaired = 'Open the new image';
 
 // comparison
 export const bothSameSectors = 'Both images are the same, sector for sector.';
@@ -905,7 +877,7 @@ export const sectorDiffers = 'sector differs';
 export const sectorsDiffer = 'sectors differ';
 export const differInCodesOnly = 'only in EDC or parity';
 export const noScriptChangesThem = 'No script changes them.';
-export const saveComparison = 'Save the script…';
+export const saveTheScript = 'Save the script…';
 export const openInScript = 'Open in Script';
 export const bytesThatDiffer = 'Bytes that differ, by field';
 export const columnHeader = 'header';
@@ -946,7 +918,6 @@ export const nothingInPatcherYet = 'What you wrote under Publish is in no patche
 export const beforeYouSave = 'Before you save';
 export const openImageOfScript = 'Open the image that the script is made for.';
 export const tryingOnImage = 'Trying the script on your image…';
-export const goToScriptLine = 'Go to line {line}';
 export const changesForDamage = '{n} change is for a damaged sector: repair the image first.|\
 {n} changes are for a damaged sector: repair the image first.';
 export const allNameOldBytes = 'Each change names the bytes that it replaces.';
@@ -977,7 +948,6 @@ export const noCopiesPassedOn = 'Until its owner has chosen one, nobody may pass
 export const scriptSavedElsewhere = 'The script itself can be saved under Script.';
 export const calculatingResultSha1 = 'Calculating the SHA-1 of the result';
 export const calculatingForPlayers = 'Calculating the SHA-1 of the patched image, so that players can compare theirs.';
-export const patcherCancelled = 'Cancelled.';
 export const noPatcherSaved = 'No patcher was saved.';
 export const playersOpenIt = 'Players open it with a double click, and drop their image there.';
 
@@ -1022,12 +992,10 @@ export const openInFullCdpatch = 'Open this in the full cdpatch';
 export const whatAuthorWrites = 'What the author writes';
 export const authorWrites = 'The author writes:';
 export const byAuthor = 'by {author}';
-export const nothingLeavesYourComputer = 'Nothing leaves your computer.';
 export const newFileIsSaved = 'Your image is not changed; a new file is saved.';
 export const readTheScript = 'Read the script';
 export const theScriptItself = 'The script';
 export const onlyItsBeginning = 'This is only its beginning. Save it to read all.';
-export const saveTheScript = 'Save the script…';
 export const canITrustIt = 'Can I trust this file?';
 export const howToTrustIt = 'Anybody can change a page and pass it on, and a page cannot vouch for itself. If you are not sure: get ' +
     'cdpatch.html from where you trust it, open it, and drop this file on it. It compares the program byte for byte with its own, and ' +
@@ -1039,7 +1007,6 @@ export const dropDiscImage = 'Drop your disc image here';
 export const dropToBeChecked = 'Drop your disc image: it is checked, and not changed.';
 export const chooseTheImage = 'Choose the image…';
 export const binOrCueAndBins = 'The .bin file, or the .cue and all .bin files together';
-export const discNotOpened = 'Not opened.';
 export const isoOfPartSectors = '{name} is an ISO image, which has only a part of each sector.';
 export const needsFullDump = 'This patcher needs a full dump: a .bin file of 2352 bytes a sector. Dump your disc again, as BIN and CUE.';
 export const isMusicTrack = 'This is music; choose the data track: {name}';
@@ -1091,15 +1058,10 @@ export const patchIt = 'Patch it';
 export const changesNeedSpace = '{n} change. The new file needs {space} MB of space.|{n} changes. The new file needs {space} MB of space.';
 export const patchAndSave = 'Patch and save…';
 export const patchAllTheSame = 'Patch it all the same…';
-export const savingPatched = 'Saving';
-export const savingPatchedAs = 'Saving {name}';
 export const noFileChosen = 'No file was chosen.';
 export const stepPatched = 'Patched';
 export const nothingLeftToDo = 'There is nothing to do.';
-export const savedAs = 'Saved: {name}';
-export const browserSavesPatched = 'Your browser is saving {name}';
 export const exactlyAuthorsImage = 'It is exactly the image that the author made: the SHA-1 is the same.';
-export const megabytesKeepPageOpen = '{size} MB. Keep this page open until the download is complete.';
 export const changesLeftOut = '{n} change left out.|{n} changes left out.';
 export const nothingShowedFit = 'Nothing has shown whether the patch fits this disc.';
 // its third step
