@@ -19,7 +19,10 @@ import { nameOf } from '../ui/index.js';
 export function fitWords(name, image, fitting, all, already = false) {
     const [parts, left] = [{ script: name === '' ? texts.theScript : nameOf(name), image: nameOf(image) }, all - fitting];
     if (all === 0) return { tone: 'plain', head: say(texts.hasNoChange, parts), rest: [texts.wouldBeCopy] };
-    if (already) return { tone: 'good', head: say(texts.isPatchedAlready, parts), rest: say(texts.changesStandThere, { ...parts, n: all }) };
+    if (already) {
+        return { tone: 'good', head: say(texts.isPatchedAlready, { image: parts.image }),
+            rest: say(texts.changesStandThere, { script: parts.script, n: all }) };
+    }
     if (left === 0) return { tone: 'good', head: say(texts.allChangesFit, { ...parts, n: all }), rest: [] };
     if (fitting === 0) return { tone: 'bad', head: say(texts.noChangeFits, { ...parts, n: all }), rest: [texts.anotherRelease] };
     return { tone: 'warn', head: say(texts.someChangesFit, { ...parts, fitting, all, n: left }),
