@@ -106,7 +106,7 @@ audit:                      ## print what to read to know what is promised
 	@python3 -B tools/pages.py audit
 
 # A tarball of what `make` left and the pages, with its checksum, in which `make install` works without the toolchain. Beside it stand
-# cdscript.js and cdpatch.html, which need nothing else, and packages of the same files.
+# cdscript.js and cdpatch.html, which need nothing else, and packages of the same files. It builds nothing: so it is of what was tested.
 .PHONY: dist
 dist:                       ## make a tarball of what was built, which installs without a toolchain
 	@test -x '$(PROGRAM)' || { echo 'There is no $(PROGRAM) to pack: run make first.' >&2; exit 1; }

@@ -105,6 +105,7 @@ def apply(image: ReadableBuffer, script: ReadableBuffer, base: int = 0, carry: b
     is read-only what its type raises then, which is BufferError, or ValueError for an array of numpy."""
     if out is not None:
         return _applied(image, script, base, carry, out)
+    # Bytes would be a second copy of the image. To patch the image itself would lose the old one: examples/patch_map.c does that.
     made = bytearray(memoryview(image))
     with Held(made, writable=True) as held:
         return Patched(made, *run(_InMemory(held, held), held.size, script, base, carry))

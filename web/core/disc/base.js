@@ -1,4 +1,5 @@
-// The block with which a raw image begins, by the addresses of its sectors.
+// The block with which a raw image begins, by the addresses of its sectors. A cue sheet is asked only if these say none: its gaps may be
+// missing in the file.
 
 import { SECTOR_KIND } from '../module/records.js';
 import { SECTOR_SIZE, addressIn, blockAt } from '../sectors/sector.js';

@@ -1,5 +1,6 @@
 // Texts that are one in several spellings: composed or not, with a yen sign or a backslash; and loosely, half-width or full-width, and in
-// capitals or not.
+// capitals or not. They are spellings of a part, as two codes of one kanji are: so the search knows nothing of them, and the bytes that are
+// replaced are those that stand there.
 
 import { joinedBytes } from '../bytes.js';
 import { FAULT, failedBy } from '../faults.js';

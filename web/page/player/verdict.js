@@ -11,6 +11,8 @@ import { SECTOR_SIZE } from '../../core/sectors/sector.js';
 import { surveyCounts } from '../../core/sectors/survey.js';
 import { sha1Of } from '../app/index.js';
 import { assertNotTooLong, scriptFor, watched } from '../save/index.js';
+import * as texts from '../texts/index.js';
+import { told } from '../texts/index.js';
 
 /** @typedef {import('../app/state.js').App} App */
 /** @typedef {import('../../core/disc/disc.js').Disc} Disc */
@@ -39,7 +41,7 @@ import { assertNotTooLong, scriptFor, watched } from '../save/index.js';
  */
 export function imageOfSize(disc, size) {
     const [file] = disc.files;
-    if (disc.sheet === null && disc.tracks[0].image === null) throw discFault(`This is music; choose the data track: ${file.name}`);
+    if (disc.sheet === null && disc.tracks[0].image === null) throw discFault(told(texts.isMusicTrack, { name: file.name }));
     const track = disc.tracks.find(it => it.image !== null && it.image.reader.size === size);
     return (track || dataTrack(disc)).image;
 }
@@ -83,8 +85,8 @@ export async function judgeImage(app, data, image, watch) {
  */
 async function damagedSectors({ crew }, { reader, base }, { signal, progress }) {
     let damaged = 0;
-    const told = (/** @type {number} */ done) => progress(Math.min(done * SECTOR_SIZE, reader.size), reader.size);
-    await crew.share('survey', [reader], {}, { base, signal, progress: told }, survey => { damaged += surveyCounts(survey).damaged; });
+    const counting = (/** @type {number} */ done) => progress(Math.min(done * SECTOR_SIZE, reader.size), reader.size);
+    await crew.share('survey', [reader], {}, { base, signal, progress: counting }, survey => { damaged += surveyCounts(survey).damaged; });
     return damaged;
 }
 

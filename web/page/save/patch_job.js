@@ -9,7 +9,9 @@ import { passPatched } from '../../core/script/patches.js';
 import { Refusal, readScript } from '../../core/script/script.js';
 import { MOST_SECTORS, imageTooLong } from '../../core/sectors/sector.js';
 import { RunningHash } from '../app/index.js';
-import { capital, counted } from '../ui/index.js';
+import * as texts from '../texts/index.js';
+import { told } from '../texts/index.js';
+import { capital } from '../ui/index.js';
 import { canStream } from './files_out.js';
 import { saveImage } from './pieces.js';
 import { workRefused } from './refused.js';
@@ -38,17 +40,17 @@ export async function scriptFor({ calls }, script, base) {
     if (!(read instanceof Refusal)) {
         const fault = baseFault(read.bases, base);
         if (fault === '') return read;
-        throw workRefused(`${capital(fault)}.`, 'Set the base that the script says, or take that line out.');
+        throw workRefused(`${capital(fault)}.`, texts.setSaidBase);
     }
     if (read.tooLong) {
-        throw workRefused('The script is too long.', `A script has at most ${counted(MOST_SCRIPT_BYTES)} bytes. Cut it into two.`);
+        throw workRefused(texts.scriptTooLong, told(texts.mostScriptBytes, { most: MOST_SCRIPT_BYTES }));
     }
-    throw workRefused(new TextDecoder().decode(read.text).trimEnd(), 'Nothing was done. Correct the line first.');
+    throw workRefused(new TextDecoder().decode(read.text).trimEnd(), texts.correctLineFirst);
 }
 
 /** @param {Reader} reader of an image */
 export function assertNotTooLong({ size }) {
-    if (imageTooLong(size)) throw workRefused('The image is too long.', `An image has at most ${counted(MOST_SECTORS)} sectors.`);
+    if (imageTooLong(size)) throw workRefused(texts.imageTooLong, told(texts.mostSectors, { most: MOST_SECTORS }));
 }
 
 /**
@@ -116,7 +118,7 @@ function comparing(hash, wanted) {
         seen: (/** @type {Uint8Array} */ bytes) => hash.add(bytes.slice()),
         async accept() {
             if (await hash.end() === wanted) return;
-            throw new Fault('The patched image is not the one that the author made: its SHA-1 does not match.');
+            throw new Fault(texts.notTheAuthorsImage);
         },
     };
 }
