@@ -1,0 +1,114 @@
+"""A translation of the page is one file: the page is packed with another english.js, in which each letter has a mark, and taken through its
+states (tests/page/states.py). A word without marks stands in code, and is none of those that no translation changes."""
+
+import functools
+import re
+import shutil
+import sys
+from collections.abc import Callable
+from pathlib import Path
+
+import common
+from pages import PICKER
+from states import States, all_states
+
+sys.path.insert(0, str(common.TOP / 'tools'))
+import pack  # noqa: E402
+
+MARK = '\u0323'
+
+# Code, lines of a script, commands, tables of bytes, what the program prints, and names of files.
+SKIPPED = 'script, style, #data, .src, .line-out, .hex, .log, .report, .notices, bdi'
+
+# What stands there in whole: names, words of a script, and commands.
+WHOLE = {'cdpatch', 'carry', 'rebuild', 'was', 'cdpatch check', 'cdpatch audit', 'cdpatch list', 'Big5', 'Shift-JIS (CP932)'}
+
+# What stands in a text: names, hashes, lines of a script, what is of the browser, and what the tests give.
+WITHIN = [
+    r'\b(?=[a-f]*\d)[0-9a-f]{8,}\b', r'\b(esbuild|zlib|wasm-opt|cdpatch) [\d.]+', '^cdpatch: ', 'Shift-JIS', r'\baudit\b', r'\bset \d+ \d+ [0-9A-F]+ was [0-9A-F]+',
+    r'\d and \d',  # Intl.ListFormat
+    r'Hoshizora Tantei \(Japan\).bin', r'english\.txt', 'Starlit Detective in English', 'Team Comet · version', '^All menus and chapters .*', '^Start␣*$',
+    '^Continue␣*$', '^New game␣*$', r'^Set\.$', '^Cont$', '^much too long .*', '^also too long .*',
+]
+
+# What the core says in English, or the module and the browser by it, by the function that says it.
+CORE = {
+    'Calls.faultLine': 'bad hex|offset over 2047|unknown verb|no cdpatch 1 line',
+    'Calls.outcomeLine': r'(refused: )?old bytes differ at block \d+ offset \d+|no block \d+|block \d+ is damaged',
+    'SectorCalls.auditLine': r'edc p=\d+ q=\d+',
+    'leftText of script/sector_lines.js, with blocksText of sectors/runs.js': r'is damaged in blocks [\d, ]+ and \d+ more',
+    'assertHasRoom of texts/replace.js': r'the new text has \d+ bytes in CP932, \d+ more than the \d+ that are there',
+    'fillsOf of texts/encoding.js': '(wide )?space$',
+    'the label of texts/hex.js': 'Bytes in hex',
+}
+
+# The tests look for English, and find it as if there were no marks, in what is shown and in selectors.
+AS_ENGLISH = f'''const {{ get }} = Object.getOwnPropertyDescriptor(HTMLElement.prototype, 'innerText');
+Object.defineProperty(HTMLElement.prototype, 'innerText', {{ get() {{ return get.call(this).replaceAll('{MARK}', ''); }} }});
+for (const name of ['querySelector', 'querySelectorAll']) {{
+    const real = Document.prototype[name];
+    Document.prototype[name] = function (css) {{
+        return real.call(this, css.replace(/aria-label(.?=)"?([\\w ]+)"?/g, (all, is, label) => `aria-label${{is}}"${{label.replace(/[a-z]/gi, '$&{MARK}')}}"`));
+    }};
+}}'''
+
+# All texts of the page, those that are hidden too, and what names its parts: of them those with two small letters without a mark.
+PLAIN = '''const [skipped, found] = [arguments[0], new Set()], named = ['aria-label', 'aria-valuetext', 'title', 'placeholder', 'alt', 'data-l'];
+const note = text => { if (/[a-z]{2}/.test(text)) found.add(text.trim().replace(/\\s+/g, ' ')); };
+note(document.title);
+const walker = document.createTreeWalker(document.body, NodeFilter.SHOW_ALL);
+for (let node = walker.nextNode(); node !== null; node = walker.nextNode()) {
+    const it = node.nodeType === Node.TEXT_NODE ? node.parentElement : node;
+    if (it.nodeType !== Node.ELEMENT_NODE || it.closest(skipped)) continue;
+    if (it !== node) note(node.nodeValue);
+    else named.forEach(name => note(it.getAttribute(name) || ''));
+}
+return [...found]'''
+
+
+def marked(english: str) -> str:
+    """The texts of english.js with a mark after each letter. The language stays, and names in braces."""
+    def with_marks(found: re.Match[str]) -> str:
+        return found[0] if found[1] is None else re.sub(r'\{\w+\}|\\(?:u\w{4}|x\w\w|.)|([A-Za-z])', lambda it: it[0] + (MARK if it[1] else ''), found[0], flags=re.DOTALL)
+
+    return re.sub(r'''//[^\n]*|export const LANGUAGE[^\n]*|(['"`])(?:\\.|(?!\1).)*\1''', with_marks, english, flags=re.DOTALL)
+
+
+@functools.cache
+def in_another_language(page: Path) -> Path:
+    """The page of the sources that lie beside this one, or else of this tree, in another language."""
+    web, room = page.with_name('web'), common.folder('language')
+    shutil.copytree(web if web.is_dir() else common.TOP / 'web', room / 'web')
+    english = room / 'web/page/texts/english.js'
+    english.write_text(marked(english.read_text('utf-8')), 'utf-8')
+    made, most = room / 'cdpatch.html', pack.LARGEST_PAGE
+    pack.LARGEST_PAGE = 2 * most
+    made.write_text(pack.packed_door('page', room / 'web', common.TOP / 'library/cdpatch.wasm', Path('/dev/null')), 'utf-8')
+    pack.LARGEST_PAGE = most
+    return made
+
+
+def without_known(text: str) -> str:
+    return '' if text in WHOLE else re.sub('|'.join([*WITHIN, *CORE.values()]), '', text)
+
+
+class Language(States):
+    stub = PICKER + AS_ENGLISH
+
+    def setUp(self) -> None:
+        self.addCleanup(setattr, common, 'PAGE', common.PAGE)
+        common.PAGE = in_another_language(common.PAGE)
+        super().setUp()
+
+    def judge(self, name: str) -> None:
+        all_states()[name](self)
+        texts: list[str] = self.browser.run(PLAIN, SKIPPED)
+        self.assertEqual([text for text in texts if re.search(f'[a-z]{{2}}(?!{MARK})', without_known(text))], [], 'stands in code')
+
+
+def judged(name: str) -> Callable[[Language], None]:
+    return lambda self: self.judge(name)
+
+
+for each in all_states():
+    setattr(Language, f'test_{each}', judged(each))
