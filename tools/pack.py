@@ -9,13 +9,17 @@ joined_page.js. The bytes follow only from these files and from the versions of 
     <link rel="stylesheet" href="style.css">
     <script type="module" src="main.js"></script>
     <plaintext hidden id="data">
+What stands there in braces is the text of that key of `page/texts/english.js`.
 """
 
 import argparse
+import ast
 import base64
 import gzip
 import hashlib
+import html
 import json
+import re
 import subprocess
 import sys
 import tempfile
@@ -30,9 +34,9 @@ EVERY = ['--bundle', '--charset=utf8', '--legal-comments=none', '--log-level=war
          '--tsconfig=none.json', '--preserve-symlinks', '--minify-whitespace']
 COMMAND = ['--platform=node', '--target=node18', '--format=cjs', '--inject:tools/joined_command.js',
            '--footer:js=if (require.main === module) module.exports.start();']
-# esbuild does not say by itself that modules are strict.
-# --minify-syntax would write the line ends of texts as they are, and so the mark before a patcher's data would stand in the script.
-PAGE = ['--target=es2022', '--format=iife', '--minify-identifiers', "--banner:js='use strict';"]
+# esbuild does not say by itself that modules are strict. Of a text it writes the line ends as they are: a text with the mark before a
+# patcher's data is refused below, and has to be joined of two.
+PAGE = ['--target=es2022', '--format=iife', '--minify-identifiers', '--minify-syntax', "--banner:js='use strict';"]
 # A shell runs the lines to `exec`, which are a comment for node. Node would take a closed stream for an empty one.
 SHELL = f"""\
 #!/bin/sh
@@ -53,6 +57,8 @@ ICON = '<link rel="icon" href="icon.svg">'
 STYLE = '<link rel="stylesheet" href="style.css">'
 DATA = '<plaintext hidden id="data">\n'
 END = f'<script type="module" src="main.js"></script>\n{DATA}'
+# The text of a key in english.js, which may go on in lines that are set in.
+TEXT = r'''^export const {} = (['"].*(?:\n    .*)*);$'''
 POLICY_TAG = '<meta http-equiv="Content-Security-Policy" content="'
 POLICY = ("default-src 'none'; script-src '{script}' 'wasm-unsafe-eval'; style-src '{style}'; worker-src blob:; img-src data: blob:; "
           "connect-src 'none'; form-action 'none'; base-uri 'none'; require-trusted-types-for 'script'; trusted-types cdpatch")
@@ -94,10 +100,23 @@ def cut(text: str, line: str) -> list[str]:
     return text.split(line)
 
 
+def with_texts(web: Path) -> str:
+    """page.html with its texts. Those that `+` joins over the end of a line are joined for Python as they stand."""
+    english = read(web / 'page' / 'texts' / 'english.js').decode()
+
+    def text_of(found: re.Match[str]) -> str:
+        text = re.search(TEXT.format(found[1]), english, re.MULTILINE)
+        if text is None:
+            sys.exit(f'pack.py: page.html: english.js has no text {found[1]}')
+        return html.escape(str(ast.literal_eval('(' + text[1].replace(' +\n', '\n') + ')')))
+
+    return re.sub(r'\{(\w+)\}', text_of, read(web / 'page' / 'page.html').decode())
+
+
 def page_pieces(web: Path) -> list[str]:
     """What stands before the policy, between it and the style, between that and the script, and after it."""
     icon = base64.b64encode(read(web / 'page' / 'icon.svg')).decode()
-    text = f'<link rel="icon" href="data:image/svg+xml;base64,{icon}">'.join(cut(read(web / 'page' / 'page.html').decode(), ICON))
+    text = f'<link rel="icon" href="data:image/svg+xml;base64,{icon}">'.join(cut(with_texts(web), ICON))
     before, rest = cut(text, CHARSET)
     to_style, rest = cut(rest, STYLE)
     to_script, after = cut(rest, END)
@@ -118,7 +137,6 @@ def page(parts: Path, made: list[str]) -> str:
     own = {'html': pieces, 'policy': policy.split('{script}'), 'made': made,
            'style': {'size': len(style.encode()), 'sha1': hashlib.sha1(style.encode()).hexdigest()}}
     (parts / 'own.gz').write_bytes(packed(json.dumps(own, ensure_ascii=False).encode()))
-    (parts / 'worker.gz').write_bytes(packed(esbuild('web/page/worker.js', *EVERY, *PAGE, at=parts).encode()))
     script = esbuild('web/page/main.js', *EVERY, *PAGE, '--inject:tools/joined_page.js', at=parts)
     if any(text in script.lower() + style.lower() for text in ('</script', '</style', '<!--', '\n<plaintext', '\r', '\0', '\ufeff')):
         sys.exit('pack.py: the script or the style has what could end it, or change on its way')

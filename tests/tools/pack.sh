@@ -10,8 +10,8 @@ tree=${TREE-$top}
 # wanted NAME COMMAND..: judges by this name, if it is wanted.
 wanted() { [ "${CASE-$1}" != "$1" ] || judge "$@"; }
 
-# A small `web`: a core of two modules, a command and a page, whose text has what would begin the data of a patcher.
-mkdir -p small/{core,command,page}
+# A small `web`: a core of two modules, a command and a page, whose script has the mark before the data of a patcher, of two texts.
+mkdir -p small/{core,command,page/texts}
 printf '%s\n' '// What both doors use.' '' '/** @typedef {number} Size */' '' 'const step = 3;' '' '/**' ' * Adds.' ' * @param {number} n' ' */' \
     'export function more(n) {' '    return n + step; // stays' '}' > small/core/count.js
 printf '%s\n' "import { more } from './count.js';" 'const [first, second] = [1, 2];' 'export class Twice {' \
@@ -21,15 +21,18 @@ printf '%s\n' "import { basename } from 'node:path';" "import { gunzipSync } fro
     "    const module = gunzipSync(Buffer.from(JOINED.module, 'base64')).toString('hex').slice(-8);" \
     '    console.log(new Twice().of(step), more(1), basename(JOINED.file), module, ...words);' '}' \
     'export function start() {' '    main(process.argv.slice(2));' '}' > small/command/main.js
-printf '%s\n' "import { Twice } from '../core/twice.js';" "import { draw } from './draw.js';" 'globalThis.joined = JOINED;' \
-    'draw(new Twice().of(1));' > small/page/main.js
-printf '%s\n' 'export function draw(...values) {' "    document.title = values.join('\\n<plaintext hidden id=\"data\">\\n');" '}' \
+printf '%s\n' "import { Twice } from '../core/twice.js';" "import { draw } from './draw.js';" "import './worker.js';" \
+    'globalThis.joined = JOINED;' "if (JOINED.script !== '') draw(new Twice().of(1));" > small/page/main.js
+printf '%s\n' 'export function draw(...values) {' "    document.title = ['', '<plaintext hidden id=\"data\">', ...values].join('\\n');" '}' \
     > small/page/draw.js
-printf '%s\n' "import { more } from '../core/count.js';" 'self.onmessage = event => self.postMessage([more(event.data)]);' > small/page/worker.js
+printf '%s\n' "import { more } from '../core/count.js';" \
+    "if (typeof document === 'undefined') self.onmessage = event => self.postMessage([more(event.data)]);" > small/page/worker.js
 printf '%s\n' '<!doctype html>' '<meta charset="utf-8">' '<title>small</title>' '<link rel="icon" href="icon.svg">' \
-    '<link rel="stylesheet" href="style.css">' '<p id="text">small</p>' '<script type="module" src="main.js"></script>' \
+    '<link rel="stylesheet" href="style.css">' '<p id="text" title="{title}">{small}</p>' '<script type="module" src="main.js"></script>' \
     '<plaintext hidden id="data">' > small/page/page.html
 echo '<svg xmlns="http://www.w3.org/2000/svg"></svg>' > small/page/icon.svg
+printf '%s\n' "export const title = 'a \"title\"';" "export const small = 'small' +" "    ' & ' +" '    "it’s & isn'"'"'t";' 'export const KEYS = [' "    ['x', 'y']," '];' \
+    > small/page/texts/english.js
 echo 'p { color: black; }' > small/page/style.css
 head -c 100 "$vectors" > module
 echo 'wasm-opt 99' > module.txt
@@ -100,6 +103,7 @@ test_page() {
     judge 'spaces stay only in texts' grep -qF 'document.title=' page.html
     judge 'it is strict' test "$(grep -c "<script>'use strict';" page.html)" = 1
     judge 'its last line takes what comes after it as text' test "$(tail -n 1 page.html)" = '<plaintext hidden id="data">'
+    judge 'its texts are those of english.js' grep -qF '<p id="text" title="a &quot;title&quot;">small &amp; it’s &amp; isn&#x27;t</p>' page.html
     judge 'it names no other file' eval '! grep -oE "(href|src)=.{0,7}" page.html | grep -vE "=.?\"data:"'
     changed page/draw.js cat
     echo '{ "compilerOptions": { "alwaysStrict": true } }' > other/tsconfig.json
@@ -108,7 +112,7 @@ test_page() {
     missing node nodejs 'what a joined page has' && return
     judge 'it has the whole module' node "$tests/tools/packed_page.mjs" module page.html module 2> log
     judge 'it has the notices' node "$tests/tools/packed_page.mjs" notices page.html NOTICES 2> log
-    judge "it has the program of its workers" node "$tests/tools/packed_page.mjs" worker page.html 2> log
+    judge 'its script is the program of its workers' node "$tests/tools/packed_page.mjs" worker page.html 2> log
     judge 'it has what its own text is made of, and the names of what made it' node "$tests/tools/packed_page.mjs" own page.html 2> log
 }
 
@@ -144,6 +148,8 @@ test_refusals() {
     refuses page 'Could not resolve "node:fs"' page/draw.js before "import { readSync } from 'node:fs';"
     refuses page 'could end it, or change on its way' page/main.js after "draw('<!--');"
     refuses page 'could end it, or change on its way' page/main.js after 'draw(`\n<plaintext`);'
+    refuses page 'could end it, or change on its way' page/draw.js after "draw('\\\\n<plaintext');"
+    refuses page 'english.js has no text KEYS' page/page.html sed 's/{small}/{KEYS}/'
     refuses page 'Expected ":"' page/style.css after 'p { colour red; }'
     refuses page 'it has another end or another script' page/page.html after 'text'
     refuses page 'it has another end or another script' page/page.html sed 's/<p id/<script>x<\/script><p id/'

@@ -22,7 +22,7 @@ const PARTS = {
     worker: () => {
         const answers = [];
         const self = { postMessage: answer => answers.push(...answer) };
-        runInContext(inflated(joined.worker).toString(), createContext({ self }));
+        runInContext(joined.script, createContext({ self }));
         self.onmessage({ data: 4 });
         assert.deepEqual(answers, [7]);
     },

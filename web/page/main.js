@@ -9,8 +9,10 @@ import { mountPublish } from './publish/index.js';
 import { mountScript } from './script/index.js';
 import { mountDiscLine, mountFrame, mountHelp } from './shell/index.js';
 import { mountText } from './text/index.js';
+import * as texts from './texts/index.js';
 import { fill } from './ui/fill.js';
 import { byId, element, isCancelled, showFailure } from './ui/index.js';
+import './worker.js';
 
 /** @typedef {import('./app/state.js').Parts} Parts */
 
@@ -41,8 +43,8 @@ export async function startPage(awaited) {
 
 /** Another page could lie over this one, and have its buttons pressed by a user who does not see them. */
 function refuseFrame() {
-    fill(byId('not-started'), element('b', {}, 'cdpatch does not start inside another page.'), 'Open the file cdpatch.html itself.');
+    fill(byId('not-started'), element('b', {}, texts.notInsideAnother), texts.openTheFile);
     return null;
 }
 
-if (typeof JOINED !== 'undefined') startPage(packedParts());
+if (typeof JOINED !== 'undefined' && JOINED.script !== '') startPage(packedParts());

@@ -1,4 +1,4 @@
-// The program of a worker: ranges of jobs, and one long SHA-1.
+// What the page does in a worker: ranges of jobs, and one long SHA-1. The joined page and its workers are one script.
 
 import { JOBS, UNREAD, serving, transfersOf } from '../core/jobs.js';
 import { Calls } from '../core/module/calls.js';
@@ -53,9 +53,12 @@ class Bench {
 
 const bench = { at: /** @type {Bench | null} */ (null) };
 
-self.onmessage = (/** @type {MessageEvent<Order>} */ { data }) => {
+/** @param {MessageEvent<Order>} event */
+function heard({ data }) {
     if ('module' in data) bench.at = new Bench(data.module);
     else if (bench.at === null) throw new Error('a worker was told to work before it had the module');
     else if ('sum' in data) bench.at.add(data.sum);
     else bench.at.work(data);
-};
+}
+
+if (typeof document === 'undefined') self.onmessage = heard;

@@ -7,6 +7,7 @@ import { LINE_FEED, endsOfLines } from './line_words.js';
 const BASE_COMMENT = /^# base (\d{1,6})\s*$/;
 const LONGEST_BASE_COMMENT = 21;
 const HASH = 0x23;
+const LETTER_B = 0x62;
 
 /** @param {number} base for which a script is written */
 export function baseComment(base) {
@@ -21,8 +22,8 @@ export function basesSaid(text) {
     /** @type {BaseSaid[]} */
     const found = [];
     let [line, counted] = [1, 0];
-    for (let at = text.indexOf(HASH); at >= 0; at = text.indexOf(HASH, at + 1)) {
-        if (at > 0 && text[at - 1] !== LINE_FEED) continue;
+    for (let at = 0; at < text.length; at++) {
+        if (text[at] !== HASH || text[at + 2] !== LETTER_B || at > 0 && text[at - 1] !== LINE_FEED) continue;
         const end = text.indexOf(LINE_FEED, at);
         const comment = text.subarray(at, end < 0 ? text.length : end);
         const said = comment.length <= LONGEST_BASE_COMMENT && BASE_COMMENT.exec(String.fromCharCode(...comment));

@@ -1,4 +1,4 @@
-// What the joined page is made of: its module and the program of its workers, which stand in its one script.
+// What the joined page is made of: its module, and its one script, which is the program of its workers too.
 
 /** @typedef {import('./state.js').Parts} Parts */
 
@@ -46,7 +46,7 @@ export const OWN = { html: [], policy: [], style: { size: 0, sha1: '' }, made: [
  */
 export async function packedParts() {
     const bytes = await inflated(JOINED.module).arrayBuffer();
-    const url = workerUrl(new Blob([await inflatedText(JOINED.worker)], { type: 'text/javascript' }));
+    const url = workerUrl(new Blob([JOINED.script], { type: 'text/javascript' }));
     Object.assign(OWN, JSON.parse(await inflatedText(JOINED.own)));
     return { module: await WebAssembly.compile(bytes), newWorker: () => new Worker(url), made: OWN.made };
 }

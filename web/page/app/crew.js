@@ -2,6 +2,8 @@
 
 import { Fault, cancelled } from '../../core/faults.js';
 import { Crew } from '../../core/jobs.js';
+import * as texts from '../texts/index.js';
+import { told } from '../texts/index.js';
 
 /** @typedef {import('../../core/jobs.js').Message} Message */
 /** @typedef {import('../../core/jobs.js').Reply} Reply */
@@ -63,10 +65,8 @@ class WorkerHand {
 export function startedWorker({ module, newWorker }, heard, failed) {
     const worker = newWorker();
     worker.onmessage = heard;
-    worker.onerror = ({ message }) => {
-        const why = message ? ` (${message})` : '';
-        failed(new Fault(`A worker of this page has stopped${why}. Try it again: then a new one starts.`));
-    };
+    worker.onerror = ({ message }) =>
+        failed(new Fault(message ? told(texts.workerStoppedFor, { why: message }) : texts.workerStopped));
     worker.postMessage({ module });
     return worker;
 }

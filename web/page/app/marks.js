@@ -2,6 +2,7 @@
 
 import { RECORD, RECORD_SIZE, SECTOR_KIND } from '../../core/module/records.js';
 import { SHORTEST_TRACK } from '../../core/sectors/holes.js';
+import * as texts from '../texts/index.js';
 
 /** What a sector can be on the map. Of the sectors that share a pixel the one with the greatest number is shown. */
 export const MARK = Object.freeze({
@@ -21,16 +22,15 @@ export const MARK = Object.freeze({
 
 /** @type {Look[]} */
 export const SURVEY_LOOKS = [
-    { mark: MARK.MODE1, name: 'Mode 1', colour: '--k-mode1', letter: '', loud: false },
-    { mark: MARK.NOSYNC, name: 'audio, no sync', words: 'no sync field: audio, or nothing that is known', colour: '--k-nosync', letter: '',
-        loud: false },
-    { mark: MARK.MODE2, name: 'Mode 2', colour: '--k-mode2', letter: '', loud: false },
-    { mark: MARK.MODE0, name: 'Mode 0', colour: '--k-mode0', letter: '', loud: false },
-    { mark: MARK.OTHER, name: 'other mode', words: 'an unknown mode', colour: '--k-other', letter: '', loud: false },
-    { mark: MARK.EDC, name: 'data damaged', colour: '--f-edc', letter: 'E', loud: true },
-    { mark: MARK.PARITY, name: 'parity only', colour: '--f-parity', letter: 'P', loud: true },
-    { mark: MARK.ADDRESS, name: 'other address', colour: '--f-address', letter: 'A', loud: true },
-    { mark: MARK.LOST, name: 'sync or mode lost', colour: '--f-lost', letter: 'S', loud: true },
+    { mark: MARK.MODE1, name: texts.modeOne, colour: '--k-mode1', letter: '', loud: false },
+    { mark: MARK.NOSYNC, name: texts.noSync, words: texts.noSyncField, colour: '--k-nosync', letter: '', loud: false },
+    { mark: MARK.MODE2, name: texts.modeTwo, colour: '--k-mode2', letter: '', loud: false },
+    { mark: MARK.MODE0, name: texts.modeZero, colour: '--k-mode0', letter: '', loud: false },
+    { mark: MARK.OTHER, name: texts.otherMode, words: texts.unknownMode, colour: '--k-other', letter: '', loud: false },
+    { mark: MARK.EDC, name: texts.dataDamaged, colour: '--f-edc', letter: 'E', loud: true },
+    { mark: MARK.PARITY, name: texts.parityOnly, colour: '--f-parity', letter: 'P', loud: true },
+    { mark: MARK.ADDRESS, name: texts.otherAddress, colour: '--f-address', letter: 'A', loud: true },
+    { mark: MARK.LOST, name: texts.syncOrModeLost, colour: '--f-lost', letter: 'S', loud: true },
 ];
 
 /** @type {Record<number, number>} */

@@ -4,6 +4,7 @@ import { RESULT, isFault } from '../../core/module/records.js';
 import { afterColon, linesOfText, wordsOn } from '../../core/script/line_words.js';
 import { countOld, oldBytesOf } from '../../core/script/long_script.js';
 import { ScriptModel } from '../../core/script/model.js';
+import { lineDoesNotFit, lineFits, told } from '../texts/index.js';
 import { MOST_LINES, MOST_SHOWN, isLong } from './script_long.js';
 
 /** @typedef {import('../../core/module/calls.js').Calls} Calls */
@@ -242,9 +243,9 @@ export class ScriptLines extends ScriptModel {
             this.faultWords.set(content, words);
             return words;
         }
-        if (!outcome || outcome.result === RESULT.OK) return outcome ? 'fits' : '';
+        if (!outcome || outcome.result === RESULT.OK) return outcome ? lineFits : '';
         const words = wordsOn(this.calls.outcomeLine(number, outcome.result, outcome.block, outcome.offset), number);
-        return `does not fit: ${afterColon(words)}`;
+        return told(lineDoesNotFit, { why: afterColon(words) });
     }
 
     /**

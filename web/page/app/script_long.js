@@ -4,8 +4,7 @@ export const MOST_SHOWN = 4000000;
 export const MOST_LINES = 150000;
 
 /** What works with such a script, and what does not. */
-export const LONG = 'It has more than 4 MB, or more than 150,000 lines. Check, Apply, Publish and Save work with all of it. The other ' +
-    'panels do not mark what it changes.';
+export { scriptIsLong as LONG } from '../texts/index.js';
 
 /**
  * Whether a script is one.

@@ -10,8 +10,10 @@ import { blocksIn } from '../../core/sectors/runs.js';
 import { visible } from '../../core/texts/visible.js';
 import { fileReader } from '../open/index.js';
 import { downloadBytes } from '../save/index.js';
-import { announce, button, countOf, counted, element, fill, isCancelled, jobBar, keyed, messageParts, nameOf } from '../ui/index.js';
-import { notice, runAt, seen, stemOf, term } from '../ui/index.js';
+import * as texts from '../texts/index.js';
+import { counted, say, told } from '../texts/index.js';
+import { announce, button, element, fill, isCancelled, jobBar, keyed, messageParts, nameOf, notice } from '../ui/index.js';
+import { runAt, seen, stemOf, term } from '../ui/index.js';
 
 /** @typedef {import('../app/state.js').App} App */
 /** @typedef {import('../app/state.js').Image} Image */
@@ -63,17 +65,18 @@ export class FilesList {
         this.filter = element('input', { type: 'text', class: 'slim', id: 'files-filter', autocomplete: 'off', spellcheck: 'false',
             input: () => this.filtered() });
         /** @type {HTMLInputElement} */
-        this.input = element('input', { type: 'file', class: 'hide', tabindex: -1, 'aria-label': 'The new file',
+        this.input = element('input', { type: 'file', class: 'hide', tabindex: -1, 'aria-label': texts.theNewFile,
             change: () => void this.replace() });
         this.pages = element('span', { class: 'row small quiet to-end' });
         this.actions = element('div', { class: 'row' });
         this.job = element('div', { class: 'stack' });
         this.said = element('div', { role: 'status' });
-        this.tools = element('div', { class: 'pad stack tight', hidden: true }, element('div', { class: 'row' },
-            element('label', { class: 'row small' }, 'Filter', this.filter), this.pages), this.actions, this.job, this.said, this.input);
+        this.tools = element('div', { class: 'pad stack tight', hidden: true },
+            element('div', { class: 'row' }, element('label', { class: 'row small' }, texts.filterFiles, this.filter), this.pages),
+            this.actions, this.job, this.said, this.input);
         this.table = element('tbody');
-        const head = element('tr', {}, element('th', {}, 'Name'), element('th', { class: 'n' }, 'Bytes'),
-            element('th', { class: 'n' }, term('block', 'Block')));
+        const head = element('tr', {}, element('th', {}, texts.fileNameColumn), element('th', { class: 'n' }, texts.bytesColumn),
+            element('th', { class: 'n' }, term('block', texts.blockColumn)));
         this.part = element('table', { class: 'files' }, element('thead', {}, head), this.table);
     }
 
@@ -118,9 +121,9 @@ export class FilesList {
 
     /** Why no file is listed. */
     noneText() {
-        if (!this.looked) return 'The files are being listed.';
-        if (!this.known) return 'No ISO 9660 volume was found here, so no file can be named.';
-        return this.all.length === 0 ? 'The volume has no files.' : 'No name has this in it.';
+        if (!this.looked) return texts.filesBeingListed;
+        if (!this.known) return texts.noVolumeFound;
+        return this.all.length === 0 ? texts.volumeHasNoFiles : texts.noNameHasThis;
     }
 
     /** @param {Listed} file */
@@ -129,7 +132,8 @@ export class FilesList {
         const open = element('button', { type: 'button', class: 'fold', click: () => this.choose(file) }, element('bdi', {}, shown));
         return keyed(path, element('tr', { 'aria-selected': file === this.chosen ? 'true' : null },
             element('td', { class: 'wide path' }, open, fault !== '' && element('span', { class: 'tag warn' }, seen(fault))),
-            element('td', { class: 'n', 'data-l': 'bytes' }, counted(size)), element('td', { class: 'n', 'data-l': 'block' }, block)));
+            element('td', { class: 'n', 'data-l': texts.bytesLabel }, counted(size)),
+            element('td', { class: 'n', 'data-l': texts.blockLabel }, block)));
     }
 
     /** @param {number} count how many files are listed */
@@ -142,20 +146,19 @@ export class FilesList {
             if (body) body.scrollTop = 0;
         };
         const to = Math.min(from + ROWS, count);
-        const all = countOf(this.all.length, 'file');
-        const shown = count === this.all.length ? all : `${counted(count)} of ${all}`;
-        fill(this.pages, element('span', {}, count > ROWS ? `${counted(from + 1)}–${counted(to)} of ${shown}` : shown),
-            from > 0 && keyed('back', button('slim', () => turn(Math.max(from - ROWS, 0)), '◂ Previous')),
-            to < count && keyed('on', button('slim', () => turn(to), 'Next ▸')));
+        const all = told(texts.filesCounted, { n: this.all.length });
+        const shown = count === this.all.length ? all : told(texts.filesOfAll, { count, all });
+        fill(this.pages, element('span', {}, count > ROWS ? told(texts.filesFromTo, { from: from + 1, to, all: shown }) : shown),
+            from > 0 && keyed('back', button('slim', () => turn(Math.max(from - ROWS, 0)), texts.previousFiles)),
+            to < count && keyed('on', button('slim', () => turn(to), texts.nextFiles)));
     }
 
     drawActions() {
         const { chosen } = this;
-        if (chosen === null) return fill(this.actions, this.all.length > 0 && element('p', { class: 'small quiet' },
-            'Choose a file: its first sector opens, and here it can be saved or replaced.'));
+        if (chosen === null) return fill(this.actions, this.all.length > 0 && element('p', { class: 'small quiet' }, texts.chooseFile));
         return fill(this.actions, element('b', { class: 'mono' }, nameOf(chosen.path)),
-            keyed('extract', button('slim', () => this.extract(chosen), 'Extract…')),
-            keyed('replace', button('slim', () => this.input.click(), 'Replace…')));
+            keyed('extract', button('slim', () => this.extract(chosen), texts.extractFile)),
+            keyed('replace', button('slim', () => this.input.click(), texts.replaceFile)));
     }
 
     /** @param {Listed} file */
@@ -186,7 +189,7 @@ export class FilesList {
                 });
                 if (app.image === image) fill(this.said, said);
             } catch (error) {
-                if (app.image === image) fill(this.said, isCancelled(error) ? notice('plain', 'Cancelled.', unmade)
+                if (app.image === image) fill(this.said, isCancelled(error) ? notice('plain', texts.jobCancelled, unmade)
                     : notice('bad', unmade, ...messageParts(error, [image.name])));
             } finally {
                 fill(this.job);
@@ -196,15 +199,15 @@ export class FilesList {
 
     /** @param {Listed} file */
     extract(file) {
-        return this.work('Reading the file', 'No file was saved.', async ({ part }, watch) => {
+        return this.work(texts.readingFile, texts.noFileSaved, async ({ part }, watch) => {
             /** @type {Blob[]} */
             const pieces = [];
             const { extents } = wholeFile(file.entries);
             const others = await passFile(this.app.crew, part, extents, watch, bytes => void pieces.push(new Blob([bytes])));
             const name = fileStem(file.path);
             downloadBytes(pieces, name);
-            const doubt = others.length > 0 && `${countOf(blocksIn(others), 'sector')} of it not Mode 1: other bytes may stand there.`;
-            return notice(doubt ? 'warn' : 'good', ['Saved: ', nameOf(name)], doubt);
+            const doubt = others.length > 0 && told(texts.sectorsNotModeOne, { n: blocksIn(others) });
+            return notice(doubt ? 'warn' : 'good', say(texts.fileSaved, { name: nameOf(name) }), doubt);
         });
     }
 
@@ -214,7 +217,7 @@ export class FilesList {
         this.input.value = '';
         const { chosen, app: { files } } = this;
         if (!fresh || chosen === null || files === null) return;
-        await this.work('Making the lines', 'Nothing was added to the script.', async ({ part }, watch) => {
+        await this.work(texts.makingLines, texts.nothingAdded, async ({ part }, watch) => {
             const file = { ...wholeFile(chosen.entries), names: files };
             const made = await replaceFile(this.app.calls, this.app.crew, part, file, fileReader(fresh), watch);
             if (made.script === null) throw new Fault(leftText(made.left, part.name, MOST_RUNS));
@@ -230,12 +233,13 @@ export class FilesList {
      */
     added({ pieces, patches, long }, { path, size: before }, size) {
         const { app } = this;
-        if (long) throw new Fault('The script would be longer than cdpatch takes. cdscript replace-file makes it.');
-        if (patches === 0) return notice('plain', 'Nothing was added to the script.', 'The new file has the same bytes.');
+        if (long) throw new Fault(texts.scriptTooLongToReplace);
+        if (patches === 0) return notice('plain', texts.nothingAdded, texts.newFileIsSame);
         app.addLines(new TextDecoder().decode(joinedBytes(pieces.slice(1))).trimEnd().split('\n'));
-        announce(`${countOf(patches, 'line')} added to the script.`);
-        const length = size === before ? '' : ` had ${counted(before)} bytes, and gets ${counted(size)}.`;
-        return notice('good', `${countOf(patches, 'line')} added to the script.`, length && nameOf(path), length,
-            element('div', { class: 'row' }, button('slim', () => app.showPanel('script'), 'Open Script')));
+        const head = told(texts.linesAdded, { n: patches });
+        announce(head);
+        const length = size === before ? [] : say(texts.fileChangesLength, { name: nameOf(path), before, after: size });
+        return notice('good', head, ...length,
+            element('div', { class: 'row' }, button('slim', () => app.showPanel('script'), texts.openScriptPanel)));
     }
 }

@@ -3,7 +3,9 @@
 import { auditText, kindRuns, listText } from '../../core/sectors/survey.js';
 import { MARK, lookOf, lookOfKind } from '../app/index.js';
 import { downloadText } from '../save/index.js';
-import { button, copyButton, countOf, counted, element, fill, keyed, oneStop, term } from '../ui/index.js';
+import * as texts from '../texts/index.js';
+import { counted, say, told } from '../texts/index.js';
+import { button, copyButton, element, fill, keyed, oneStop, term } from '../ui/index.js';
 import { FilesList } from './files_list.js';
 import { placeGuess, placeWords, placesOf } from './places.js';
 import { addressOf, findingAt } from './sector_text.js';
@@ -32,13 +34,13 @@ export class Findings {
         this.hidden = false;
         /** @type {Set<number>} the first sectors of the places that are open */
         this.opened = new Set();
-        this.tabs = element('div', { class: 'seg', role: 'tablist', 'aria-label': 'Findings, files, runs, text' });
+        this.tabs = element('div', { class: 'seg', role: 'tablist', 'aria-label': texts.findingsTabs });
         this.body = element('div', { class: 'scroll fit', id: 'findings-body', role: 'tabpanel' });
         this.foot = element('p', { class: 'foot' });
         this.files = new FilesList(app);
-        const tools = element('span', { class: 'row to-end' }, copyButton('slim bare', () => this.report(), 'Copy', ' the report'),
-            button('slim bare', () => downloadText(this.report(), `${this.reportName()}.txt`), 'Save…'));
-        this.part = element('section', { class: 'card', id: 'findings', 'aria-label': 'Findings, files and runs' },
+        const tools = element('span', { class: 'row to-end' }, copyButton('slim bare', () => this.report(), texts.copy,
+            texts.copyReportWhat), button('slim bare', () => downloadText(this.report(), `${this.reportName()}.txt`), texts.saveReport));
+        this.part = element('section', { class: 'card', id: 'findings', 'aria-label': texts.findingsCard },
             element('header', {}, this.tabs, tools), this.files.tools, this.body, this.foot);
         oneStop(this.tabs, '[role=tab]', tab => this.choose(/** @type {FindingsTab} */ (tab.dataset.tab)));
         oneStop(this.body, 'tbody button');
@@ -97,8 +99,8 @@ export class Findings {
      */
     drawTabs(findings, runs) {
         /** @type {[FindingsTab, string, string][]} */
-        const all = [['files', 'Files', this.files.count()], ['runs', 'Runs', runs], ['text', 'As text', '']];
-        if (findings > 0) all.unshift(['findings', 'Findings', counted(findings)]);
+        const all = [['files', texts.filesTab, this.files.count()], ['runs', texts.runsTab, runs], ['text', texts.asTextTab, '']];
+        if (findings > 0) all.unshift(['findings', texts.findingsTab, counted(findings)]);
         fill(this.tabs, ...all.map(([name, label, count]) => keyed(name, element('button', {
             type: 'button', role: 'tab', 'data-tab': name, 'aria-selected': String(name === this.shown()), 'aria-controls': 'findings-body',
             click: () => this.choose(name),
@@ -107,11 +109,12 @@ export class Findings {
 
     /** @param {Surveyed} survey */
     drawFindings(survey) {
-        const head = element('tr', {}, element('th', {}, 'Place (', term('block', 'blocks'), ')'),
-            element('th', { class: 'n' }, 'Sectors'), element('th', {}, 'What'), element('th', {}, 'Looks like'));
+        const head = element('tr', {}, element('th', {}, ...say(texts.placeColumn, { blocks: term('block', texts.blocksTerm) })),
+            element('th', { class: 'n' }, texts.sectorsColumn), element('th', {}, texts.whatColumn),
+            element('th', {}, texts.looksLikeColumn));
         const rows = placesOf(survey.marks).flatMap(place => this.placeRows(survey, place));
         fill(this.body, element('table', {}, element('thead', {}, head), element('tbody', {}, ...rows)));
-        fill(this.foot, element('span', {}, '“Looks like” is a guess from the distances. The other columns are what cdpatch found.'));
+        fill(this.foot, element('span', {}, texts.looksLikeIsGuess));
     }
 
     /**
@@ -126,7 +129,7 @@ export class Findings {
         const fold = element('button', { type: 'button', class: 'fold', 'aria-expanded': String(open), 'data-place': place.first },
             open ? '▾ ' : '▸ ', range);
         const row = element('tr', {}, element('td', { class: 'num nowrap' }, fold),
-            element('td', { class: 'n', 'data-l': 'sectors' }, counted(place.sectors.length)),
+            element('td', { class: 'n', 'data-l': texts.sectorsLabel }, counted(place.sectors.length)),
             element('td', {}, dotOf(lookOf(mark).colour), words),
             element('td', { class: 'wide' }, placeGuess(place, survey.marks.isElsewhere(), survey.known)));
         return open ? [row, ...this.sectorRows(survey, place)] : [row];
@@ -147,13 +150,13 @@ export class Findings {
             const range = from === sectors[i] ? String(block) : `${block}–${survey.block + sectors[i]}`;
             const here = this.app.place.block >= block && this.app.place.block <= survey.block + sectors[i];
             const open = element('button', { type: 'button', class: 'fold', 'data-block': block }, range);
-            const words = lost ? 'inside Mode 1: sync field or mode lost' : findingAt(this.app.calls, survey, from);
+            const words = lost ? texts.lostInModeOne : findingAt(this.app.calls, survey, from);
             rows.push(element('tr', { class: 'sub', 'aria-selected': here ? 'true' : null }, element('td', { class: 'nowrap' }, open),
                 element('td'), element('td', { colspan: 2 }, words)));
         }
         const left = sectors.length - rows.length;
         if (rows.length === MOST_ROWS && left > 0) {
-            rows.push(element('tr', { class: 'sub' }, element('td', { colspan: 4 }, `and ${counted(left)} more: “As text” has all`)));
+            rows.push(element('tr', { class: 'sub' }, element('td', { colspan: 4 }, told(texts.moreFindings, { n: left }))));
         }
         return rows;
     }
@@ -167,23 +170,23 @@ export class Findings {
     drawFiles() {
         this.files.draw();
         fill(this.body, this.files.part);
-        fill(this.foot, element('span', {}, 'As the volume names them, by their blocks.'));
+        fill(this.foot, element('span', {}, texts.filesByBlocks));
     }
 
     /** @param {{ first: number, last: number, kind: number }[]} runs */
     drawRuns(runs) {
-        const head = element('tr', {}, element('th', {}, term('block', 'Blocks')), element('th', { class: 'n' }, 'Sectors'),
-            element('th', {}, 'Kind'), element('th', {}, 'Begins at'));
+        const head = element('tr', {}, element('th', {}, term('block', texts.runBlocksColumn)),
+            element('th', { class: 'n' }, texts.sectorsColumn), element('th', {}, texts.kindColumn),
+            element('th', {}, texts.beginsAtColumn));
         const rows = runs.slice(0, MOST_ROWS).map(({ first, last, kind }) => element('tr', {},
             element('td', { class: 'num nowrap' }, element('button', { type: 'button', class: 'fold', 'data-block': first },
                 first === last ? String(first) : `${first}–${last}`)),
-            element('td', { class: 'n', 'data-l': 'sectors' }, counted(last - first + 1)),
+            element('td', { class: 'n', 'data-l': texts.sectorsLabel }, counted(last - first + 1)),
             element('td', {}, ...this.kindWords(first, kind)),
-            element('td', { class: 'num', 'data-l': 'begins at' }, addressOf(this.app, first))));
+            element('td', { class: 'num', 'data-l': texts.beginsAtLabel }, addressOf(this.app, first))));
         fill(this.body, element('table', {}, element('thead', {}, head), element('tbody', {}, ...rows)));
         const left = runs.length - rows.length;
-        fill(this.foot, element('span', {}, left > 0 ? `and ${counted(left)} more: “As text” has all. ` : '',
-            'A run is a row of neighbours of one kind. Begins at: minutes, seconds, frames of 1/75 second.'));
+        fill(this.foot, element('span', {}, left > 0 && `${told(texts.moreRuns, { n: left })} `, texts.runIsNeighbours));
     }
 
     /**
@@ -199,7 +202,7 @@ export class Findings {
     }
 
     drawText() {
-        const choice = element('select', { class: 'slim', 'aria-label': 'Which text' },
+        const choice = element('select', { class: 'slim', 'aria-label': texts.whichText },
             ...['audit', 'list'].map(name => element('option', { value: name, selected: name === this.text }, `cdpatch ${name}`)));
         choice.addEventListener('change', () => {
             this.text = choice.value === 'list' ? 'list' : 'audit';
@@ -208,9 +211,10 @@ export class Findings {
         const lines = this.report().split('\n');
         const shown = lines.slice(0, MOST_TEXT_LINES).join('\n');
         const more = lines.length - 1 - MOST_TEXT_LINES;
-        fill(this.body, element('pre', { class: 'report', tabindex: 0, 'aria-label': `What cdpatch ${this.text} prints` }, shown,
-            more > 0 && `\n… ${countOf(more, 'more line')}: Copy and Save have all`));
-        fill(this.foot, choice, element('span', {}, 'The text that the program prints, to the byte.'));
+        const label = told(texts.whatProgramPrints, { verb: this.text });
+        fill(this.body, element('pre', { class: 'report', tabindex: 0, 'aria-label': label }, shown,
+            more > 0 && `\n${told(texts.moreLinesPrinted, { n: more })}`));
+        fill(this.foot, choice, element('span', {}, texts.printedToTheByte));
     }
 
     /** @param {HTMLElement} target */

@@ -3,6 +3,8 @@
 import { SECTOR_SIZE, USER_OFFSET, USER_SIZE } from '../../core/sectors/sector.js';
 import { charactersFrom } from '../../core/texts/boundaries.js';
 import { columnLabel, signOf } from '../text/index.js';
+import * as texts from '../texts/index.js';
+import { told } from '../texts/index.js';
 import { element } from '../ui/index.js';
 
 /** @typedef {import('../../core/texts/encoding.js').Encoding} Encoding */
@@ -21,9 +23,9 @@ export const USER_END = USER_OFFSET + USER_SIZE;
 
 /** @type {Record<number, string>} what begins at a byte of a Mode 1 sector */
 const CUTS = {
-    0: 'Sync field and header',
-    [USER_OFFSET]: `User data: ${USER_SIZE} bytes, offset 0 to ${USER_SIZE - 1}`,
-    [USER_END]: 'EDC, zeros and parity',
+    0: texts.syncAndHeader,
+    [USER_OFFSET]: told(texts.userDataOffsets, { size: String(USER_SIZE), last: String(USER_SIZE - 1) }),
+    [USER_END]: texts.edcZerosParity,
 };
 
 /**
@@ -33,7 +35,7 @@ const CUTS = {
  */
 export function headLine({ label }, { columns, hexadecimal }) {
     const numbers = Array.from({ length: columns }, (_, i) => element('i', {}, hexadecimal ? i.toString(16).toUpperCase() : i));
-    return element('div', { class: 'head', 'aria-hidden': 'true' }, element('span', { class: 'o' }, 'offset'),
+    return element('div', { class: 'head', 'aria-hidden': 'true' }, element('span', { class: 'o' }, texts.offsetWord),
         element('span', { class: 'b' }, ...numbers), element('span', { class: 't' }, columnLabel(label, columns)));
 }
 
@@ -42,14 +44,14 @@ export function headLine({ label }, { columns, hexadecimal }) {
  * @param {LineHow} how
  */
 export function hexLines(shown, how) {
-    const texts = textCells(shown);
+    const letters = textCells(shown);
     const lines = [];
     const stops = shown.mode1 ? [0, USER_OFFSET, USER_END, SECTOR_SIZE] : [0, SECTOR_SIZE];
     for (let part = 0; part + 1 < stops.length; part++) {
         if (shown.mode1) lines.push(element('div', { class: 'cut', role: 'presentation' }, CUTS[stops[part]]));
         for (let at = stops[part]; at < stops[part + 1]; at += how.columns) {
             const end = Math.min(at + how.columns, stops[part + 1]);
-            lines.push(hexLine(shown, at, end, texts, how), ...otherLine(shown, at, end));
+            lines.push(hexLine(shown, at, end, letters, how), ...otherLine(shown, at, end));
         }
     }
     return lines;
@@ -59,10 +61,10 @@ export function hexLines(shown, how) {
  * @param {Shown} shown
  * @param {number} from
  * @param {number} to
- * @param {(Node | string)[]} texts
+ * @param {(Node | string)[]} letters
  * @param {LineHow} how
  */
-function hexLine(shown, from, to, texts, { hexadecimal }) {
+function hexLine(shown, from, to, letters, { hexadecimal }) {
     const isUser = shown.mode1 && from >= USER_OFFSET && from < USER_END;
     const offset = isUser ? from - USER_OFFSET : from;
     const digits = hexadecimal ? offset.toString(16).toUpperCase().padStart(3, '0') : offset;
@@ -71,7 +73,7 @@ function hexLine(shown, from, to, texts, { hexadecimal }) {
     return element('div', { class: 'line', role: 'row' },
         element('span', { class: 'o', role: 'rowheader' }, shown.mode1 && !isUser ? `·${digits}` : digits),
         element('span', { class: 'b', role: 'presentation' }, ...cells),
-        element('span', { class: 't', role: 'gridcell' }, ...texts.slice(from, to)));
+        element('span', { class: 't', role: 'gridcell' }, ...letters.slice(from, to)));
 }
 
 /**
@@ -80,7 +82,13 @@ function hexLine(shown, from, to, texts, { hexadecimal }) {
  * @param {number} at
  */
 export function placeName({ mode1 }, at) {
-    return mode1 && at >= USER_OFFSET && at < USER_END ? `offset ${at - USER_OFFSET}` : `byte ${at} of the sector`;
+    return mode1 && at >= USER_OFFSET && at < USER_END ? told(texts.offsetIs, { offset: texts.offsetWord, at: String(at - USER_OFFSET) })
+        : byteWords(at);
+}
+
+/** @param {number} at */
+export function byteWords(at) {
+    return told(texts.byteOfSector, { at: String(at) });
 }
 
 /**
@@ -106,7 +114,7 @@ function byteCell({ bytes, old, other, fields, crossings }, at) {
 function otherLine({ old, other }, from, to) {
     if (other === null || old.subarray(from, to).every((byte, i) => byte === other[from + i])) return [];
     const cells = Array.from(other.subarray(from, to), (byte, i) => element('i', {}, byte === old[from + i] ? '' : digitsOf(byte)));
-    return [element('div', { class: 'line second', 'aria-hidden': 'true' }, element('span', { class: 'o' }, 'second'),
+    return [element('div', { class: 'line second', 'aria-hidden': 'true' }, element('span', { class: 'o' }, texts.ofSecondImage),
         element('span', { class: 'b' }, ...cells))];
 }
 

@@ -1,6 +1,8 @@
 // The bytes of a sector, in hex and as text, with what is chosen of them, and the strip of the whole sector beside them.
 
 import { SECTOR_SIZE, USER_OFFSET } from '../../core/sectors/sector.js';
+import * as texts from '../texts/index.js';
+import { told } from '../texts/index.js';
 import { element, fill, styleValue } from '../ui/index.js';
 import { USER_END, headLine, hexLines, placeName } from './hex_lines.js';
 
@@ -23,7 +25,7 @@ export class HexView {
         this.dragging = false;
         this.pressed = pressed;
         this.columns = 16;
-        this.hex = element('div', { class: 'hex', tabindex: 0, role: 'grid', 'aria-label': 'Bytes of the sector',
+        this.hex = element('div', { class: 'hex', tabindex: 0, role: 'grid', 'aria-label': texts.bytesOfSector,
             'aria-multiselectable': 'true' });
         this.strip = element('canvas', { width: 16, height: SECTOR_SIZE / 16 });
         this.frame = element('span');
@@ -113,7 +115,8 @@ export class HexView {
         }
         this.hex.classList.toggle('texts', this.column === 'text');
         for (const it of this.hex.querySelectorAll(`[data-at="${this.at}"]`)) it.classList.add('at');
-        cell.setAttribute('aria-label', `${placeName(this.shown, this.at)}: ${cell.textContent}`);
+        const place = placeName(this.shown, this.at);
+        cell.setAttribute('aria-label', told(texts.placeHolds, { place, digits: String(cell.textContent) }));
         this.hex.setAttribute('aria-activedescendant', cell.id);
     }
 

@@ -2,7 +2,9 @@
 
 import { KnownDumps } from '../../core/disc/dat.js';
 import { fileReader } from '../open/index.js';
-import { countOf, element, messageOf, nameOf, seen, showNotice } from '../ui/index.js';
+import * as texts from '../texts/index.js';
+import { say, told } from '../texts/index.js';
+import { element, messageOf, nameOf, seen, showNotice } from '../ui/index.js';
 
 /** @typedef {import('../app/state.js').App} App */
 /** @typedef {import('../app/state.js').Image} Image */
@@ -34,10 +36,11 @@ async function takeList(app, file) {
         const known = new KnownDumps();
         await known.add(piecesOf(file));
         app.addDumps(known);
-        const next = app.image === null ? 'Open a disc image, to see whether it is one of them.' : 'The open image is looked up in it.';
-        showNotice('good', ['Loaded: ', nameOf(file.name)], `It lists ${countOf(known.dumps.size, 'known dump')}. ${next}`);
+        const next = app.image === null ? texts.openToLookUp : texts.imageIsLookedUp;
+        showNotice('good', say(texts.fileLoaded, { name: nameOf(file.name) }),
+            `${told(texts.dumpsListed, { n: known.dumps.size })} ${next}`);
     } catch (error) {
-        showNotice('bad', ['Not a list of known dumps that can be read: ', nameOf(file.name)], messageOf(error));
+        showNotice('bad', say(texts.notAListOfDumps, { name: nameOf(file.name) }), messageOf(error));
     }
     return true;
 }
@@ -50,7 +53,8 @@ async function takeList(app, file) {
 export function dumpWords({ dumps }, { reader, sha1 }) {
     if (dumps.length === 0 || sha1 === '') return null;
     const found = dumps.flatMap(known => known.find(reader.size, sha1) || []);
-    if (found.length === 0) return element('span', { class: 'tag warn' }, 'in none of the lists of known dumps');
+    if (found.length === 0) return element('span', { class: 'tag warn' }, texts.inNoListOfDumps);
     const [{ name, isBad }] = found;
-    return element('span', { class: `tag ${isBad ? 'bad' : 'good'} dump` }, isBad ? 'known as a bad dump: ' : 'verified: ', seen(name));
+    const words = isBad ? texts.knownBadDump : texts.verifiedDump;
+    return element('span', { class: `tag ${isBad ? 'bad' : 'good'} dump` }, told(words, { name: seen(name) }));
 }

@@ -1,6 +1,8 @@
 // The legend of the map, whose entries show only one mark.
 
-import { counted, element, fill, oneStop } from '../ui/index.js';
+import * as texts from '../texts/index.js';
+import { counted } from '../texts/index.js';
+import { element, fill, oneStop } from '../ui/index.js';
 
 /** @typedef {import('../app/marks.js').MapModel} MapModel */
 /** @typedef {import('../app/marks.js').Look} Look */
@@ -11,7 +13,7 @@ export class Legend {
         this.changed = changed;
         this.alone = -1;
         this.shown = '';
-        this.part = element('div', { class: 'legend', role: 'group', 'aria-label': 'Legend: press an entry to show it alone' });
+        this.part = element('div', { class: 'legend', role: 'group', 'aria-label': texts.pressLegendEntry });
         oneStop(this.part, 'button');
     }
 

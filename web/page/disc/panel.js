@@ -2,6 +2,8 @@
 
 import { filesAt } from '../../core/iso/files.js';
 import { SecondCard } from '../second/index.js';
+import * as texts from '../texts/index.js';
+import { told } from '../texts/index.js';
 import { button, element, fill, shownName } from '../ui/index.js';
 import { Findings } from './findings.js';
 import { mountDumps } from './known_dumps.js';
@@ -18,7 +20,7 @@ import { addressOf, sectorWords } from './sector_text.js';
  */
 export function mountDisc(app, panel) {
     const disc = new DiscPanel(app);
-    panel.append(element('h1', { class: 'hide' }, 'Disc'), disc.part);
+    panel.append(element('h1', { class: 'hide' }, texts.discHeading), disc.part);
     for (const name of /** @type {const} */ (['survey', 'panel', 'files'])) app.on(name, () => disc.drawMap());
     app.on('surveyed', () => disc.findings.draw());
     app.on('files', () => disc.findings.takeFiles(true));
@@ -45,9 +47,9 @@ class DiscPanel {
         this.findings = new Findings(app);
         this.sector = new SectorCard(app);
         this.words = element('span', { class: 'row' });
-        this.steps = element('span', { class: 'row' }, button('slim', () => this.map.chooseFinding(-1), '◂ Previous finding'),
-            button('slim', () => this.map.chooseFinding(1), 'Next finding ▸'));
-        const header = element('header', {}, element('h2', { id: 'map-title' }, 'Map of the disc'), this.map.per);
+        this.steps = element('span', { class: 'row' }, button('slim', () => this.map.chooseFinding(-1), texts.toPreviousFinding),
+            button('slim', () => this.map.chooseFinding(1), texts.toNextFinding));
+        const header = element('header', {}, element('h2', { id: 'map-title' }, texts.mapOfDisc), this.map.per);
         this.card = element('section', { class: 'card', 'aria-labelledby': 'map-title' }, header, this.legend.part, this.map.part,
             element('div', { class: 'readout' }, this.words, this.steps));
         this.left = element('div', { class: 'side' }, this.card, this.findings.part);
@@ -100,8 +102,9 @@ class DiscPanel {
         if (survey === null || place.block < 0) return fill(this.words);
         const { kind, finding, bad } = sectorWords(app, survey, place.block - survey.block);
         const file = fileWords(app, place.block);
-        return fill(this.words, element('b', {}, `Block ${place.block}`), element('span', {}, addressOf(app, place.block)),
-            element('span', {}, kind), finding !== '' && element('span', { class: bad ? 'bad-ink' : null }, finding),
+        return fill(this.words, element('b', {}, blockWords(place.block)),
+            element('span', {}, addressOf(app, place.block)), element('span', {}, kind),
+            finding !== '' && element('span', { class: bad ? 'bad-ink' : null }, finding),
             file !== '' && element('span', { class: 'small' }, file));
     }
 
@@ -126,7 +129,13 @@ class DiscPanel {
 function spokenOf(app, sector) {
     if (app.survey === null) return '';
     const { kind, finding } = sectorWords(app, app.survey, sector);
-    return `Block ${app.survey.block + sector}, ${kind}${finding === '' ? '' : `, ${finding}`}`;
+    const block = String(app.survey.block + sector);
+    return finding === '' ? told(texts.spokenSector, { block, kind }) : told(texts.spokenFinding, { block, kind, finding });
+}
+
+/** @param {number} block */
+function blockWords(block) {
+    return told(texts.blockNumber, { block: String(block) });
 }
 
 /**
@@ -136,7 +145,7 @@ function spokenOf(app, sector) {
  */
 function fileWords({ files }, block) {
     const [file] = files === null ? [] : filesAt(files.files, block, 0);
-    return file ? `file ${shownName(file.path)}` : '';
+    return file ? told(texts.fileIs, { name: shownName(file.path) }) : '';
 }
 
 /**
@@ -149,6 +158,7 @@ function tipOf(app, sector) {
     const block = survey.block + sector;
     const { kind, finding, codes, damaged } = sectorWords(app, survey, sector);
     const file = fileWords(app, block);
-    return [`Block ${block} · ${finding === '' ? kind : damaged ? 'damaged' : finding}`,
-        [...damaged ? [codes] : [], `address ${addressOf(app, block)}`].join(' · '), ...file === '' ? [] : [file]];
+    return [`${blockWords(block)} · ${finding === '' ? kind : damaged ? texts.isDamaged : finding}`,
+        [...damaged ? [codes] : [], told(texts.addressOfSector, { address: addressOf(app, block) })].join(' · '),
+        ...file === '' ? [] : [file]];
 }

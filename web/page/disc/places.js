@@ -1,6 +1,8 @@
 // Findings grouped into places, and a guess what each looks like.
 
 import { MARK } from '../app/index.js';
+import * as texts from '../texts/index.js';
+import { told } from '../texts/index.js';
 
 /** @typedef {import('../app/marks.js').SurveyMarks} SurveyMarks */
 /** @typedef {{ first: number, last: number, sectors: number[], counts: Uint32Array }} Place sectors by their number in the image */
@@ -15,6 +17,8 @@ const ALL_OVER = 10 * PLACE_GAP;
 const FIRST_RADIUS = 25;
 const PITCH = 0.0016;
 const SECTOR_LENGTH = 1300 / 75;
+
+const ordinals = new Intl.PluralRules(texts.LANGUAGE, { type: 'ordinal' });
 
 /**
  * The places of all findings.
@@ -44,12 +48,13 @@ export function placesOf({ marks, known }) {
 export function placeWords({ counts }) {
     const damage = counts[MARK.EDC] + counts[MARK.PARITY];
     const words = [];
-    if (counts[MARK.EDC] > 0) words.push(counts[MARK.PARITY] > 0 ? 'data and parity' : 'data');
-    else if (counts[MARK.PARITY] > 0) words.push('only parity');
-    if (counts[MARK.LOST] > 0) words.push(`${counts[MARK.LOST]} × sync or mode lost`);
-    if (counts[MARK.ADDRESS] > 0) words.push(damage + counts[MARK.LOST] > 0 ? `${counts[MARK.ADDRESS]} × address` : 'address');
+    if (counts[MARK.EDC] > 0) words.push(counts[MARK.PARITY] > 0 ? texts.dataAndParityFound : texts.dataFound);
+    else if (counts[MARK.PARITY] > 0) words.push(texts.onlyParityFound);
+    if (counts[MARK.LOST] > 0) words.push(told(texts.lostFound, { count: String(counts[MARK.LOST]) }));
+    const count = String(counts[MARK.ADDRESS]);
+    if (counts[MARK.ADDRESS] > 0) words.push(damage + counts[MARK.LOST] > 0 ? told(texts.addressesFound, { count }) : texts.addressFound);
     const mark = [MARK.EDC, MARK.PARITY, MARK.LOST, MARK.ADDRESS].find(it => counts[it] > 0) || MARK.ADDRESS;
-    return { mark, words: words.join(', ') };
+    return { mark, words: words.join(texts.foundJoint) };
 }
 
 /**
@@ -80,21 +85,23 @@ export function placeGuess(place, isElsewhere, known) {
     const { counts, sectors, first, last } = place;
     const count = sectors.length;
     const inRow = count === last - first + 1;
-    if (isElsewhere) return 'another base?';
-    if (counts[MARK.ADDRESS] === count) return inRow && count > 1 ? `${count} in a row: spliced by hand? not damage` : 'not damage';
-    if (count === 1) return counts[MARK.PARITY] === 1 ? 'a single sector; its user data fit' : 'a single sector';
-    if (inRow && count >= 8) return `${count} in a row: perhaps on purpose (copy protection)`;
-    const where = isAllOver(place, known) ? ' all over the disc' : '';
-    return distanceGuess(place, where) || `single sectors${where}${counts[MARK.PARITY] === count ? '; the user data fit' : ''}`;
+    const row = { count: String(count) };
+    if (isElsewhere) return texts.anotherBase;
+    if (counts[MARK.ADDRESS] === count) return inRow && count > 1 ? told(texts.rowSpliced, row) : texts.notDamage;
+    if (count === 1) return counts[MARK.PARITY] === 1 ? texts.singleSectorUserDataFit : texts.singleSector;
+    if (inRow && count >= 8) return told(texts.rowOnPurpose, row);
+    const allOver = isAllOver(place, known);
+    const what = allOver ? texts.singleSectorsAllOver : texts.singleSectors;
+    return distanceGuess(place, allOver) || (counts[MARK.PARITY] === count ? told(texts.userDataFit, { what }) : what);
 }
 
 /**
  * A scratch crosses each turn of the spiral once, so that its distances are about a turn long. What is at other distances that are alike
  * is no scratch.
  * @param {Place} place
- * @param {string} where
+ * @param {boolean} allOver the disc
  */
-function distanceGuess({ sectors, first }, where) {
+function distanceGuess({ sectors, first }, allOver) {
     if (sectors.length < 8) return '';
     const turn = sectorsATurn(sectors[sectors.length >> 1]);
     const distances = sectors.slice(1).map((sector, i) => sector - sectors[i]).sort((a, b) => a - b);
@@ -102,11 +109,12 @@ function distanceGuess({ sectors, first }, where) {
     const alike = distances.filter(it => Math.abs(it - median) <= 1).length;
     if (median > 3 && 2 * alike > distances.length) {
         const isTurn = median > 0.75 * turn && median < 1.5 * turn;
-        return `${isTurn ? 'a scratch: ' : ''}every ${ordinal(median)} sector${where}`;
+        const what = told(allOver ? texts.everySectorAllOver : texts.everySector, { ordinal: ordinal(median) });
+        return isTurn ? told(texts.looksScratched, { what }) : what;
     }
     const turns = (sectors[sectors.length - 1] - first) / turn;
     const perTurn = sectors.length / turns;
-    return perTurn > 0.5 && perTurn < 1.5 && turns > 8 ? 'a scratch: about one sector in each turn of the disc' : '';
+    return perTurn > 0.5 && perTurn < 1.5 && turns > 8 ? texts.scratchInEachTurn : '';
 }
 
 /** @param {number} sector */
@@ -117,6 +125,7 @@ function sectorsATurn(sector) {
 
 /** @param {number} number */
 function ordinal(number) {
-    const ends = number % 100 > 10 && number % 100 < 14 ? '' : ['', 'st', 'nd', 'rd'][number % 10];
-    return `${number}${ends || 'th'}`;
+    const forms = texts.ordinals.split('|');
+    const form = ['one', 'two', 'few', 'other'].indexOf(ordinals.select(number));
+    return told(/** @type {'{n}'} */ (forms[Math.min(form, forms.length - 1)]), { n: String(number) });
 }

@@ -6,9 +6,11 @@ import { USER_OFFSET, USER_SIZE } from '../../core/sectors/sector.js';
 import { isSound } from '../../core/sectors/survey.js';
 import { sectorOfSecond } from '../second/index.js';
 import { bindEncodings, chosenEncoding, encodingLabel } from '../text/index.js';
-import { button, copyButton, countOf, counted, element, fill, nameOf, oneStop, showFailure, term } from '../ui/index.js';
+import * as texts from '../texts/index.js';
+import { say, told } from '../texts/index.js';
+import { button, copyButton, element, fill, nameOf, oneStop, showFailure, term } from '../ui/index.js';
 import { crossingsOf } from './crossings.js';
-import { USER_END, digitsOf, placeName } from './hex_lines.js';
+import { USER_END, byteWords, digitsOf, placeName } from './hex_lines.js';
 import { HexView } from './hex_view.js';
 import { sectorBytes } from './sector_bytes.js';
 import { SectorEdit } from './sector_edit.js';
@@ -32,23 +34,23 @@ export class SectorCard {
         this.edit.bind(this.view);
         this.title = element('h2', { id: 'sector-title' });
         this.said = element('div');
-        this.fields = element('div', { class: 'fields', role: 'group', 'aria-label': 'Fields: press one to go there' });
+        this.fields = element('div', { class: 'fields', role: 'group', 'aria-label': texts.pressFieldToGo });
         this.foot = element('p', { class: 'foot', 'aria-live': 'polite' });
         this.goTo = element('input', { type: 'text', id: 'go-to', class: 'num slim', inputmode: 'numeric', autocomplete: 'off' });
         const form = element('form', { submit: (/** @type {Event} */ event) => this.goToBlock(event) },
-            element('label', { class: 'row small' }, 'Go to block', this.goTo));
+            element('label', { class: 'row small' }, texts.goToBlock, this.goTo));
         this.noBlock = element('div');
         this.choice = element('select', { class: 'slim' });
         bindEncodings(app, this.choice, ({ hasCharacters }) => hasCharacters);
         this.body = element('div', {}, this.said, this.fields, this.view.part, this.foot);
-        this.empty = element('p', { class: 'pad quiet' }, 'Click the map, or a block in the findings. With the keyboard: ',
-            element('kbd', {}, 'Tab'), ' to the map, then the arrows and ', element('kbd', {}, 'Enter'), '.');
+        this.empty = element('p', { class: 'pad quiet' }, ...say(texts.howToOpenSector,
+            { tab: element('kbd', {}, texts.tabKey), enter: element('kbd', {}, texts.enterKey) }));
         const offsets = button('slim bare', () => {
             this.view.setOffsets(!this.view.hexadecimal);
-            fill(offsets, ...offsetWords(this.view.hexadecimal));
-        }, ...offsetWords(false));
+            fill(offsets, this.view.hexadecimal ? texts.offsetsHexadecimal : texts.offsetsDecimal);
+        }, texts.offsetsDecimal);
         this.part = element('section', { class: 'card', 'aria-labelledby': 'sector-title' }, element('header', {}, this.title, form,
-            element('label', { class: 'row small' }, 'Text', this.choice), offsets), this.noBlock, this.empty, this.body);
+            element('label', { class: 'row small' }, texts.encodingOfBytes, this.choice), offsets), this.noBlock, this.empty, this.body);
         oneStop(this.fields, 'button');
         for (const name of /** @type {const} */ (['encoding', 'script', 'second', 'repair', 'panel'])) {
             app.on(name, () => this.redraw(name !== 'panel'));
@@ -77,7 +79,7 @@ export class SectorCard {
 
     close() {
         this.sayBlock('');
-        fill(this.title, 'No sector is open');
+        fill(this.title, texts.noSectorOpen);
         this.empty.hidden = false;
         this.body.hidden = true;
     }
@@ -127,7 +129,7 @@ export class SectorCard {
         const found = mode1 ? crossingsOf(app.calls, old) : null;
         this.empty.hidden = true;
         this.body.hidden = false;
-        fill(this.title, 'Sector of ', term('block', 'block'), ` ${block}`);
+        fill(this.title, ...say(texts.sectorOfBlock, { block: term('block', texts.blockLabel), number: String(block) }));
         this.goTo.value = String(block);
         this.sayBlock('');
         fill(this.said, sectorFault(app, block, old, found));
@@ -163,16 +165,16 @@ export class SectorCard {
         const { digit, fault } = this.edit;
         const typed = digit === '' ? `${digitsOf(byte)} = ${byte}` : `${digit}_`;
         const parts = [element('b', {}, placeName(shown, at)), hexadecimal(isUser ? at - USER_OFFSET : at),
-            isUser && element('span', {}, `byte ${at} of the sector`), element('span', { class: 'mono' }, typed),
+            isUser && element('span', {}, byteWords(at)), element('span', { class: 'mono' }, typed),
             isUser && this.fileAt(at - USER_OFFSET), ...this.selectionWords()];
         if (shown.bytes[at] !== shown.old[at]) {
-            parts.push(element('span', { class: 'good-ink' }, `changed by the script, ${digitsOf(shown.old[at])} in the file`));
+            parts.push(element('span', { class: 'good-ink' }, told(texts.changedByScript, { digits: digitsOf(shown.old[at]) })));
         }
         if (shown.other !== null && shown.other[at] !== shown.old[at]) {
-            parts.push(element('b', {}, `${digitsOf(shown.other[at])} in the second image`));
+            parts.push(element('b', {}, told(texts.inSecondImage, { digits: digitsOf(shown.other[at]) })));
         }
-        const hint = isUser ? `Type to change bytes, or T and then a text: each change becomes a line of the script.${this.damageHint()}`
-            : shown.mode1 ? 'Only user data can be typed over. EDC and parity follow from them.' : 'Only Mode 1 sectors can be changed.';
+        const hint = isUser ? `${texts.typeToChange}${this.damageHint()}`
+            : shown.mode1 ? texts.edcFollowsFromData : texts.onlyModeOneChanges;
         fill(this.foot, fault !== '' && element('b', { class: 'bad-ink' }, fault), ...parts, element('span', {}, hint));
     }
 
@@ -181,18 +183,17 @@ export class SectorCard {
         const { view, edit } = this;
         const { first, end } = view.selection();
         if (view.shown === null || end - first === 1) return [];
-        const from = placeName(view.shown, first);
-        return [element('span', {}, `${countOf(end - first, 'byte')} selected, from ${from} on`),
-            copyButton('slim bare tiny', () => edit.selectedHex(), 'Copy as hex'),
-            copyButton('slim bare tiny', () => edit.selectedText(), 'Copy as text')];
+        const place = placeName(view.shown, first);
+        return [element('span', {}, told(texts.bytesSelected, { n: end - first, place })),
+            copyButton('slim bare tiny', () => edit.selectedHex(), texts.copyAsHex),
+            copyButton('slim bare tiny', () => edit.selectedText(), texts.copyAsText)];
     }
 
     /** What becomes of bytes that are typed in a damaged sector. */
     damageHint() {
         const { shown } = this.view;
         if (shown === null || isSound(this.app.calls.survey(shown.old, 0), 0)) return '';
-        return ' This sector is damaged: Check refuses the change, unless damaged sectors are patched too (carry), or a rebuild in ' +
-            'the script comes before it.';
+        return ` ${texts.changeWillBeRefused}`;
     }
 
     /** @param {number} offset */
@@ -200,9 +201,9 @@ export class SectorCard {
         const { files, place } = this.app;
         if (files === null) return false;
         const [file] = filesAt(files.files, place.block, offset);
-        if (file === undefined) return element('span', {}, 'in no file');
+        if (file === undefined) return element('span', {}, texts.inNoFile);
         const position = (place.block - file.block) * USER_SIZE + offset;
-        return element('span', {}, 'file ', element('span', { class: 'mono' }, nameOf(file.path)), ` at ${counted(position)}`);
+        return element('span', {}, ...say(texts.fileAt, { name: element('span', { class: 'mono' }, nameOf(file.path)), position }));
     }
 
     /** @param {Event} event */
@@ -211,7 +212,8 @@ export class SectorCard {
         const { image } = this.app;
         const block = Number(this.goTo.value.trim().replace(/,/g, ''));
         const isIn = image !== null && Number.isInteger(block) && block >= image.base && block < image.base + image.sectors;
-        this.sayBlock(isIn || image === null ? '' : `The blocks of this image are ${image.base} to ${image.base + image.sectors - 1}.`);
+        this.sayBlock(isIn || image === null ? ''
+            : told(texts.blocksOfImage, { first: String(image.base), last: String(image.base + image.sectors - 1) }));
         if (isIn) this.app.goTo(block);
     }
 
@@ -228,9 +230,4 @@ export class SectorCard {
  */
 function hexadecimal(number) {
     return element('span', { class: 'mono' }, `0x${number.toString(16).toUpperCase()}`);
-}
-
-/** @param {boolean} isHexadecimal how offsets are shown */
-function offsetWords(isHexadecimal) {
-    return ['Offsets: ', isHexadecimal ? 'hexadecimal' : 'decimal'];
 }

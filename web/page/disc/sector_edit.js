@@ -6,7 +6,9 @@ import { charactersFrom } from '../../core/texts/boundaries.js';
 import { encodeText } from '../../core/texts/encoding.js';
 import { bytesOfHex } from '../../core/texts/hex.js';
 import { chosenEncoding, signOf } from '../text/index.js';
-import { announce, byId, countOf, hexOf, messageOf } from '../ui/index.js';
+import * as texts from '../texts/index.js';
+import { told } from '../texts/index.js';
+import { announce, byId, hexOf, messageOf } from '../ui/index.js';
 import { USER_END } from './hex_lines.js';
 import { Typing } from './typing.js';
 
@@ -38,7 +40,7 @@ export class SectorEdit {
             event.clipboardData.setData('text/plain', view.column === 'text' ? this.selectedText() : this.selectedHex());
             event.preventDefault();
             const { first, end } = view.selection();
-            announce(`${countOf(end - first, 'byte')} copied.`);
+            announce(told(texts.bytesCopied, { n: end - first }));
         });
         view.hex.addEventListener('paste', event => {
             const text = event.clipboardData ? event.clipboardData.getData('text/plain') : '';
@@ -129,7 +131,7 @@ export class SectorEdit {
         if (digit !== '') return this.changed();
         const done = app.takeBackBytes();
         if (done && typing.block === app.place.block) view.moveTo(USER_OFFSET + typing.offset);
-        return announce(done ? 'The bytes that were typed last are taken back.' : 'The last change of the script was not typed here.');
+        return announce(done ? texts.bytesTakenBack : texts.notTypedHere);
     }
 
     /** @param {string} digit of a byte */
@@ -157,7 +159,7 @@ export class SectorEdit {
             this.fault = this.faultOf(bytes.length);
             if (this.fault === '' && bytes.length > 0) {
                 const old = shown.bytes.slice(first, first + bytes.length);
-                announce(`In the script: ${this.typing.type(shown.block, first - USER_OFFSET, bytes, old)}`);
+                announce(told(texts.inTheScript, { line: this.typing.type(shown.block, first - USER_OFFSET, bytes, old) }));
                 shown.bytes = shown.bytes.slice();
                 shown.bytes.set(bytes, first);
                 return view.moveTo(Math.min(first + bytes.length, USER_END - 1));
@@ -177,9 +179,9 @@ export class SectorEdit {
         const { view } = this;
         if (view === null || view.shown === null) return '';
         const { first } = view.selection();
-        if (!view.shown.mode1 || first < USER_OFFSET || first >= USER_END) return 'Only the user data of Mode 1 sectors can be typed over.';
+        if (!view.shown.mode1 || first < USER_OFFSET || first >= USER_END) return texts.onlyUserDataTyped;
         const room = USER_END - first;
-        return count > room ? `These are ${countOf(count, 'byte')}, and only ${room} follow here in the user data of this sector.` : '';
+        return count > room ? told(texts.tooManyBytes, { n: count, room: String(room) }) : '';
     }
 }
 
@@ -189,6 +191,6 @@ export class SectorEdit {
  */
 function pastedBytes(text) {
     const digits = text.replace(/\s+/g, '');
-    if (!/^(?:[0-9a-fA-F]{2})+$/.test(digits)) throw new Fault('These are no pairs of hexadecimal digits. Press T to paste it as text.');
+    if (!/^(?:[0-9a-fA-F]{2})+$/.test(digits)) throw new Fault(texts.noHexDigits);
     return bytesOfHex(digits);
 }

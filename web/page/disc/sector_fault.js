@@ -5,6 +5,8 @@ import { lineText } from '../../core/script/line_list.js';
 import { SECTOR_SIZE, USER_OFFSET, USER_SIZE, addressIn, addressText } from '../../core/sectors/sector.js';
 import { MARK } from '../app/index.js';
 import { repairOf } from '../second/index.js';
+import * as texts from '../texts/index.js';
+import { say, told } from '../texts/index.js';
 import { announce, button, element, fill, isDisabled, nameOf, setDisabled, term } from '../ui/index.js';
 import { addressOf } from './sector_text.js';
 
@@ -25,15 +27,20 @@ export function sectorFault(app, block, sector, found) {
     const line = new TextDecoder().decode(app.calls.auditLine(block, record)).trimEnd();
     const [edc, zeros, parity] = [record[RECORD.EDC] > 0, record[RECORD.ZEROS] > 0, record[RECORD.P] + record[RECORD.Q] > 0];
     if (!edc && !zeros && !parity) return line === '' ? soundSector() : elsewhere(app, block, sector, line);
-    const head = edc ? 'The data of this sector are damaged. ' : 'The user data of this sector fit their EDC; other bytes are damaged. ';
     const sentences = [
-        edc && ['The ', term('edc', 'EDC'), ' does not fit the bytes before it. '],
-        zeros && ['The eight bytes after the EDC are not all zero. '],
+        edc && say(texts.edcDoesNotFit, { edc: term('edc', texts.edcField) }),
+        zeros && [texts.zerosDoNotFit],
         parity && crossingWords(found, edc),
-        record[RECORD.ADDRESS] > 0 && [`The header has the address ${addressText(addressIn(sector, 0))}, not that of the block. `],
-    ].flatMap(it => it || []);
-    return element('div', { class: `say ${edc ? 'bad' : 'warn'} thin` }, element('b', {}, head, element('span', { class: 'mono' }, line)),
+        record[RECORD.ADDRESS] > 0 && say(texts.headerHasOtherAddress, { address: addressText(addressIn(sector, 0)) }),
+    ].flatMap(it => it ? [...it, ' '] : []);
+    return element('div', { class: `say ${edc ? 'bad' : 'warn'} thin` },
+        element('b', {}, ...say(edc ? texts.dataAreDamaged : texts.otherBytesDamaged, { line: mono(line) })),
         ...sentences, ...remedies(app, block));
+}
+
+/** @param {string} text of the program or of a script */
+function mono(text) {
+    return element('span', { class: 'mono' }, text);
 }
 
 /**
@@ -41,17 +48,15 @@ export function sectorFault(app, block, sector, found) {
  * @param {boolean} either whether something else does not fit
  * @returns {Child[]}
  */
-function crossingWords({ crossings, columns, ofColumns, diagonals, ofDiagonals }, either) {
-    const both = `${columns} of ${ofColumns} P columns and ${diagonals} of ${ofDiagonals} Q diagonals`;
-    const counts = `${both} do not fit${either ? ' either' : ''}`;
-    if (crossings.length === 0) return [`${counts}; they cross nowhere. `];
-    const [first, last] = [crossings[0], crossings[crossings.length - 1]];
+function crossingWords({ crossings, ...counts }, either) {
+    const codes = told(either ? texts.codesDoNotFitEither : texts.codesDoNotFit, counts);
+    const [count, first, last] = [crossings.length, crossings[0], crossings[crossings.length - 1]];
+    if (count === 0) return say(texts.theyCrossNowhere, { codes });
     const isUser = first >= USER_OFFSET && last < USER_OFFSET + USER_SIZE;
-    const [from, to] = isUser ? [first - USER_OFFSET, last - USER_OFFSET] : [first, last];
-    const many = crossings.length > 1;
-    return [`${counts}; they cross at the ${many ? `${crossings.length} outlined bytes` : 'outlined byte'}, `,
-        isUser ? term('offset', 'offset') : 'byte', ` ${many ? `${from} to ${to}` : from}${isUser ? '' : ' of the sector'}: `,
-        many ? 'the wrong ones are probably among these. ' : 'it is probably the wrong one. '];
+    const [from, to] = [first, last].map(at => String(isUser ? at - USER_OFFSET : at));
+    const at = count > 1 ? told(texts.bytesFromTo, { first: from, last: to }) : from;
+    const place = isUser ? say(texts.offsetIs, { offset: term('offset', texts.offsetWord), at }) : told(texts.byteOfSector, { at });
+    return count > 1 ? say(texts.theyCross, { codes, count: String(count), place }) : say(texts.theyCrossOnce, { codes, place });
 }
 
 /**
@@ -62,11 +67,9 @@ function crossingWords({ crossings, columns, ofColumns, diagonals, ofDiagonals }
 function remedies(app, block) {
     const copies = repairOf(app, block);
     if (copies === 'taken' || copies === 'doubtful') return [soundCopy(app, copies)];
-    const word = () => element('span', { class: 'mono' }, 'rebuild');
-    const rebuild = button('slim', () => addRebuild(app, block, rebuild), 'Add ', word(), ' to the script');
+    const rebuild = button('slim', () => addRebuild(app, block, rebuild), ...say(texts.addToScript, { verb: mono('rebuild') }));
     return [noCopy(app, copies), element('div', { class: 'row' }, repairButton(app), rebuild),
-        element('p', { class: 'small quiet' }, word(),
-            ' makes the sector valid with the bytes as they are. If these are wrong, it hides the damage for good.')];
+        element('p', { class: 'small quiet' }, ...say(texts.rebuildHidesDamage, { verb: mono('rebuild') }))];
 }
 
 /**
@@ -76,9 +79,9 @@ function remedies(app, block) {
  */
 function soundCopy({ second }, copies) {
     const name = second && nameOf(second.name);
-    const doubt = copies === 'doubtful' && 'But its data and EDC are others: compare both first. Perhaps it is another release.';
-    return element('p', {}, element('b', { class: copies === 'taken' ? 'good-ink' : 'warn-ink' }, name,
-        ' has a sound copy: it will be taken. '), doubt);
+    const doubt = copies === 'doubtful' && texts.copyIsDoubtful;
+    return element('p', {}, element('b', { class: copies === 'taken' ? 'good-ink' : 'warn-ink' },
+        ...say(texts.hasSoundCopy, { name }), ' '), doubt);
 }
 
 /**
@@ -86,7 +89,7 @@ function soundCopy({ second }, copies) {
  * @param {ReturnType<typeof repairOf>} copies
  */
 function noCopy({ second }, copies) {
-    return copies === 'none' && second !== null && element('p', {}, nameOf(second.name), ' has no sound copy of it. ');
+    return copies === 'none' && second !== null && element('p', {}, ...say(texts.hasNoSoundCopy, { name: nameOf(second.name) }), ' ');
 }
 
 /**
@@ -95,8 +98,9 @@ function noCopy({ second }, copies) {
  */
 function repairButton(app) {
     const { second, repair } = app;
-    if (second === null || repair !== null) return button('slim main', () => app.choose('repair'), 'Repair from another dump…');
-    return button('slim main', () => app.setSecond(second, 'repair'), element('span', {}, 'Repair from ', nameOf(second.name)));
+    if (second === null || repair !== null) return button('slim main', () => app.choose('repair'), texts.repairFromOther);
+    const words = say(texts.repairFrom, { name: nameOf(second.name) });
+    return button('slim main', () => app.setSecond(second, 'repair'), element('span', {}, ...words));
 }
 
 /**
@@ -110,12 +114,12 @@ function addRebuild(app, block, pressed) {
     const line = lineText(lines => lines.rebuild(block));
     app.addLines([line]);
     setDisabled(pressed, true);
-    fill(pressed, element('span', { class: 'mono' }, 'rebuild'), ' is in the script');
-    announce(`In the script: ${line}`);
+    fill(pressed, ...say(texts.isInScript, { verb: mono('rebuild') }));
+    announce(told(texts.inTheScript, { line }));
 }
 
 function soundSector() {
-    return element('div', { class: 'say good thin' }, element('b', {}, 'This sector is sound.'), 'Its EDC and parity fit.');
+    return element('div', { class: 'say good thin' }, element('b', {}, texts.sectorIsSound), texts.edcAndParityFit);
 }
 
 /**
@@ -126,9 +130,9 @@ function soundSector() {
  */
 function elsewhere(app, block, sector, line) {
     const [has, wants] = [addressText(addressIn(sector, 0)), addressOf(app, block)];
-    return element('div', { class: 'say warn thin' }, element('b', {}, 'This sector is sound, but it has another address. ',
-        element('span', { class: 'mono' }, line)), `Its header says ${has}, and block ${block} has ${wants}. This is no damage: `,
-    'perhaps the image was spliced by hand, or its ', term('base', 'base'), ' is another one.');
+    return element('div', { class: 'say warn thin' }, element('b', {}, ...say(texts.soundElsewhere, { line: mono(line) })),
+        ...say(texts.headerSays, { has, block: String(block), wants }), ' ',
+        ...say(texts.elsewhereIsNoDamage, { base: term('base', texts.baseTerm) }));
 }
 
 /**
@@ -140,14 +144,13 @@ function otherKind(app, block, sector) {
     const { survey } = app;
     const lost = survey !== null && survey.marks.marks[block - survey.block] === MARK.LOST;
     const noSync = app.calls.kind(sector.subarray(0, SECTOR_SIZE)) === SECTOR_KIND.NOSYNC;
-    const what = noSync ? 'has no sync field' : 'is not of Mode 1';
     if (!lost) {
-        const kind = noSync ? 'It is audio, or its form is not known. ' : '';
-        return element('div', { class: 'say thin' }, element('b', {}, `This sector ${what}.`), kind, 'It can be looked at, not patched.');
+        return element('div', { class: 'say thin' }, element('b', {}, noSync ? texts.hasNoSync : texts.isNotModeOne),
+            noSync && `${texts.isAudioOrUnknown} `, texts.onlyLookedAt);
     }
     const copies = repairOf(app, block);
-    return element('div', { class: 'say bad thin' }, element('b', {}, `This sector ${what}, and Mode 1 lies around it.`),
-        'So it has probably lost its sync field or its mode. No patch can repair that: a whole sector from another dump can.',
+    return element('div', { class: 'say bad thin' }, element('b', {}, noSync ? texts.hasLostSync : texts.hasLostMode),
+        texts.noPatchRepairsThat,
         ...copies === 'taken' || copies === 'doubtful' ? [soundCopy(app, copies)]
             : [noCopy(app, copies), element('div', { class: 'row' }, repairButton(app))]);
 }

@@ -3,6 +3,7 @@
 import { DIAGONALS } from '../../core/module/numbers.js';
 import { SECTOR_KIND } from '../../core/module/records.js';
 import { FIELDS as AT, SECTOR_SIZE } from '../../core/sectors/sector.js';
+import * as texts from '../texts/index.js';
 
 /** @typedef {import('./hex_lines.js').Field} Field */
 
@@ -11,17 +12,20 @@ const Q_PARITY = SECTOR_SIZE - 2 * DIAGONALS;
 
 /** @type {Field[]} */
 const MODE1_FIELDS = [
-    { name: 'sync', label: 'sync', from: AT.sync, to: AT.header }, { name: 'header', label: 'header', from: AT.header, to: AT.user },
-    { name: 'user', label: 'user data', from: AT.user, to: AT.edc }, { name: 'edc', label: 'EDC', from: AT.edc, to: AT.zeros },
-    { name: 'zeros', label: 'zeros', from: AT.zeros, to: AT.parity }, { name: 'p', label: 'P parity', from: AT.parity, to: Q_PARITY },
-    { name: 'q', label: 'Q parity', from: Q_PARITY, to: SECTOR_SIZE },
+    { name: 'sync', label: texts.syncField, from: AT.sync, to: AT.header },
+    { name: 'header', label: texts.headerField, from: AT.header, to: AT.user },
+    { name: 'user', label: texts.userDataField, from: AT.user, to: AT.edc },
+    { name: 'edc', label: texts.edcField, from: AT.edc, to: AT.zeros },
+    { name: 'zeros', label: texts.zerosField, from: AT.zeros, to: AT.parity },
+    { name: 'p', label: texts.parityPField, from: AT.parity, to: Q_PARITY },
+    { name: 'q', label: texts.parityQField, from: Q_PARITY, to: SECTOR_SIZE },
 ];
 
 /** @type {Field[]} */
-const DATA_FIELDS = [...MODE1_FIELDS.slice(0, 2), { name: 'user', label: 'all else', from: AT.user, to: SECTOR_SIZE }];
+const DATA_FIELDS = [...MODE1_FIELDS.slice(0, 2), { name: 'user', label: texts.allElseField, from: AT.user, to: SECTOR_SIZE }];
 
 /** @type {Field[]} */
-const PLAIN_FIELDS = [{ name: 'user', label: 'bytes', from: 0, to: SECTOR_SIZE }];
+const PLAIN_FIELDS = [{ name: 'user', label: texts.bytesLabel, from: 0, to: SECTOR_SIZE }];
 
 /**
  * The fields of a sector of a kind.

@@ -4,7 +4,8 @@ import { RECORD, RECORD_SIZE } from '../../core/module/records.js';
 import { addressText } from '../../core/sectors/sector.js';
 import { findingOf } from '../../core/sectors/survey.js';
 import { MARK, lookOfKind } from '../app/index.js';
-import { counted } from '../ui/index.js';
+import * as texts from '../texts/index.js';
+import { told } from '../texts/index.js';
 
 /** @typedef {import('../../core/module/calls.js').Calls} Calls */
 /** @typedef {import('../app/state.js').App} App */
@@ -27,12 +28,13 @@ export function findingAt(calls, { block, records }, sector) {
  * @param {number} sector
  */
 export function sectorWords(app, survey, sector) {
-    if (sector >= survey.known) return { kind: 'not read yet', finding: '', codes: '', bad: false, damaged: false };
+    if (sector >= survey.known) return { kind: texts.sectorNotRead, finding: '', codes: '', bad: false, damaged: false };
     const { name, words: kind = name } = lookOfKind(survey.records[sector * RECORD_SIZE + RECORD.KIND]);
     const mark = survey.marks.marks[sector];
-    const codes = mark === MARK.LOST ? 'inside Mode 1: sync field or mode lost' : findingAt(app.calls, survey, sector);
+    const codes = mark === MARK.LOST ? texts.lostInModeOne : findingAt(app.calls, survey, sector);
     const damaged = mark === MARK.EDC || mark === MARK.PARITY;
-    return { kind, finding: damaged ? `damaged: ${codes}` : codes, codes, bad: codes !== '', damaged: damaged || mark === MARK.LOST };
+    const finding = damaged ? told(texts.isDamagedBy, { codes }) : codes;
+    return { kind, finding, codes, bad: codes !== '', damaged: damaged || mark === MARK.LOST };
 }
 
 /**
@@ -50,5 +52,5 @@ export function addressOf({ calls }, block) {
  * @param {number} count
  */
 export function modeOneSectors(count) {
-    return count === 1 ? 'the Mode 1 sector' : `all ${counted(count)} Mode 1 sectors`;
+    return told(texts.modeOneSectors, { n: count });
 }

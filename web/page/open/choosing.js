@@ -1,5 +1,7 @@
 // Choosing files: by a button, for a job of the start, or by dropping them on the page.
 
+import * as texts from '../texts/index.js';
+import { say } from '../texts/index.js';
 import { announce, byId, element, fill, nameOf, setAttribute } from '../ui/index.js';
 
 /** @typedef {import('../app/state.js').Aim} Aim */
@@ -8,9 +10,9 @@ import { announce, byId, element, fill, nameOf, setAttribute } from '../ui/index
 
 /** What is to be chosen for each job, as the start says it. */
 const WANTED = {
-    play: 'Choose the disc image together with its patch',
-    translate: 'Choose the disc image, or its cue sheet with all BINs',
-    repair: 'Choose the damaged image, and the second dump with it',
+    play: texts.chooseWithPatch,
+    translate: texts.chooseImage,
+    repair: texts.chooseBothDumps,
 };
 
 /** No browser says of each drag that it has ended: one of which nothing was heard for so many milliseconds has. */
@@ -42,7 +44,7 @@ class Chooser {
         const words = aim in WANTED ? WANTED[/** @type {keyof typeof WANTED} */ (aim)] : '';
         const wanted = byId('wanted');
         wanted.classList.toggle('if-mouse', words === '');
-        fill(wanted, words || 'Drop your files here');
+        fill(wanted, words || texts.dropHere);
         if (words !== '' && this.app.image === null) announce(words);
     }
 
@@ -65,7 +67,8 @@ export function mountChoosing(app) {
     const chooser = new Chooser(app);
     const { input } = chooser;
     app.serve({ choose: aim => chooser.choose(aim) });
-    for (const id of ['open-files', 'open-other']) byId(id).addEventListener('click', () => chooser.choose(''));
+    byId('open-files').addEventListener('click', () => chooser.choose(chooser.aim));
+    byId('open-other').addEventListener('click', () => chooser.choose(''));
     for (const job of chooser.jobs) job.addEventListener('click', () => chooser.choose(/** @type {Aim} */ (job.dataset.aim)));
     input.addEventListener('cancel', () => chooser.cancelled());
     input.addEventListener('change', () => {
@@ -86,11 +89,10 @@ export function mountChoosing(app) {
  * @returns {Child[]}
  */
 function dropSays({ image, saves, script }) {
-    if (saves > 0) return ['An image is being saved: nothing is opened before that has ended.'];
-    if (image === null) return ['Drop it to open it: a disc image, its patch, or both.'];
-    const own = script.isNew() ? '' : 'in place of the one that is open, ';
-    return [element('span', {}, 'An image: you choose whether ', nameOf(image.name), ' is repaired from it, compared, or closed for it.'),
-        element('span', {}, `A script: it is opened ${own}and checked.`)];
+    if (saves > 0) return [texts.savedFirst];
+    if (image === null) return [texts.dropToOpen];
+    return [element('span', {}, ...say(texts.dropImage, { name: nameOf(image.name) })),
+        element('span', {}, script.isNew() ? texts.dropScript : texts.dropScriptInPlace)];
 }
 
 /**

@@ -3,6 +3,7 @@
 import { SECTOR_SIZE, USER_SIZE } from '../../core/sectors/sector.js';
 import { CP932 } from '../../core/texts/cp932.js';
 import { encodeText } from '../../core/texts/encoding.js';
+import { exampleName } from '../texts/index.js';
 
 /** @typedef {import('../../core/module/calls.js').Calls} Calls */
 
@@ -102,7 +103,7 @@ export function exampleFile(calls) {
     }
     for (let at = FIRST_AUDIO * SECTOR_SIZE; at < image.length; at++) image[at] = Math.round(40 * Math.sin(at / 37)) & 255;
     for (let block = 97; block < 240; block += 9) scratch(image, block);
-    return new File([image], 'Example disc.bin');
+    return new File([image], exampleName);
 }
 
 /**

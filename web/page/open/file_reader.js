@@ -1,6 +1,8 @@
 // Reading the files that were opened.
 
 import { Fault } from '../../core/faults.js';
+import * as texts from '../texts/index.js';
+import { told } from '../texts/index.js';
 import { shownName } from '../ui/index.js';
 
 /** @typedef {import('../../core/bytes.js').Reader} Reader */
@@ -16,7 +18,7 @@ const PASSED_OVER = 1 << 20;
  * @param {string} name
  */
 function fileGone(name) {
-    return new Fault(`This file cannot be read any more: ${shownName(name)}. Was it moved or changed, or its drive removed?`);
+    return new Fault(told(texts.fileIsGone, { name: shownName(name) }));
 }
 
 /**

@@ -10,7 +10,9 @@ import { isMeantAsScript, isScript } from '../../core/script/script_start.js';
 import { MOST_SECTORS, SECTOR_SIZE, imageTooLong, sectorCount } from '../../core/sectors/sector.js';
 import { textOfFile } from '../../core/texts/encodings.js';
 import { isLong } from '../app/index.js';
-import { button, byId, copyable, counted, element, endMessages, messageParts, nameOf, namesOf } from '../ui/index.js';
+import * as texts from '../texts/index.js';
+import { say, told } from '../texts/index.js';
+import { button, byId, copyable, element, endMessages, fill, messageParts, nameOf, namesOf } from '../ui/index.js';
 import { nextTurn, refuseWhileSaving, showFailure, showNotice } from '../ui/index.js';
 import { mountChoosing } from './choosing.js';
 import { exampleFile } from './example.js';
@@ -29,7 +31,9 @@ const SCRIPT_START = 1 << 16;
 export function mountOpening(app) {
     app.serve({ open: (files, aim) => openFiles(app, files, aim) });
     mountChoosing(app);
-    byId('open-example').addEventListener('click', () => app.open([exampleFile(app.calls)]));
+    const example = element('button', { type: 'button', class: 'plain-link', id: 'open-example',
+        click: () => app.open([exampleFile(app.calls)]) }, texts.tryExample);
+    fill(byId('example'), ...say(texts.orTryExample, { example, text: element('span', { lang: 'ja' }, 'スタート') }));
 }
 
 /**
@@ -97,17 +101,17 @@ async function takenAs(app, file) {
     app.setScript(whole, file.name, !marked, isLong(whole) ? null : await modelInParts(app.calls, whole, nextTurn));
     app.showPanel('script');
     if (marked) {
-        showNotice('warn', ['This file is ', marked.name, ', which cdpatch does not read: ', nameOf(file.name)],
-            'It was read here all the same.', element('div', { class: 'row' }, button('slim', () => {
+        showNotice('warn', say(texts.fileIsEncoded, { encoding: marked.name, name: nameOf(file.name) }),
+            texts.wasReadHere, element('div', { class: 'row' }, button('slim', () => {
                 endMessages();
                 app.services.saveScript();
-            }, 'Save it as plain UTF-8')));
+            }, texts.saveAsUtf8)));
     }
     return 'script';
 }
 
 /** How editors mark the encoding of a text. */
-const MARKS = [{ name: 'UTF-8 with a mark', bytes: [0xEF, 0xBB, 0xBF] }, { name: 'UTF-16', bytes: [0xFF, 0xFE] },
+const MARKS = [{ name: texts.utf8WithMark, bytes: [0xEF, 0xBB, 0xBF] }, { name: 'UTF-16', bytes: [0xFF, 0xFE] },
     { name: 'UTF-16', bytes: [0xFE, 0xFF] }];
 
 /** That no image was opened of a cue sheet, and none as a second one. */
@@ -122,10 +126,11 @@ async function openImages(app, files) {
     const names = files.map(file => file.name);
     if (refuseWhileSaving(app, names)) return NOTHING;
     const different = new Set(names.map(name => name.toLowerCase())).size;
-    if (different < names.length) throw discFault('Two of these files have the same name. Open only one.');
+    if (different < names.length) throw discFault(texts.sameName);
     const two = files.length === 2 && (await Promise.all(files.map(file => isRawImage(app, file)))).every(it => it);
     if (two && app.image !== null) {
-        throw discFault(`An image is open already: ${app.image.name}. Open one more, ${names.join(' or ')}, to compare it.`);
+        const [one, other] = names;
+        throw discFault(told(texts.isOpenAlready, { name: app.image.name, one, other }));
     }
     const images = [];
     for (const group of two ? [[files[0]], [files[1]]] : [files]) images.push(await openedImage(app, group));
@@ -144,8 +149,8 @@ function sayLeftOut(files, image) {
     const taken = [image.from, ...image.disc.files.map(({ name }) => name)];
     const names = files.map(file => file.name).filter(name => !taken.includes(name));
     if (names.length === 0) return;
-    showNotice('warn', ['Not opened: ', ...namesOf(names), '.'], 'The cue sheet does not name ', names.length === 1 ? 'it: ' : 'them: ',
-        nameOf(image.from), '.');
+    showNotice('warn', say(texts.notOpened, { names: namesOf(names) }),
+        ...say(texts.sheetLacks, { n: names.length, sheet: nameOf(image.from) }));
 }
 
 /**
@@ -177,7 +182,7 @@ async function openedImage(app, files) {
 export function imageOfTrack(disc, sheet, number, renamed = new Map()) {
     const { image, part, number: own } = (number === null && audioTrack(disc)) || dataTrack(disc, number);
     if (imageTooLong(image.reader.size)) {
-        throw discFault(`An image has at most ${counted(MOST_SECTORS)} sectors, and this one has more: ${image.name}.`);
+        throw discFault(told(texts.tooManySectors, { most: MOST_SECTORS, name: image.name }));
     }
     return { ...image, part, from: disc.sheet || '', sheet, disc, number: own, sha1: '', crc32: '', renamed };
 }
@@ -204,12 +209,12 @@ async function showOpeningFailure(app, files, error) {
     const kinds = files.map(file => natureOf(app.calls, fileReader(file)).then(({ kind }) => kind, () => 'unknown'));
     const packed = files[failedBy(error, FAULT.DISC, FAULT.MISSING_FILES) ? (await Promise.all(kinds)).indexOf('chd') : -1];
     if (packed) {
-        return showNotice('bad', ['A compressed image (CHD), which cdpatch cannot read: ', nameOf(packed.name)],
-            'Make a raw image of it first, in a terminal. Then open the new .cue and .bin here.', ...commandFor(packed.name));
+        return showNotice('bad', say(texts.compressedImage, { name: nameOf(packed.name) }), texts.makeRawImage,
+            ...commandFor(packed.name));
     }
     if (failedBy(error, FAULT.MISSING_FILES)) return showFailure(error);
     const names = [...files.map(file => file.name), app.image ? app.image.name : ''];
-    return showNotice('bad', 'Not opened.', ...messageParts(error, names));
+    return showNotice('bad', texts.notOpenedYet, ...messageParts(error, names));
 }
 
 /**
@@ -218,6 +223,6 @@ async function showOpeningFailure(app, files, error) {
  */
 function commandFor(name) {
     const plain = /^[\p{L}\p{N}_(][\p{L}\p{N} ._()[\]-]*$/u.test(name);
-    const rename = 'Rename it to disc.chd before that: a terminal may read a part of its name as a command.';
-    return [!plain && element('p', {}, rename), ...copyable(`chdman extractcd -i "${plain ? name : 'disc.chd'}" -o disc.cue -ob disc.bin`)];
+    return [!plain && element('p', {}, texts.renameToDisc),
+        ...copyable(`chdman extractcd -i "${plain ? name : 'disc.chd'}" -o disc.cue -ob disc.bin`)];
 }

@@ -1,7 +1,9 @@
 // What is asked when a second image comes: nothing of it is read before that but what it is.
 
 import { commonPart, isSameRange } from '../../core/images/common_part.js';
-import { asked, countOf, nameOf, refuseWhileSaving } from '../ui/index.js';
+import * as texts from '../texts/index.js';
+import { say } from '../texts/index.js';
+import { asked, nameOf, refuseWhileSaving } from '../ui/index.js';
 import { fileOf, isSameFile } from './file_reader.js';
 import { readImage } from './survey_image.js';
 
@@ -36,13 +38,14 @@ export async function takeSecond(app, second, aim) {
  */
 function askFor({ survey }, image, second, words) {
     /** @type {[PairJob | 'instead', Child[]][]} */
-    const jobs = [['repair', ['Repair ', nameOf(image.name), ' from it']], ['compare', ['Compare']], ['instead', ['Open it instead']]];
-    const isSound = survey !== null && survey.over && survey.marks.damaged() === 0;
+    const jobs = [['repair', say(texts.repairItFrom, { name: nameOf(image.name) })], ['compare', [texts.compareIt]],
+        ['instead', [texts.openItInstead]]];
+    const isDamaged = survey !== null && survey.marks.damaged() > 0;
     const { from, to } = commonPart(image, second);
     const isPossible = { repair: from < to, compare: isSameRange(image, second), instead: true };
     const possible = jobs.filter(([job]) => isPossible[job]);
-    const main = !isPossible.repair ? 'instead' : isSound && isPossible.compare ? 'compare' : 'repair';
-    return asked([nameOf(second.name), ':'], words, possible, main);
+    const main = isPossible.repair && isDamaged ? 'repair' : isPossible.compare ? 'compare' : 'instead';
+    return asked(say(texts.whatToDoWith, { name: nameOf(second.name) }), words, possible, main);
 }
 
 /**
@@ -53,12 +56,12 @@ function askFor({ survey }, image, second, words) {
  */
 function whyNoPair(image, second) {
     const [file, other] = [image, second].map(({ reader }) => fileOf(reader));
-    if (file && other && isSameFile(file, other)) return ['This is the open image itself.'];
+    if (file && other && isSameFile(file, other)) return [texts.isImageItself];
     if (isSameRange(image, second)) return [];
     const { from, to, later } = commonPart(image, second);
-    if (from === to) return ['It is another part of a disc than ', nameOf(image.name), '.'];
-    const more = second.sectors - image.sectors;
-    const length = more === 0 ? 'another tail' : `${countOf(Math.abs(more), 'sector')} ${more > 0 ? 'more' : 'fewer'}`;
-    const shift = `It is shifted: it begins ${countOf(Math.abs(later), 'sector')} ${later > 0 ? 'later' : 'earlier'}`;
-    return [`${later === 0 ? `It has ${length}` : shift} than `, nameOf(image.name), '. A repair uses the blocks that both have.'];
+    const [name, more] = [nameOf(image.name), second.sectors - image.sectors];
+    if (from === to) return say(texts.isAnotherPart, { name });
+    const length = more === 0 ? texts.hasAnotherTail : more > 0 ? texts.hasMoreSectors : texts.hasFewerSectors;
+    const shift = later > 0 ? texts.later : texts.earlier;
+    return [...say(later === 0 ? length : shift, { name, n: Math.abs(later || more) }), ` ${texts.repairUsesCommon}`];
 }

@@ -4,13 +4,14 @@ import { natureOf } from '../../core/disc/file_type.js';
 import { isScript } from '../../core/script/script_start.js';
 import { releaseOf } from '../app/index.js';
 import { fileReader } from '../open/index.js';
+import * as texts from '../texts/index.js';
+import { say, told } from '../texts/index.js';
 import { byId, clearNotices, element, nameOf, notice, refuseWhileSaving, sentence, showNotice } from '../ui/index.js';
 import { pageSource } from './own_text.js';
 import { comparedWithPage, readPatcherText } from './patcher.js';
 import { showPlayer } from './show.js';
 
 /** @typedef {import('../app/state.js').App} App */
-/** @typedef {import('../ui/notices.js').Tone} Tone */
 /** @typedef {ReturnType<typeof comparedWithPage>} Compared */
 
 const LARGEST_PATCHER = 1 << 28;
@@ -30,14 +31,14 @@ export async function mountPatchers(app) {
     try {
         showPlayer(app, await readPatcherText(app.calls, text), { note: null, back: null });
     } catch (error) {
-        showNotice('bad', 'This patcher cannot be used.', `${sentence(error)}. Get it again from where its author offers it.`);
+        showNotice('bad', texts.patcherUnusable, told(texts.getPatcherAgain, { fault: sentence(error) }));
     }
 }
 
 /** Waits until the browser has all of this page: the data of a patcher stand after the script, and come later. */
 async function wholeDocument() {
     if (document.readyState !== 'loading') return;
-    showNotice('plain', 'The rest of this page is still being loaded.', 'If it is a patcher, it opens then.');
+    showNotice('plain', texts.pageStillLoading, texts.opensIfPatcher);
     await new Promise(done => document.addEventListener('DOMContentLoaded', done, { once: true }));
     clearNotices();
 }
@@ -52,9 +53,8 @@ async function takePatcher(app, file) {
     if (refuseWhileSaving(app, [file.name])) return true;
     const compared = file.size > LARGEST_PATCHER ? null : comparedWithPage(new Uint8Array(await file.arrayBuffer()), pageSource(app.calls));
     const release = compared === null || compared.same ? '' : await releaseOf(compared.program);
-    if (compared === null) {
-        say('bad', 'Not this cdpatch', file, 'It is a page, and no patcher of cdpatch. A browser that opens it may run what is in it.');
-    } else if (compared.text.trim() === '') sayWithoutPatch(compared, release, file);
+    if (compared === null) showNotice('bad', say(texts.notThisCdpatch, { name: nameOf(file.name) }), texts.pageButNoPatcher);
+    else if (compared.text.trim() === '') sayWithoutPatch(compared, release, nameOf(file.name));
     else await showCompared(app, compared, release, file);
     return true;
 }
@@ -71,31 +71,19 @@ async function isPage(app, file) {
 }
 
 /**
- * @param {Tone} tone
- * @param {string} verdict
- * @param {File} file
- * @param {string} rest
- */
-function say(tone, verdict, file, rest) {
-    showNotice(tone, [`${verdict}: `, nameOf(file.name)], rest);
-}
-
-/**
  * @param {NonNullable<Compared>} compared
  * @param {string} release
- * @param {File} file
+ * @param {HTMLElement} name of the file
  */
-function sayWithoutPatch({ same, text }, release, file) {
+function sayWithoutPatch({ same, text }, release, name) {
     const whole = text === '\n';
-    if (same && whole) return say('good', 'This very page, byte for byte', file, 'It holds no patch.');
-    if (same) return say('warn', 'This page, and white space after it', file, 'It holds no patch.');
-    if (release && whole) return say('good', `cdpatch ${release}, byte for byte`, file, `${EARLIER} It holds no patch.`);
-    return say('warn', 'Not this cdpatch', file, 'It is another version, or it was changed. It holds no patch.');
+    if (same && whole) return showNotice('good', say(texts.thisVeryPage, { name }), texts.holdsNoPatch);
+    if (same) return showNotice('warn', say(texts.thisPageAndSpace, { name }), texts.holdsNoPatch);
+    if (release && whole) {
+        return showNotice('good', say(texts.releaseOfCdpatch, { release, name }), `${texts.earlierRelease} ${texts.holdsNoPatch}`);
+    }
+    return showNotice('warn', say(texts.notThisCdpatch, { name }), `${texts.otherVersionOrChanged} ${texts.holdsNoPatch}`);
 }
-
-const EARLIER = 'It is an earlier release.';
-/** What the comparison does not say. */
-const NO_WORD = 'The comparison says nothing of who made the patch, or of what it does.';
 
 /**
  * @param {App} app
@@ -107,13 +95,12 @@ async function showCompared(app, { same, text }, release, file) {
     const name = nameOf(file.name);
     try {
         const data = await readPatcherText(app.calls, text);
-        const note = same ? notice('good', ['This cdpatch, byte for byte: ', name], `Only its patch was read. ${NO_WORD}`)
-            : release !== '' ? notice('good', [`cdpatch ${release}, byte for byte: `, name],
-                `${EARLIER} Only its patch was read: what works here is this page. ${NO_WORD}`)
-            : notice('warn', ['Not this cdpatch: ', name],
-                'It is another version, or it was changed. Only its patch was read: what works here is this page.');
+        const note = same ? notice('good', say(texts.thisCdpatch, { name }), `${texts.onlyPatchRead} ${texts.comparisonSaysNothing}`)
+            : release !== '' ? notice('good', say(texts.releaseOfCdpatch, { release, name }),
+                `${texts.earlierRelease} ${texts.onlyPatchReadHere} ${texts.comparisonSaysNothing}`)
+            : notice('warn', say(texts.notThisCdpatch, { name }), `${texts.otherVersionOrChanged} ${texts.onlyPatchReadHere}`);
         showPlayer(app, data, { note: element('div', { id: 'compared' }, note), back: null });
     } catch (error) {
-        showNotice('bad', ['This patcher cannot be used: ', name], `${sentence(error)}.`);
+        showNotice('bad', say(texts.patcherFileUnusable, { name }), `${sentence(error)}.`);
     }
 }

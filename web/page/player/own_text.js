@@ -2,12 +2,12 @@
 
 import { Fault } from '../../core/faults.js';
 import { OWN } from '../app/index.js';
+import * as texts from '../texts/index.js';
 import { checksum } from './patcher.js';
 
 /** @typedef {import('../../core/module/calls.js').Calls} Calls */
 
 const SCRIPT_HASH = /^sha256-[A-Za-z0-9+/]{43}=$/;
-const CHANGED = 'Something in this browser has changed this page, an extension perhaps. Turn it off for this page, and open the page again';
 
 /**
  * @param {Calls} calls
@@ -32,7 +32,7 @@ function ownParts(calls) {
     const styles = [...document.querySelectorAll('style')].map(it => it.textContent || '');
     const policies = [...document.querySelectorAll('meta[http-equiv]')].map(it => it.getAttribute('content') || '');
     const [style, policy] = [styles.findIndex(it => isOwnStyle(calls, it)), policies.findIndex(isOwnPolicy)];
-    if (style < 0 || policy < 0) throw new Fault(CHANGED);
+    if (style < 0 || policy < 0) throw new Fault(texts.pageWasChanged);
     return { style: styles[style], policy: policies[policy], first: style === 0 && policy === 0 };
 }
 
@@ -51,6 +51,6 @@ export function pageSource(calls) {
  * @param {Calls} calls
  */
 export function publishedSource(calls) {
-    if (!ownParts(calls).first) throw new Fault(CHANGED);
+    if (!ownParts(calls).first) throw new Fault(texts.pageWasChanged);
     return pageSource(calls);
 }

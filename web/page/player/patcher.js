@@ -5,6 +5,7 @@ import { ByteList } from '../../core/bytes.js';
 import { FAULT, Fault, failedBy } from '../../core/faults.js';
 import { MOST_SCRIPT_BYTES } from '../../core/module/records.js';
 import { Sha1, bytesOfBase64 } from '../app/index.js';
+import * as texts from '../texts/index.js';
 import { hexOf } from '../ui/index.js';
 import { headFault, isImageName, takenHead } from './patcher_head.js';
 
@@ -44,7 +45,7 @@ async function streamBytes(stream, most) {
         bytes.push(next.value);
         if (bytes.size > most) {
             await reader.cancel();
-            throw patcherFault('the data are too long');
+            throw patcherFault(texts.dataTooLong);
         }
     }
     return bytes.bytes();
@@ -90,7 +91,7 @@ export function checksum(calls, bytes) {
  * @param {PatcherData} data
  */
 export async function patcherText(calls, { script, ...head }) {
-    const fault = headFault(head) || (isImageName(head.name) ? '' : 'the name of the image is none of an image');
+    const fault = headFault(head) || (isImageName(head.name) ? '' : texts.nameOfNoImage);
     if (fault) throw patcherFault(fault);
     const stream = new Blob([`${JSON.stringify(head)}\n`, script]).stream().pipeThrough(new CompressionStream('deflate'));
     const packed = await streamBytes(stream, MOST_SCRIPT_BYTES + LARGEST_HEAD);
@@ -105,17 +106,17 @@ export async function patcherText(calls, { script, ...head }) {
  */
 export async function readPatcherText(calls, text) {
     const found = FORM.exec(text);
-    if (!found) throw patcherFault('the data do not have the form that they should: the file is cut, or was changed');
-    if (found[3].length % 4 !== 0) throw patcherFault('the data are cut');
+    if (!found) throw patcherFault(texts.dataOfWrongForm);
+    if (found[3].length % 4 !== 0) throw patcherFault(texts.dataCut);
     const packed = bytesOfBase64(found[3]);
-    if (packed.length !== Number(found[1])) throw patcherFault('the data are cut');
-    if (checksum(calls, packed) !== found[2]) throw patcherFault('the data were changed on their way: their checksum is another one');
+    if (packed.length !== Number(found[1])) throw patcherFault(texts.dataCut);
+    if (checksum(calls, packed) !== found[2]) throw patcherFault(texts.dataChanged);
     const inflating = inSmallPieces(packed).pipeThrough(new DecompressionStream('deflate'));
     const bytes = await streamBytes(inflating, MOST_SCRIPT_BYTES + LARGEST_HEAD).catch(error => {
-        throw failedBy(error, FAULT.PATCHER) ? error : patcherFault('the data cannot be unpacked');
+        throw failedBy(error, FAULT.PATCHER) ? error : patcherFault(texts.dataNotUnpacked);
     });
     const end = bytes.indexOf(10);
-    if (end < 0 || end > LARGEST_HEAD) throw patcherFault('the data have no head');
+    if (end < 0 || end > LARGEST_HEAD) throw patcherFault(texts.dataWithoutHead);
     const head = jsonOf(bytes.subarray(0, end));
     const fault = headFault(head);
     if (fault) throw patcherFault(fault);
@@ -127,7 +128,7 @@ function jsonOf(bytes) {
     try {
         return JSON.parse(new TextDecoder('utf-8', { fatal: true }).decode(bytes));
     } catch {
-        throw patcherFault('the head of the data is not JSON');
+        throw patcherFault(texts.headNotJson);
     }
 }
 

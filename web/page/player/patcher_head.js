@@ -3,6 +3,8 @@
 import { sheetOf } from '../../core/disc/cue.js';
 import { LAST_BASE, MOST_SECTORS, SECTOR_SIZE } from '../../core/module/numbers.js';
 import { sheetNaming } from '../save/index.js';
+import * as texts from '../texts/index.js';
+import { told } from '../texts/index.js';
 
 /** @typedef {import('./patcher.js').PatcherData} PatcherData */
 
@@ -69,9 +71,9 @@ function hasMembers(value, names) {
  * @param {any} head
  */
 export function headFault(head) {
-    if (!hasMembers(head, Object.keys(HEAD_FORM))) return 'the data do not have the members that they should';
+    if (!hasMembers(head, Object.keys(HEAD_FORM))) return texts.headWithOtherMembers;
     const wrong = Object.keys(HEAD_FORM).find(name => !HEAD_FORM[name](head[name]));
-    return wrong ? `the data have a wrong ${wrong}` : '';
+    return wrong ? told(texts.headWithWrongMember, { member: wrong }) : '';
 }
 
 /**

@@ -1,7 +1,9 @@
 // How a player plays what was saved.
 
 import { downloadText, otherFiles } from '../save/index.js';
-import { button, countOf, element, nameOf, namesOf } from '../ui/index.js';
+import * as texts from '../texts/index.js';
+import { say } from '../texts/index.js';
+import { button, element, nameOf, namesOf } from '../ui/index.js';
 
 /** @typedef {import('../ui/fill.js').Child} Child */
 
@@ -13,12 +15,13 @@ const MOST_NAMED = 4;
  * @returns {Child[]}
  */
 export function playWords(name, sheet) {
-    if (sheet === '') return [element('p', {}, 'Open ', element('b', {}, nameOf(name)), ' in your emulator.')];
+    const image = element('b', {}, nameOf(name));
+    if (sheet === '') return [element('p', {}, ...say(texts.openInEmulator, { name: image }))];
     const others = otherFiles(sheet, name);
     const more = others.length - MOST_NAMED;
-    const copy = element('p', {}, 'Copy there too, since the cue sheet names ', others.length === 1 ? 'it: ' : 'them: ',
-        ...namesOf(others.slice(0, MOST_NAMED)), more > 0 && ` and ${countOf(more, 'more file')}`, '.');
-    const save = element('p', {}, 'Your emulator opens a cue sheet. Save this one beside ', element('b', {}, nameOf(name)), '.');
-    return [save, others.length > 0 && copy,
-        button('main big', () => downloadText(sheet, name.replace(/(\.[^.]*)?$/, '.cue')), 'Save the cue sheet…')];
+    const files = namesOf(others.slice(0, MOST_NAMED));
+    const copied = { n: others.length, files: more > 0 ? say(texts.filesAndMore, { n: more, files }) : files };
+    return [element('p', {}, ...say(texts.saveSheetBeside, { name: image })),
+        others.length > 0 && element('p', {}, ...say(texts.copySheetFiles, copied)),
+        button('main big', () => downloadText(sheet, name.replace(/(\.[^.]*)?$/, '.cue')), texts.saveTheCueSheet)];
 }

@@ -7,10 +7,12 @@ import { RESULT } from '../../core/module/records.js';
 import { textOfFile } from '../../core/texts/encodings.js';
 import { fileReader } from '../open/index.js';
 import { failureOfSaving, saveWork, sheetNaming } from '../save/index.js';
-import { askBeforeLeaving, button, clearNotices, countOf, counted, element, fill, hashParts, icon, isCancelled } from '../ui/index.js';
+import * as texts from '../texts/index.js';
+import { say, told } from '../texts/index.js';
+import { askBeforeLeaving, button, clearNotices, element, fill, hashParts, icon, isCancelled } from '../ui/index.js';
 import { jobBar, messageParts, nameOf, notice, refuseWhileSaving } from '../ui/index.js';
 import { playWords } from './play_words.js';
-import { CARRIES, NO_FULL_DUMP, VERDICTS, reasonForPlayer, reasonsOf } from './reason.js';
+import { VERDICTS, reasonForPlayer, reasonsOf } from './reason.js';
 import { authorsWords, moreOf } from './trust_note.js';
 import { imageOfSize, judgeImage } from './verdict.js';
 
@@ -49,12 +51,11 @@ export class Player {
         askBeforeLeaving(() => this.leaving);
         /** @type {HTMLInputElement} */
         this.input = element('input', { type: 'file', id: 'player-files', class: 'hide', multiple: true, tabindex: -1,
-            'aria-label': 'Your disc image',
+            'aria-label': texts.yourDiscImage,
             change: () => this.open([...this.input.files || []]) });
         this.steps = element('ol', { class: 'steps' });
         fill(place, how.note, authorsWords(data), this.steps, element('p', { class: 'safe left' }, icon('lock'),
-                element('span', {}, element('b', {}, 'Nothing leaves your computer.'),
-                ' Your image is not changed; a new file is saved.')), moreOf(data), this.input);
+            element('span', {}, element('b', {}, texts.nothingLeavesYourComputer), ' ', texts.newFileIsSaved)), moreOf(data), this.input);
         this.start();
     }
 
@@ -78,16 +79,16 @@ export class Player {
      * @param {HTMLElement} [second]
      * @param {HTMLElement} [third]
      */
-    show(first, second = this.step('2', 'later', 'Patch it'), third = this.step('3', 'later', 'Play')) {
+    show(first, second = this.step('2', 'later', texts.patchIt), third = this.step('3', 'later', texts.stepPlay)) {
         fill(this.steps, first, second, third);
     }
 
     /** @param {Child} [fault] */
     start(fault = null) {
-        const choose = button('main big', () => this.input.click(), 'Choose the image…');
-        this.show(this.step('1', 'now', 'Your disc', fault, element('div', { class: 'drop' }, icon('disc'),
-            element('p', { class: 'what if-mouse' }, 'Drop your disc image here'), choose,
-            element('p', { class: 'small quiet' }, 'The .bin file, or the .cue and all .bin files together'))));
+        const choose = button('main big', () => this.input.click(), texts.chooseTheImage);
+        this.show(this.step('1', 'now', texts.yourDisc, fault, element('div', { class: 'drop' }, icon('disc'),
+            element('p', { class: 'what if-mouse' }, texts.dropDiscImage), choose,
+            element('p', { class: 'small quiet' }, texts.binOrCueAndBins))));
     }
 
     /** @param {File[]} files */
@@ -119,15 +120,15 @@ export class Player {
         const names = files.map(file => file.name);
         const kinds = await Promise.all(files.map(file => natureOf(this.app.calls, fileReader(file)).then(({ kind }) => kind, () => '')));
         const iso = names[kinds.indexOf('iso')];
-        const [head, rest] = NO_FULL_DUMP;
-        return iso === undefined ? notice('bad', 'Not opened.', ...messageParts(error, names)) : notice('bad', [nameOf(iso), head], rest);
+        return iso === undefined ? notice('bad', texts.notOpenedYet, ...messageParts(error, names))
+            : notice('bad', say(texts.isoOfPartSectors, { name: nameOf(iso) }), texts.needsFullDump);
     }
 
     /** @param {DiscImage} image */
     async judge(image) {
         await this.app.run(async (signal, cancel) => {
-            const bar = jobBar('Checking your image', cancel);
-            this.show(this.step('1', 'now', 'Checking your image', element('p', { class: 'mono' }, nameOf(image.name)), ...bar.parts));
+            const bar = jobBar(texts.checkingYourImage, cancel);
+            this.show(this.step('1', 'now', texts.checkingYourImage, element('p', { class: 'mono' }, nameOf(image.name)), ...bar.parts));
             this.stop = cancel;
             const judged = await judgeImage(this.app, this.data, image, { signal, progress: bar.at });
             if (signal.aborted) return;
@@ -147,18 +148,18 @@ export class Player {
             icon(tone === 'good' ? 'tick' : 'warn'), element('span', {}, head));
         const isChosen = tone === 'good' || verdict === 'fits';
         const name = element('p', {}, element('span', { class: 'mono' }, nameOf(image.name)), ' ',
-            isChosen && button('slim bare tiny', () => this.input.click(), 'Choose another'));
+            isChosen && button('slim bare tiny', () => this.input.click(), texts.chooseAnother));
         if (tone === 'bad') return this.showOther(name, said, image, judged);
         if (!isChosen) return this.showUnknown(name, said, image, judged);
-        const first = this.step('1', 'done', 'Your disc', name, said, reasonForPlayer(judged, image.reader.size, this.data.image.size),
+        const first = this.step('1', 'done', texts.yourDisc, name, said, reasonForPlayer(judged, image.reader.size, this.data.image.size),
             this.details(image, judged));
-        if (verdict === 'patched') return this.show(first, this.step('2', 'done', 'Patched', 'There is nothing to do.'),
+        if (verdict === 'patched') return this.show(first, this.step('2', 'done', texts.stepPatched, texts.nothingLeftToDo),
             this.playStep(image.name, this.sheetFor(image.name)));
-        const patch = button('main big', () => this.patch(image, judged, first), 'Patch and save…');
-        const space = counted(Math.ceil(image.reader.size / 1e6));
-        this.show(first, this.step('2', 'now', 'Patch it',
-            element('p', {}, `${countOf(judged.patches, 'change')}. The new file needs ${space} MB of space.`),
-            this.data.carry && element('p', {}, CARRIES), patch));
+        const patch = button('main big', () => this.patch(image, judged, first), texts.patchAndSave);
+        const space = Math.ceil(image.reader.size / 1e6);
+        this.show(first, this.step('2', 'now', texts.patchIt,
+            element('p', {}, told(texts.changesNeedSpace, { n: judged.patches, space })),
+            this.data.carry && element('p', {}, texts.authorPatchesDamaged), patch));
         return patch.focus();
     }
 
@@ -170,16 +171,16 @@ export class Player {
      */
     showOther(name, said, image, judged) {
         const { patches, refused } = judged;
-        const carries = this.data.carry ? [CARRIES] : [];
-        const why = [...reasonsOf(patches, refused), ...carries, 'Nothing was saved.'].map(text => element('p', {}, text));
+        const carries = this.data.carry ? [texts.authorPatchesDamaged] : [];
+        const why = [...reasonsOf(patches, refused), ...carries, texts.nothingWasSaved].map(text => element('p', {}, text));
         const box = element('div', { class: 'say bad' }, said, ...why, element('div', { class: 'row' },
-            button('main', () => this.input.click(), 'Choose another image…')));
+            button('main', () => this.input.click(), texts.chooseAnotherImage)));
         const fitting = patches - refused.length;
-        const some = button('slim bare', () => this.patch(image, judged, this.step('1', 'done', 'Your disc', name)),
-            `Save with the ${countOf(fitting, 'change that fits', 'changes that fit')}…`);
+        const some = button('slim bare', () => this.patch(image, judged, this.step('1', 'done', texts.yourDisc, name)),
+            told(texts.saveWithFitting, { n: fitting }));
         const details = this.details(image, judged);
-        if (fitting > 0) details.append(element('p', { class: 'small' }, some, ' The game may then show both languages, or stop.'));
-        this.show(this.step('1', 'now', 'Your disc', name, box, details));
+        if (fitting > 0) details.append(element('p', { class: 'small' }, some, ' ', texts.gameMayStop));
+        this.show(this.step('1', 'now', texts.yourDisc, name, box, details));
     }
 
     /**
@@ -192,14 +193,14 @@ export class Player {
     showUnknown(name, said, image, judged) {
         const patch = () => {
             const done = element('p', { class: 'verdict warn-ink' }, icon('warn'), element('span', {}, VERDICTS.unknown[1]));
-            return this.patch(image, judged, this.step('1', 'done', 'Your disc', name, done));
+            return this.patch(image, judged, this.step('1', 'done', texts.yourDisc, name, done));
         };
         const isOpen = judged.verdict === 'unknown';
         const box = element('div', { class: 'say warn' }, said, reasonForPlayer(judged, image.reader.size, this.data.image.size),
-            isOpen && this.data.carry && element('p', {}, CARRIES),
-            element('div', { class: 'row' }, button('', () => this.input.click(), 'Choose another image…'),
-                isOpen && button('', patch, 'Patch it all the same…')));
-        this.show(this.step('1', 'now', 'Your disc', name, box, this.details(image, judged)));
+            isOpen && this.data.carry && element('p', {}, texts.authorPatchesDamaged),
+            element('div', { class: 'row' }, button('', () => this.input.click(), texts.chooseAnotherImage),
+                isOpen && button('', patch, texts.patchAllTheSame)));
+        this.show(this.step('1', 'now', texts.yourDisc, name, box, this.details(image, judged)));
     }
 
     /**
@@ -210,11 +211,11 @@ export class Player {
         const { image } = this.data;
         const row = (/** @type {string} */ name, /** @type {Child[]} */ ...value) => value.length === 0 || value[0] === '' ? []
             : [element('dt', {}, name), element('dd', {}, ...value)];
-        const size = reader.size === image.size ? `${counted(reader.size)} bytes, as expected`
-            : `${counted(reader.size)} bytes, the author’s has ${counted(image.size)}`;
-        return element('details', {}, element('summary', {}, 'Details'),
-            element('dl', { class: 'hashes' }, ...row('made for', ...hashParts(image.sha1)),
-            ...row('your image', ...hashParts(sha1)), ...row('size', size), ...row('first place', words)));
+        const size = reader.size === image.size ? told(texts.sizeAsExpected, { n: reader.size })
+            : told(texts.sizeNotAuthors, { n: reader.size, wanted: image.size });
+        return element('details', {}, element('summary', {}, texts.detailsOfImage),
+            element('dl', { class: 'hashes' }, ...row(texts.madeFor, ...hashParts(image.sha1)),
+            ...row(texts.yourImage, ...hashParts(sha1)), ...row(texts.sizeOfImage, size), ...row(texts.firstPlace, words)));
     }
 
     /**
@@ -226,8 +227,8 @@ export class Player {
         const { app, data } = this;
         try {
             const saved = await app.runSave((signal, cancel) => {
-                const bar = jobBar('Saving', cancel, { saves: true });
-                this.show(first, this.step('2', 'now', ['Saving ', nameOf(data.name)], ...bar.parts));
+                const bar = jobBar(texts.savingImage, cancel, { saves: true });
+                this.show(first, this.step('2', 'now', say(texts.savingFile, { name: nameOf(data.name) }), ...bar.parts));
                 this.leaving = this.saving = true;
                 this.stop = cancel;
                 const wanted = verdict === 'right' ? data.result : '';
@@ -237,7 +238,7 @@ export class Player {
             this.leaving = saved !== null && !saved.streamed;
             if (saved !== null) return this.saved(saved, verdict, first);
             return this.show(first, this.again(image, { work, verdict }, first,
-                notice('plain', 'No file was chosen.', 'Nothing was saved.')));
+                notice('plain', texts.noFileChosen, texts.nothingWasSaved)));
         } catch (error) {
             clearNotices();
             this.leaving = false;
@@ -255,8 +256,8 @@ export class Player {
      */
     again(image, judged, first, said) {
         const isFit = judged.verdict === 'right' || judged.verdict === 'fits';
-        const again = button(isFit ? 'main big' : '', () => this.patch(image, /** @type {Judged} */ (judged), first), 'Patch and save…');
-        return this.step('2', 'now', 'Patch it', said, again);
+        const again = button(isFit ? 'main big' : '', () => this.patch(image, /** @type {Judged} */ (judged), first), texts.patchAndSave);
+        return this.step('2', 'now', texts.patchIt, said, again);
     }
 
     /**
@@ -266,16 +267,16 @@ export class Player {
      */
     saved({ made, name, size, streamed, sha1 }, verdict, first) {
         const refused = made.outcomes.filter(it => it.result !== RESULT.OK).length;
-        const head = [streamed ? 'Saved: ' : 'Your browser is saving ', nameOf(name)];
-        const same = sha1 !== '' && 'It is exactly the image that the author made: the SHA-1 is the same.';
-        const wait = !streamed && `${counted(Math.ceil(size / 1e6))} MB. Keep this page open until the download is complete.`;
-        const left = refused > 0 && `${countOf(refused, 'change')} left out.`;
-        const unknown = verdict === 'unknown' && 'Nothing has shown whether the patch fits this disc.';
+        const head = say(streamed ? texts.fileSaved : texts.browserIsSaving, { name: nameOf(name) });
+        const same = sha1 !== '' && texts.exactlyAuthorsImage;
+        const wait = !streamed && told(texts.keepPageOpen, { size: Math.ceil(size / 1e6) });
+        const left = refused > 0 && told(texts.changesLeftOut, { n: refused });
+        const unknown = verdict === 'unknown' && texts.nothingShowedFit;
         const tone = refused > 0 || unknown ? 'warn' : 'good';
         const said = element('p', { class: `verdict ${tone}-ink`, role: 'status', id: 'saved' },
             icon(tone === 'good' ? 'tick' : 'warn'), element('span', {}, ...head));
         const rest = [same, wait, left, unknown].map(text => text && element('p', {}, text));
-        this.show(first, this.step('2', 'done', 'Patched', said, ...rest), this.playStep(name, this.sheetFor(name)));
+        this.show(first, this.step('2', 'done', texts.stepPatched, said, ...rest), this.playStep(name, this.sheetFor(name)));
     }
 
     /**
@@ -292,6 +293,6 @@ export class Player {
      * @param {string} sheet
      */
     playStep(name, sheet) {
-        return this.step('3', 'now', 'Play', ...playWords(name, sheet));
+        return this.step('3', 'now', texts.stepPlay, ...playWords(name, sheet));
     }
 }

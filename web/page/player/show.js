@@ -1,6 +1,7 @@
 // A patcher is shown as players see it, in place of the panels, until they open it in the full page.
 
 import { changeBase } from '../open/index.js';
+import * as texts from '../texts/index.js';
 import { button, byId, element, fill, refuseWhileSaving, said, seenTitle, stemOf } from '../ui/index.js';
 import { Player } from './player.js';
 
@@ -18,9 +19,9 @@ export function showPlayer(app, data, how) {
     const place = byId('player');
     const home = /** @type {Text} */ (byId('home').lastChild);
     document.body.classList.add('player');
-    home.data = 'A patcher made with cdpatch';
+    home.data = texts.patcherMadeWith;
     const player = new Player(app, data, how, place);
-    const dropSays = () => ['Drop your disc image: it is checked, and not changed.'];
+    const dropSays = () => [texts.dropToBeChecked];
     const giveBack = app.serve({ open: files => player.open(files), dropSays });
     const refused = said();
     const leave = async (/** @type {boolean} */ full) => {
@@ -43,7 +44,7 @@ export function showPlayer(app, data, how) {
         return player.base !== null && app.image && app.image.base !== player.base ? changeBase(app, player.base) : undefined;
     };
     document.title = seenTitle(data.title);
-    place.append(element('p', { class: 'row center' }, how.back && button('slim', () => void leave(false), 'Back to Publish'),
-        button('slim bare', () => void leave(true), 'Open this in the full cdpatch')), refused);
+    place.append(element('p', { class: 'row center' }, how.back && button('slim', () => void leave(false), texts.backToPublish),
+        button('slim bare', () => void leave(true), texts.openInFullCdpatch)), refused);
     window.scrollTo(0, 0);
 }

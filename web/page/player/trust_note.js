@@ -1,6 +1,8 @@
 // What stands over the steps of a patcher, and under them: what its author writes, its script, and what one can do to be sure.
 
 import { downloadText } from '../save/index.js';
+import * as texts from '../texts/index.js';
+import { told } from '../texts/index.js';
 import { button, element, seenTitle } from '../ui/index.js';
 
 /** @typedef {import('./patcher.js').PatcherData} PatcherData */
@@ -12,22 +14,19 @@ const MOST_SCRIPT_SHOWN = 200000;
  * @param {PatcherData} data
  */
 export function authorsWords({ title, author, note }) {
-    return element('section', { class: 'authors stack tight', 'aria-label': 'What the author writes' },
-        element('p', { class: 'small quiet' }, 'The author writes:'),
+    return element('section', { class: 'authors stack tight', 'aria-label': texts.whatAuthorWrites },
+        element('p', { class: 'small quiet' }, texts.authorWrites),
         element('div', {}, element('h1', { dir: 'auto' }, seenTitle(title)),
-            element('p', { class: 'by', dir: 'auto' }, author === '' ? '' : `by ${seenTitle(author)}`)),
+            element('p', { class: 'by', dir: 'auto' }, author === '' ? '' : told(texts.byAuthor, { author: seenTitle(author) }))),
         note.trim() === '' ? null : element('p', { class: 'author', dir: 'auto' }, note));
 }
 
 /** @param {PatcherData} data */
 export function moreOf({ script }) {
-    const shown = element('pre', { class: 'log', tabindex: 0, 'aria-label': 'The script' }, script.slice(0, MOST_SCRIPT_SHOWN));
-    return element('div', { class: 'stack' }, element('details', { id: 'player-script' }, element('summary', {}, 'Read the script'),
+    const shown = element('pre', { class: 'log', tabindex: 0, 'aria-label': texts.theScriptItself }, script.slice(0, MOST_SCRIPT_SHOWN));
+    return element('div', { class: 'stack' }, element('details', { id: 'player-script' }, element('summary', {}, texts.readTheScript),
         shown,
-        script.length > MOST_SCRIPT_SHOWN && element('p', {}, 'This is only its beginning. Save it to read all.'),
-        button('slim', () => downloadText(script, 'script.txt'), 'Save the script…')),
-    element('details', {}, element('summary', {}, 'Can I trust this file?'), element('p', { class: 'small' },
-        'Anybody can change a page and pass it on, and a page cannot vouch for itself. If you are not sure: get cdpatch.html ' +
-        'from where you trust it, open it, and drop this file on it. It compares the program byte for byte with its own, and ' +
-        'reads only the patch.')));
+        script.length > MOST_SCRIPT_SHOWN && element('p', {}, texts.onlyItsBeginning),
+        button('slim', () => downloadText(script, 'script.txt'), texts.saveTheScript)),
+    element('details', {}, element('summary', {}, texts.canITrustIt), element('p', { class: 'small' }, texts.howToTrustIt)));
 }

@@ -4,7 +4,9 @@ import { sha1Of } from '../app/index.js';
 import { isImageName, isPlainSheet, isSeen, patcherText, publishedSource, showPlayer } from '../player/index.js';
 import { download, sheetNaming } from '../save/index.js';
 import { fitWords } from '../script/index.js';
-import { askBeforeLeaving, button, countOf, element, fill, hashParts, isCancelled, isDisabled, jobBar, nameOf } from '../ui/index.js';
+import * as texts from '../texts/index.js';
+import { say, told } from '../texts/index.js';
+import { askBeforeLeaving, button, element, fill, hashParts, isCancelled, isDisabled, jobBar, nameOf } from '../ui/index.js';
 import { notice, said, sayAt, sentence, setDisabled, stemOf, term } from '../ui/index.js';
 import { proposedName, triedOn } from './trial.js';
 
@@ -15,8 +17,8 @@ import { proposedName, triedOn } from './trial.js';
 /** @typedef {import('./trial.js').Tried} Tried */
 /** @typedef {[('good' | 'bad' | 'warn' | 'quiet'), ...Child[]]} Row */
 
-const NAME_RULE = 'The name of the patched image has to end in .bin, .img or .iso, with at most 120 characters before that, ' +
-    'without hidden ones and without \\ / : * ? " < > |.';
+/** What stands in no name of a file. */
+const SIGNS_OF_PATHS = '\\ / : * ? " < > |';
 /** A browser may send what is typed to a service that checks its spelling. */
 const PRIVATE = { autocomplete: 'off', spellcheck: 'false' };
 
@@ -46,10 +48,10 @@ class PublishPanel {
         this.list = element('div', { class: 'stack tight', role: 'status' });
         this.state = element('div', { class: 'stack' });
         this.said = said();
-        this.save = button('main', () => this.publish(true), 'Save as a patcher…');
-        this.see = button('', () => this.publish(false), 'See it as a player');
+        this.save = button('main', () => this.publish(true), texts.saveAsPatcher);
+        this.see = button('', () => this.publish(false), texts.seeAsPlayer);
         panel.append(element('div', { class: 'two even' }, this.form(), element('div', { class: 'side' }, this.savingCard())));
-        askBeforeLeaving(() => this.edited, 'What you wrote under Publish is in no patcher yet.');
+        askBeforeLeaving(() => this.edited, texts.nothingInPatcherYet);
         app.on('panel', () => this.shown());
         app.on('patcher', data => this.take(data));
         app.on('closed', () => this.take({ title: '', author: '', note: '', name: '', cue: 'offered', carry: false }));
@@ -60,25 +62,22 @@ class PublishPanel {
     form() {
         const row = (/** @type {string} */ label, /** @type {HTMLElement} */ field) => element('div', {},
             element('label', { for: field.id }, label), field);
-        this.cueRow = element('label', { class: 'check' }, this.sheet,
-            element('span', {}, 'Offer a cue sheet that names the patched image'));
+        this.cueRow = element('label', { class: 'check' }, this.sheet, element('span', {}, texts.offerCueSheet));
         this.carryRow = element('label', { class: 'check', hidden: true }, this.carry,
-            element('span', {}, 'Patch damaged sectors too (', term('carry', 'carry'), '), as the patcher that was opened'));
-        return element('section', { class: 'card', 'aria-label': 'A patcher for your players' },
-            element('header', {}, element('h2', {}, 'A patcher for your players')),
-            element('div', { class: 'pad stack' }, row('Title', this.title), row('By', this.author), row('Note for players', this.note),
-                row('Name of the patched image', this.name), this.cueRow, this.carryRow));
+            element('span', {}, ...say(texts.damagedTooAsOpened, { carry: term('carry', 'carry') })));
+        return element('section', { class: 'card', 'aria-label': texts.patcherForPlayers },
+            element('header', {}, element('h2', {}, texts.patcherForPlayers)),
+            element('div', { class: 'pad stack' }, row(texts.patcherTitle, this.title), row(texts.patcherAuthor, this.author),
+                row(texts.noteForPlayers, this.note), row(texts.patchedImageName, this.name), this.cueRow, this.carryRow));
     }
 
     savingCard() {
-        return element('section', { class: 'card', 'aria-label': 'Before you save' },
-            element('header', {}, element('h2', {}, 'Before you save')),
+        return element('section', { class: 'card', 'aria-label': texts.beforeYouSave },
+            element('header', {}, element('h2', {}, texts.beforeYouSave)),
             element('div', { class: 'pad stack' }, this.list, this.state, element('div', { class: 'row' }, this.save, this.see), this.said,
-                element('p', { class: 'small quiet' },
-                    'One .html file with this page, your script and what you wrote here. It holds no image.'),
-                element('p', { class: 'say warn thin', id: 'no-licence' }, element('b', {}, 'No licence has been chosen for cdpatch yet.'),
-                    'Until its owner has chosen one, nobody may pass copies of this page on.'),
-                element('p', { class: 'small quiet' }, 'The script itself can be saved under Script.')));
+                element('p', { class: 'small quiet' }, texts.patcherIsOneFile),
+                element('p', { class: 'say warn thin', id: 'no-licence' }, element('b', {}, texts.noLicenceChosen), texts.noCopiesPassedOn),
+                element('p', { class: 'small quiet' }, texts.scriptSavedElsewhere)));
     }
 
     /** @param {...Child} parts of how far a patcher has come */
@@ -147,19 +146,17 @@ class PublishPanel {
     rows() {
         const { app, tried, fault } = this;
         const { image, survey } = app;
-        if (image === null) return [['bad', 'Open the image that the script is made for.']];
+        if (image === null) return [['bad', texts.openImageOfScript]];
         if (fault !== '') return [['bad', fault]];
-        if (tried === null) return [['quiet', 'Trying the script on your image…']];
-        const title = button('slim bare tiny', () => this.title.focus(), 'Write it');
+        if (tried === null) return [['quiet', texts.tryingOnImage]];
+        const title = button('slim bare tiny', () => this.title.focus(), texts.writeTitle);
+        const was = element('span', { class: 'mono small' }, 'was');
         return [this.fitRow(image, tried),
-            tried.without === 0 ? ['good', 'Each change names the bytes that it replaces.']
-                : ['warn', `${countOf(tried.without, 'change')} without old bytes (`, element('span', { class: 'mono small' }, 'was'),
-                    '): on another dump nothing shows whether ', tried.without === 1 ? 'it fits' : 'they fit', '. Players are told so.'],
+            tried.without === 0 ? ['good', texts.allNameOldBytes] : ['warn', ...say(texts.withoutOldBytes, { n: tried.without, was })],
             soundRow(survey),
-            image.sha1 === '' ? ['quiet', 'Calculating the SHA-1 of your image…']
-                : ['good', 'Players’ images are compared with this SHA-1: ',
-                    element('span', { class: 'mono small' }, ...hashParts(image.sha1))],
-            ...isSeen(this.title.value) ? [] : [/** @type {Row} */ (['bad', 'The title is missing. ', title])],
+            image.sha1 === '' ? ['quiet', texts.calculatingOwnSha1]
+                : ['good', ...say(texts.comparedWithSha1, { sha1: element('span', { class: 'mono small' }, ...hashParts(image.sha1)) })],
+            ...isSeen(this.title.value) ? [] : [/** @type {Row} */ (['bad', texts.titleMissing, ' ', title])],
             ...this.warnings(image, tried),
         ];
     }
@@ -171,9 +168,10 @@ class PublishPanel {
      */
     fitRow({ name }, { patches, refused, first, damaged }) {
         const { head } = fitWords(this.app.script.name, name, patches - refused, patches);
-        const go = first > 0 && button('slim bare tiny', () => this.app.goToLine(first - 1), `Go to line ${first}`);
+        const go = first > 0 && button('slim bare tiny', () => this.app.goToLine(first - 1),
+            told(texts.goToLine, { line: String(first) }));
         return [patches > 0 && refused === 0 ? 'good' : 'bad', ...head, ' ', go,
-            damaged > 0 && ` ${countOf(damaged, 'change')} ${damaged === 1 ? 'is' : 'are'} for a damaged sector: repair the image first.`];
+            damaged > 0 && ` ${told(texts.changesForDamage, { n: damaged })}`];
     }
 
     /**
@@ -184,12 +182,10 @@ class PublishPanel {
     warnings(image, tried) {
         /** @type {[boolean, 'bad' | 'warn', string][]} */
         const all = [
-            [!isImageName(this.name.value.trim()), 'bad', NAME_RULE],
-            [image.sheet !== '' && this.cueOf(image) === '', 'warn',
-                'The cue sheet is not offered: it names files that do not lie beside it.'],
-            [this.carry.checked, 'warn', 'Damaged sectors are patched too, and players are told so.'],
-            [tried.old > 0, 'warn',
-                `The old bytes come from the game (${countOf(tried.old, 'byte')}). Check whether you may publish them.`],
+            [!isImageName(this.name.value.trim()), 'bad', told(texts.patchedNameRule, { signs: SIGNS_OF_PATHS })],
+            [image.sheet !== '' && this.cueOf(image) === '', 'warn', texts.cueSheetNotOffered],
+            [this.carry.checked, 'warn', texts.damagedPatchedToo],
+            [tried.old > 0, 'warn', told(texts.oldBytesFromGame, { n: tried.old })],
         ];
         return all.flatMap(([is, tone, words]) => is ? [[tone, words]] : []);
     }
@@ -203,9 +199,8 @@ class PublishPanel {
         fill(this.said);
         try {
             await app.run(async (signal, cancel) => {
-                const bar = jobBar('Calculating the SHA-1 of the result', cancel);
-                this.say(element('p', {}, 'Calculating the SHA-1 of the patched image, so that players can compare theirs.'),
-                    ...bar.parts);
+                const bar = jobBar(texts.calculatingResultSha1, cancel);
+                this.say(element('p', {}, texts.calculatingForPlayers), ...bar.parts);
                 const result = await sha1Of(app.parts, tried.result, signal, done => bar.at(done, tried.result.size));
                 const data = this.data(image, tried.script, result);
                 this.say();
@@ -214,8 +209,8 @@ class PublishPanel {
             });
         } catch (error) {
             this.say();
-            sayAt(this.said, isCancelled(error) ? notice('plain', 'Cancelled.', 'No patcher was saved.')
-                : notice('bad', sentence(error), 'No patcher was saved.'));
+            sayAt(this.said, isCancelled(error) ? notice('plain', texts.jobCancelled, texts.noPatcherSaved)
+                : notice('bad', sentence(error), texts.noPatcherSaved));
         } finally {
             this.busy = false;
         }
@@ -249,7 +244,7 @@ class PublishPanel {
         const name = `${stemOf(data.title) || 'patcher'}.html`;
         download(new Blob([publishedSource(this.app.calls), await patcherText(this.app.calls, data)], { type: 'text/html' }), name);
         this.edited = false;
-        sayAt(this.said, notice('good', ['Saved: ', nameOf(name)], 'Players open it with a double click, and drop their image there.'));
+        sayAt(this.said, notice('good', say(texts.fileSaved, { name: nameOf(name) }), texts.playersOpenIt));
     }
 }
 
@@ -258,11 +253,10 @@ class PublishPanel {
  * @returns {Row}
  */
 function soundRow(survey) {
-    if (survey === null || !survey.over) return ['quiet', 'Reading your image…'];
-    if (survey.ended === 0) return ['bad', 'Your image was not read to its end. Read it again under Disc.'];
+    if (survey === null || !survey.over) return ['quiet', texts.readingYourImage];
+    if (survey.ended === 0) return ['bad', texts.notReadToEnd];
     const findings = survey.marks.findings();
-    return findings === 0 ? ['good', 'Your image is sound.']
-        : ['warn', `Your image has ${countOf(findings, 'finding')}: players with a sound disc have another SHA-1.`];
+    return findings === 0 ? ['good', texts.yourImageSound] : ['warn', told(texts.yourImageHasFindings, { n: findings })];
 }
 
 /** @type {Record<string, string>} */

@@ -4,8 +4,10 @@ import { FAULT, failedBy } from '../../core/faults.js';
 import { RESULT } from '../../core/module/records.js';
 import { sha1Of, sumsOf } from '../app/index.js';
 import { fileReader, readImage } from '../open/index.js';
-import { askBeforeLeaving, button, countOf, counted, element, fill, hashParts, isCancelled, jobBar, messageOf } from '../ui/index.js';
-import { nameOf, namesOf, notice } from '../ui/index.js';
+import * as texts from '../texts/index.js';
+import { counted, say, told } from '../texts/index.js';
+import { askBeforeLeaving, button, element, fill, hashParts, isCancelled, jobBar, messageOf, nameOf, namesOf } from '../ui/index.js';
+import { notice } from '../ui/index.js';
 import { sheetNaming } from './cue_rewrite.js';
 import { downloadText } from './files_out.js';
 import { saveWork } from './patch_job.js';
@@ -89,9 +91,9 @@ export class SaveCard {
         this.running = true;
         try {
             const saved = await this.app.runSave((signal, cancel) => {
-                const bar = jobBar('Saving', cancel, { saves: true });
-                this.show(['Saving ', nameOf(name)], ...bar.parts, element('p', { class: 'small quiet' },
-                    'After Cancel no image is kept: the browser throws the unfinished file away.'));
+                const bar = jobBar(texts.savingImage, cancel, { saves: true });
+                this.show(say(texts.savingFile, { name: nameOf(name) }), ...bar.parts,
+                    element('p', { class: 'small quiet' }, texts.afterCancel));
                 this.leaving = true;
                 return saveWork(this.app, { ...work, opened: this.app.openFiles() }, name, '', { signal, progress: bar.at });
             });
@@ -100,8 +102,8 @@ export class SaveCard {
             return saved && saved.made;
         } catch (error) {
             this.leaving = false;
-            this.show('Not saved', failureOfSaving(error, work.reader.size),
-                element('div', { class: 'row' }, button('back next', () => this.close(), 'Back')));
+            this.show(texts.imageNotSaved, failureOfSaving(error, work.reader.size),
+                element('div', { class: 'row' }, button('back next', () => this.close(), texts.backFromSaving)));
             return null;
         } finally {
             this.running = false;
@@ -117,25 +119,26 @@ export class SaveCard {
         this.saved = saved;
         this.leaving = !streamed;
         const refused = made.outcomes.filter(it => it.result !== RESULT.OK).length;
-        const without = refused === 0 ? '' : `, without ${refused} of ${countOf(made.outcomes.length, 'change')}`;
+        const what = () => refused === 0 ? nameOf(name)
+            : say(texts.fileWithout, { name: nameOf(name), refused: String(refused), n: made.outcomes.length });
         const tone = refused === 0 ? 'good' : 'warn';
-        this.sayWhole = () => fill(this.said, notice(tone, ['Saved: ', nameOf(name), without], 'All other bytes are as before.'));
+        this.sayWhole = () => fill(this.said, notice(tone, say(texts.fileSaved, { name: what() }), texts.otherBytesAsBefore));
         if (streamed) this.sayWhole();
-        else fill(this.said, notice(tone, ['Your browser is saving ', nameOf(name), without],
-            'Keep this page open until the download is complete.'));
+        else fill(this.said, notice(tone, say(texts.browserIsSaving, { name: what() }), texts.keepPageOpenOnly));
         this.app.noteSaved(image, name);
         const sheet = sheetNaming(image.sheet, image.renamed);
         const sheetName = image.disc.files.length > 1 ? patchedName(image.from) : name.replace(/(\.[^.]*)?$/, '.cue');
         const others = [...image.renamed.values()].filter(it => it !== name);
-        const next = sheet !== '' && element('p', {}, 'Your emulator opens a cue sheet: save one that names the new image, beside it.');
-        fill(this.checked, !streamed && element('p', { class: 'small quiet' }, 'To check what was saved, drop the file on this page.'));
-        this.show(streamed ? 'Saved' : 'Saving by your browser', this.said,
-            element('dl', { class: 'hashes' }, element('dt', {}, 'size'), element('dd', {}, counted(size)), ...this.sumsOf(saved)),
+        const next = sheet !== '' && element('p', {}, texts.emulatorOpensSheet);
+        fill(this.checked, !streamed && element('p', { class: 'small quiet' }, texts.dropToCheck));
+        this.show(streamed ? texts.imageSaved : texts.savingByBrowser, this.said,
+            element('dl', { class: 'hashes' }, element('dt', {}, texts.sizeOfSaved), element('dd', {}, counted(size)),
+                ...this.sumsOf(saved)),
             this.checked, next, sheet !== '' && others.length > 0 && element('p', { class: 'small quiet' },
-                'The cue sheet names files too that you saved before: ', ...namesOf(others)),
-            element('div', { class: 'row' }, sheet !== '' && button('main next', () => downloadText(sheet, sheetName), 'Save a cue sheet…'),
-                file && button('', () => this.openNew(file), 'Open the new image'),
-                button(sheet === '' ? 'next' : '', () => this.close(), 'Back to Check')));
+                ...say(texts.sheetNamesOthers, { names: namesOf(others) })),
+            element('div', { class: 'row' }, sheet !== '' && button('main next', () => downloadText(sheet, sheetName), texts.saveCueSheet),
+                file && button('', () => this.openNew(file), texts.openNewImage),
+                button(sheet === '' ? 'next' : '', () => this.close(), texts.backToCheck)));
     }
 
     /**
@@ -156,11 +159,11 @@ export class SaveCard {
         const [sha1, crc32] = ['saved-sha1', 'saved-crc32'].map(id => element('dd', { id }, '…'));
         const { file } = saved;
         if (file === null) {
-            sha1.textContent = 'not known, for the browser does not read the file again';
+            sha1.textContent = texts.sumNotRead;
             return [element('dt', {}, 'SHA-1'), sha1];
         }
         const sums = sumsOf(this.app, fileReader(file), { aborted: false }, done => {
-            sha1.textContent = `(${Math.floor(100 * done / saved.size)} %)`;
+            sha1.textContent = told(texts.hashPercent, { percent: Math.floor(100 * done / saved.size) });
         });
         this.sum = sums.then(it => it.sha1);
         sums.then(it => {
@@ -168,7 +171,7 @@ export class SaveCard {
             crc32.textContent = it.crc32;
         }, error => {
             sha1.textContent = messageOf(error);
-            crc32.textContent = 'not known';
+            crc32.textContent = texts.hashNotKnown;
         });
         return [element('dt', {}, 'SHA-1'), sha1, element('dt', {}, 'CRC-32'), crc32];
     }
@@ -181,21 +184,22 @@ export class SaveCard {
         const { saved } = this;
         if (saved === null || !this.shown() || file.name.replace(/ ?\(\d+\)(?=\.|$)/, '') !== saved.name) return false;
         const wrong = file.size === saved.size ? ''
-            : `It has ${counted(file.size)} bytes and not ${counted(saved.size)}: it was not saved to its end.`;
+            : told(texts.notSavedToEnd, { size: file.size, wanted: saved.size });
         const sha1 = wrong ? '' : await sha1Of(this.app.parts, fileReader(file), { aborted: false }, () => {});
         const right = sha1 !== '' && sha1 === await this.sum;
         if (this.saved !== saved) return true;
         const open = button('slim', () => {
             this.close();
             this.app.open([file]);
-        }, 'Open it');
-        fill(this.checked, right ? notice('good', ['Right: ', nameOf(file.name)], 'Its size and SHA-1 are those of the patched image.',
-            element('div', { class: 'row' }, open))
-            : notice('bad', ['Not what it should be: ', nameOf(file.name)], wrong || 'Its SHA-1 does not match. Save it again.'));
+        }, texts.openSavedFile);
+        const name = nameOf(file.name);
+        fill(this.checked, right
+            ? notice('good', say(texts.savedFileRight, { name }), texts.sumsMatch, element('div', { class: 'row' }, open))
+            : notice('bad', say(texts.savedFileWrong, { name }), wrong || texts.sumDiffersSaveAgain));
         this.leaving = this.leaving && !right;
         if (right) {
             this.sayWhole();
-            this.title = ['Saved'];
+            this.title = [texts.imageSaved];
             this.drawTitle();
         }
         return true;
@@ -208,12 +212,12 @@ export class SaveCard {
  * @param {number} size
  */
 export function failureOfSaving(error, size) {
-    if (isCancelled(error)) return notice('plain', 'Cancelled.', 'No image was kept.');
+    if (isCancelled(error)) return notice('plain', texts.jobCancelled, texts.noImageKept);
     if (failedBy(error, FAULT.UNWRITTEN)) {
         const { full, done = 0 } = error.facts;
         const percent = size === 0 ? 0 : Math.floor(100 * done / size);
-        return notice('bad', full ? `The disk is full at ${percent} %.` : `Writing failed at ${percent} %: ${messageOf(error)}`,
-            'No image was kept.');
+        return notice('bad', full ? told(texts.diskIsFull, { percent }) : told(texts.writingFailed, { percent, why: messageOf(error) }),
+            texts.noImageKept);
     }
-    return notice('bad', messageOf(error), adviceOf(error, 'No image was kept.'));
+    return notice('bad', messageOf(error), adviceOf(error, texts.noImageKept));
 }

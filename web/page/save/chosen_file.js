@@ -1,6 +1,8 @@
 // The file that a user chooses to be written: none of those that are open.
 
 import { fileOf, isSameFile } from '../open/index.js';
+import * as texts from '../texts/index.js';
+import { told } from '../texts/index.js';
 import { shownName } from '../ui/index.js';
 import { chosenFile } from './files_out.js';
 import { workRefused } from './refused.js';
@@ -26,7 +28,7 @@ export async function chosenOther(name, readers, opened) {
     const alike = own && sameName(own, chosen) ? [] : opened.filter(it => sameName(it, chosen));
     if (alike.length === 0) return chosen;
     if (before.size === 0 && chosen.remove && alike.every(it => it.size > 0)) await chosen.remove().catch(() => {});
-    throw workRefused(`Another open file has this name: ${shownName(chosen.name)}`, 'Nothing was saved. Choose another name.');
+    throw workRefused(told(texts.openFileHasName, { name: shownName(chosen.name) }), texts.nothingSavedChooseName);
 }
 
 /**
@@ -45,7 +47,6 @@ function sameName(one, other) {
 function assertOther(chosen, reader) {
     const own = fileOf(reader);
     if (own && isSameFile(chosen, own)) {
-        throw workRefused(`This is the open image itself: ${shownName(own.name)}`,
-            'cdpatch never writes over it. Choose another name.');
+        throw workRefused(told(texts.isOpenImage, { name: shownName(own.name) }), texts.neverWrittenOver);
     }
 }

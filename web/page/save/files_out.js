@@ -1,6 +1,7 @@
 // Giving files to the user: as a stream to a file that he chooses, if the browser can, else as a download.
 
 import { Fault } from '../../core/faults.js';
+import * as texts from '../texts/index.js';
 import { element } from '../ui/index.js';
 
 /** @typedef {import('./save.js').Sink} Sink */
@@ -41,7 +42,7 @@ export async function chosenFile(name) {
     } catch (error) {
         const kind = error instanceof DOMException ? error.name : '';
         if (kind === 'AbortError') return null;
-        throw kind === 'SecurityError' ? new Fault('The browser asks for a file only after a fresh click. Press the button again.') : error;
+        throw kind === 'SecurityError' ? new Fault(texts.asksAfterClick) : error;
     }
 }
 

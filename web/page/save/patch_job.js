@@ -2,14 +2,17 @@
 
 import { watchedReader } from '../../core/bytes.js';
 import { Fault, cancelled } from '../../core/faults.js';
-import { MOST_SCRIPT_BYTES } from '../../core/module/records.js';
+import { MOST_SCRIPT_BYTES, STATUS } from '../../core/module/records.js';
+import { ReadAhead } from '../../core/read_ahead.js';
 import { baseFault } from '../../core/script/base_said.js';
 import { NEAR_HELD, NEAR_WRITTEN } from '../../core/script/patch_run.js';
 import { passPatched } from '../../core/script/patches.js';
 import { Refusal, readScript } from '../../core/script/script.js';
 import { MOST_SECTORS, imageTooLong } from '../../core/sectors/sector.js';
 import { RunningHash } from '../app/index.js';
-import { capital, counted } from '../ui/index.js';
+import * as texts from '../texts/index.js';
+import { told } from '../texts/index.js';
+import { capital } from '../ui/index.js';
 import { canStream } from './files_out.js';
 import { saveImage } from './pieces.js';
 import { workRefused } from './refused.js';
@@ -38,17 +41,17 @@ export async function scriptFor({ calls }, script, base) {
     if (!(read instanceof Refusal)) {
         const fault = baseFault(read.bases, base);
         if (fault === '') return read;
-        throw workRefused(`${capital(fault)}.`, 'Set the base that the script says, or take that line out.');
+        throw workRefused(`${capital(fault)}.`, texts.setSaidBase);
     }
     if (read.tooLong) {
-        throw workRefused('The script is too long.', `A script has at most ${counted(MOST_SCRIPT_BYTES)} bytes. Cut it into two.`);
+        throw workRefused(texts.scriptTooLong, told(texts.mostScriptBytes, { most: MOST_SCRIPT_BYTES }));
     }
-    throw workRefused(new TextDecoder().decode(read.text).trimEnd(), 'Nothing was done. Correct the line first.');
+    throw workRefused(new TextDecoder().decode(read.text).trimEnd(), texts.correctLineFirst);
 }
 
 /** @param {Reader} reader of an image */
 export function assertNotTooLong({ size }) {
-    if (imageTooLong(size)) throw workRefused('The image is too long.', `An image has at most ${counted(MOST_SECTORS)} sectors.`);
+    if (imageTooLong(size)) throw workRefused(texts.imageTooLong, told(texts.mostSectors, { most: MOST_SECTORS }));
 }
 
 /**
@@ -75,6 +78,23 @@ export async function checkWork(app, { reader, base, script, carry }, watch) {
     const read = await scriptFor(app, script, base);
     assertNotTooLong(reader);
     return passPatched(app.calls, watched(reader, watch), read, { base, carry });
+}
+
+/**
+ * Whether the script, without the old bytes that it asks for, would change nothing in the image.
+ * @param {App} app
+ * @param {Pick<PatchWork, 'reader' | 'base' | 'script'>} work
+ */
+export async function isPatched(app, { reader, base, script }) {
+    let same = true;
+    const ahead = new ReadAhead(reader);
+    const how = { base, carry: true, withoutOld: true };
+    const made = await passPatched(app.calls, reader, await scriptFor(app, script, base), how, async piece => {
+        if (!('bytes' in piece) || !same) return;
+        const there = await ahead.bytesAt(piece.at, piece.bytes.length);
+        same = there.every((byte, i) => byte === piece.bytes[i]);
+    });
+    return same && made.status === STATUS.DONE && made.outcomes.length > 0;
 }
 
 /**
@@ -116,7 +136,7 @@ function comparing(hash, wanted) {
         seen: (/** @type {Uint8Array} */ bytes) => hash.add(bytes.slice()),
         async accept() {
             if (await hash.end() === wanted) return;
-            throw new Fault('The patched image is not the one that the author made: its SHA-1 does not match.');
+            throw new Fault(texts.notTheAuthorsImage);
         },
     };
 }

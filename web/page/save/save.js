@@ -3,6 +3,7 @@
 import { forwardOf, readBytes } from '../../core/bytes.js';
 import { FAULT, Fault, cancelled } from '../../core/faults.js';
 import { fileOf } from '../open/index.js';
+import * as texts from '../texts/index.js';
 import { nextTurn } from '../ui/index.js';
 import { asDownloaded } from './files_out.js';
 import { RegionCutter, bytesOfRegion, dataOfRegion } from './regions.js';
@@ -135,7 +136,7 @@ export async function blobOfPieces(file, pieces) {
  * @param {string} [what]
  * @param {string} [ending] instead of its own
  */
-export function patchedName(name, what = 'patched', ending = '') {
+export function patchedName(name, what = texts.patchedInName, ending = '') {
     const [, stem, own] = /^(.*?)(\.[^.]*)?$/.exec(name) || ['', name, ''];
     return `${stem} (${what})${ending || own || '.bin'}`;
 }

@@ -1,9 +1,10 @@
 // The card beside the editor: Check, what came of it, carry, and Apply and save.
 
 import { RESULT } from '../../core/module/records.js';
-import { SaveCard, adviceOf, checkWork } from '../save/index.js';
-import { announce, button, countOf, counted, element, fill, isCancelled, jobBar, messageOf, nameOf, notice } from '../ui/index.js';
-import { setDisabled, term } from '../ui/index.js';
+import { SaveCard, adviceOf, checkWork, isPatched } from '../save/index.js';
+import * as texts from '../texts/index.js';
+import { say, told } from '../texts/index.js';
+import { announce, button, element, fill, isCancelled, jobBar, messageOf, nameOf, notice, setDisabled, term } from '../ui/index.js';
 import { fitWords } from './fit_words.js';
 
 /** @typedef {import('../app/state.js').App} App */
@@ -18,7 +19,7 @@ import { fitWords } from './fit_words.js';
 
 const MOST_NAMED = 12;
 
-/** The card. `patched` is what Check said, null if that is old. */
+/** The card. `patched` is what Check said, null if that is old; and `already`, that the image holds all that the script writes. */
 export class CheckCard {
     /**
      * @param {App} app
@@ -28,6 +29,7 @@ export class CheckCard {
         this.app = app;
         this.owner = owner;
         this.patched = /** @type {Patched | null} */ (null);
+        this.already = false;
         this.seconds = 0;
         this.busy = false;
         /** The check that runs, or has run last, and what ends it. */
@@ -35,11 +37,12 @@ export class CheckCard {
         this.cancel = () => {};
         this.failure = /** @type {Child} */ (null);
         this.body = element('div', { class: 'pad stack' });
-        this.head = element('header', {}, element('h2', {}, 'Check'));
-        this.card = element('section', { class: 'card', 'aria-label': 'Check' }, this.head, this.body);
+        this.head = element('header', {}, element('h2', {}, texts.checkScript));
+        this.card = element('section', { class: 'card', 'aria-label': texts.checkScript }, this.head, this.body);
         this.carry = element('input', { type: 'checkbox', change: () => this.forget() });
-        this.carryRow = element('label', { class: 'check' }, this.carry, element('span', {}, 'Patch damaged sectors too (',
-            term('carry', 'carry'), ')', element('br'), element('span', { class: 'small quiet' }, 'They stay marked as damaged.')));
+        this.carryRow = element('label', { class: 'check' }, this.carry, element('span', {},
+            ...say(texts.patchDamagedToo, { carry: term('carry', 'carry') }), element('br'),
+            element('span', { class: 'small quiet' }, texts.theyStayDamaged)));
         this.saving = new SaveCard(app, () => this.draw());
     }
 
@@ -47,6 +50,7 @@ export class CheckCard {
     outdate() {
         this.cancel();
         this.patched = null;
+        this.already = false;
         this.failure = null;
         this.saving.leave();
     }
@@ -67,16 +71,17 @@ export class CheckCard {
     drawCard() {
         if (this.saving.shown()) return fill(this.card, ...this.saving.parts());
         const { lines } = this.owner;
-        const took = this.patched !== null && this.seconds >= 0.05 && element('span', { class: 'tag' }, `${this.seconds.toFixed(1)} s`);
-        fill(this.head, element('h2', {}, 'Check'), took);
+        const took = this.patched !== null && this.seconds >= 0.05
+            && element('span', { class: 'tag' }, told(texts.inSeconds, { seconds: this.seconds.toFixed(1) }));
+        fill(this.head, element('h2', {}, texts.checkScript), took);
         fill(this.card, this.head, this.body);
         if (this.app.image === null) return fill(this.body, lines.faults > 0 && this.faults(),
-            element('p', {}, 'Open the image that this script patches.'),
-            element('div', { class: 'row' }, button('main', () => this.app.choose('play'), 'Open the image…')));
+            element('p', {}, texts.openPatchedImage),
+            element('div', { class: 'row' }, button('main', () => this.app.choose('play'), texts.openTheImage)));
         const ready = lines.faults === 0 && lines.head >= 0;
-        const check = button(this.patched ? '' : 'main', () => this.check(), this.patched ? 'Check again' : 'Check');
+        const check = button(this.patched ? '' : 'main', () => this.check(), this.patched ? texts.checkAgain : texts.checkScript);
         const fits = this.patched !== null && this.patched.outcomes.some(it => it.result === RESULT.OK);
-        const apply = button(fits ? 'main' : '', () => this.apply(), 'Apply and save…');
+        const apply = button(fits ? 'main' : '', () => this.apply(), texts.applyAndSave);
         for (const it of [check, apply]) setDisabled(it, !ready);
         const said = lines.faults > 0 ? [this.faults()] : this.outcomes(apply);
         const row = element('div', { class: 'row' }, check, !this.patched && apply);
@@ -88,13 +93,11 @@ export class CheckCard {
         /** @type {number[]} */
         const wrong = [];
         for (let i = lines.nextWrong(-1, 1); wrong.length < Math.min(MOST_NAMED, lines.faults); i = lines.nextWrong(i, 1)) wrong.push(i);
-        const named = wrong.map(i => String(i + 1));
-        const more = lines.faults - named.length;
-        const list = more > 0 ? `${named.join(', ')} and ${counted(more)} more` : named.join(', ').replace(/, (\d+)$/, ' and $1');
-        const one = lines.faults === 1;
-        return notice('bad', one ? 'A line has a fault' : `${counted(lines.faults)} lines have a fault`,
-            `A script with a fault is not applied at all. The ${one ? 'line is' : 'lines are'} ${list}.`,
-            element('div', { class: 'row' }, button('slim', () => goTo(wrong[0]), `Go to line ${wrong[0] + 1}`)));
+        const [named, more] = [wrong.map(i => String(i + 1)), lines.faults - wrong.length];
+        const list = new Intl.ListFormat(texts.LANGUAGE).format(more > 0 ? [...named, told(texts.moreLines, { n: more })] : named);
+        const parts = { n: lines.faults, lines: list };
+        return notice('bad', told(texts.linesHaveFault, parts), `${texts.notAppliedAtAll} ${told(texts.faultyLines, parts)}`,
+            element('div', { class: 'row' }, button('slim', () => goTo(wrong[0]), told(texts.goToLine, { line: named[0] }))));
     }
 
     /**
@@ -104,22 +107,22 @@ export class CheckCard {
     outcomes(apply) {
         const { lines } = this.owner;
         if (this.patched === null) {
-            if (lines.patches === 0 && !lines.long) return [element('p', {}, 'The script has no change yet.')];
-            const what = lines.long ? 'its changes' : lines.patches === 1 ? 'its change' : `its ${counted(lines.patches)} changes`;
-            return [element('p', {}, `Check tries ${what} on this image, and writes nothing.`)];
+            if (lines.patches === 0 && !lines.long) return [element('p', {}, texts.noChangeYet)];
+            return [element('p', {}, lines.long ? texts.checkTriesAll : told(texts.checkTries, { n: lines.patches }))];
         }
         const { outcomes } = this.patched;
         const applied = outcomes.filter(it => it.result === RESULT.OK).length;
         const refused = outcomes.length - applied;
-        const tally = (/** @type {string} */ tone, /** @type {number} */ count, /** @type {string} */ word) =>
-            element('div', { class: tone }, element('b', {}, counted(count)), word);
+        const tally = (/** @type {string} */ looks, /** @type {Child[]} */ [before, count, after]) =>
+            element('div', { class: looks }, before, element('b', {}, count), after);
         const first = lines.nextWrong(lines.lines.length - 1, 1);
         const { tone, head, rest } = this.fit(this.patched);
-        return [notice(tone, head, rest, element('div', { class: 'row' }, apply)),
-            refused > 0 && element('div', { class: 'tally' }, applied > 0 && tally('good-ink', applied, applied === 1 ? 'fits' : 'fit'),
-                tally('bad-ink', refused, refused === 1 ? 'does not fit' : 'do not fit')),
+        if (this.already) return [notice(tone, head, ...rest)];
+        return [notice(tone, head, ...rest, element('div', { class: 'row' }, apply)),
+            refused > 0 && element('div', { class: 'tally' }, applied > 0 && tally('good-ink', say(texts.countFits, { n: applied })),
+                tally('bad-ink', say(texts.countDoesNotFit, { n: refused }))),
             first >= 0 && element('div', { class: 'row next' },
-                button('slim', () => this.owner.goTo(first), `Go to line ${first + 1}`))];
+                button('slim', () => this.owner.goTo(first), told(texts.goToLine, { line: String(first + 1) })))];
     }
 
     /**
@@ -127,13 +130,13 @@ export class CheckCard {
      * @returns {Child[]}
      */
     footnote(ready) {
-        if (!ready) return ['Fix the errors to continue.'];
+        if (!ready) return [texts.fixErrors];
+        if (this.already) return [];
         const outcomes = this.patched ? this.patched.outcomes : [];
         const applied = outcomes.filter(it => it.result === RESULT.OK).length;
         const name = this.app.image ? this.app.image.name : '';
-        const fitting = applied === outcomes.length ? '' : ` with the ${countOf(applied, 'change that fits', 'changes that fit')}`;
-        return [`Saves a new image${fitting}. `, element('b', {}, nameOf(name)),
-            ' stays as it is.'];
+        const saves = applied === outcomes.length ? texts.savesNewImage : told(texts.savesWhatFits, { n: applied });
+        return [`${saves} `, ...say(texts.staysAsItIs, { name: element('b', {}, nameOf(name)) })];
     }
 
     /** Whether the script can be checked and saved: it has no fault, and neither is done already. */
@@ -148,7 +151,7 @@ export class CheckCard {
      */
     fit({ outcomes }) {
         const fitting = outcomes.filter(it => it.result === RESULT.OK).length;
-        return fitWords(this.owner.lines.name, this.app.image ? this.app.image.name : '', fitting, outcomes.length);
+        return fitWords(this.owner.lines.name, this.app.image ? this.app.image.name : '', fitting, outcomes.length, this.already);
     }
 
     /** Checks the script on the image. */
@@ -174,11 +177,14 @@ export class CheckCard {
         try {
             await this.app.runOnImage(async (signal, cancel) => {
                 this.cancel = cancel;
-                const bar = jobBar('Checking', cancel);
+                const bar = jobBar(texts.checkingScript, cancel);
                 fill(this.body, ...bar.parts);
                 const work = { reader: image.reader, base: image.base, script: lines.text(), carry: this.carry.checked };
                 const patched = await checkWork(this.app, work, { signal, progress: bar.at });
-                if (this.app.image === image && work.script === lines.text()) this.take(patched, (performance.now() - began) / 1000);
+                const already = patched.outcomes.some(it => it.result !== RESULT.OK) && await isPatched(this.app, work);
+                if (this.app.image !== image || work.script !== lines.text()) return;
+                this.already = already;
+                this.take(patched, (performance.now() - began) / 1000);
             });
         } catch (error) {
             this.failure = isCancelled(error) ? null : failureOf(error);
@@ -200,7 +206,7 @@ export class CheckCard {
         this.owner.log(patched.text);
         this.owner.redraw();
         const { head, rest } = this.fit(patched);
-        announce(`${element('p', {}, ...head).textContent} ${rest}`.trim());
+        announce(`${element('p', {}, ...head, ' ', ...rest).textContent}`.trim());
     }
 
     /** Saves the patched image. */
@@ -220,5 +226,5 @@ export class CheckCard {
  * @param {unknown} error
  */
 function failureOf(error) {
-    return notice('bad', messageOf(error), adviceOf(error, 'Nothing was saved. Open it again.'));
+    return notice('bad', messageOf(error), adviceOf(error, texts.nothingSavedOpenAgain));
 }

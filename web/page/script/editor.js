@@ -2,6 +2,8 @@
 // caret is the only one that can be typed in.
 
 import { VERB } from '../../core/module/records.js';
+import * as texts from '../texts/index.js';
+import { told } from '../texts/index.js';
 import { element } from '../ui/index.js';
 import { chosenHelps } from './helps.js';
 import { colored } from './line_parts.js';
@@ -188,7 +190,8 @@ export class ScriptEditor {
         const wrong = this.lines.isWrong(i);
         const words = this.lines.wordsAt(i);
         if (this.area.value !== text) this.area.value = text;
-        this.area.setAttribute('aria-label', `Script, line ${i + 1} of ${this.lines.lines.length}${words ? `: ${words}` : ''}`);
+        const where = told(texts.lineOfScript, { line: String(i + 1), all: String(this.lines.lines.length) });
+        this.area.setAttribute('aria-label', words ? told(texts.lineSays, { where, words }) : where);
         this.now.className = `now${wrong ? ' bad' : ''}${this.isChosen(i) ? ' chosen' : ''}`;
         if (this.area.parentNode === null) this.now.append(element('span', { class: 'src' }, this.area));
         const source = /** @type {Element} */ (this.area.parentNode);

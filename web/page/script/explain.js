@@ -4,14 +4,20 @@ import { filesAt } from '../../core/iso/files.js';
 import { CONTENT, isFault } from '../../core/module/records.js';
 import { wordsOf } from '../../core/script/line_words.js';
 import { chosenEncoding } from '../text/index.js';
+import * as texts from '../texts/index.js';
+import { say, told } from '../texts/index.js';
 import { element, fill, shownPaths, shownText, term } from '../ui/index.js';
-import { HEAD_IN_WORDS, helpOfFault, patchInWords } from './plain_words.js';
+import { helpOfFault, patchInWords } from './plain_words.js';
 
 /** @typedef {import('../app/state.js').App} App */
 /** @typedef {import('../app/script_lines.js').ScriptLines} ScriptLines */
 /** @typedef {import('../ui/fill.js').Child} Child */
 
 const MOST_BYTES_SHOWN = 400;
+const EXAMPLE = 'set 4711 26 5374617274 was 8358835E81';
+
+/** @type {Record<string, string>} words of texts that open their notes */
+const NOTED = { block: texts.blockWord, offset: texts.offsetWord };
 
 /**
  * Fills the strip.
@@ -21,7 +27,7 @@ const MOST_BYTES_SHOWN = 400;
  * @param {Element} strip
  */
 export function explainLine(app, lines, i, strip) {
-    fill(strip, element('b', {}, `Line ${i + 1}: `), ...meaningOf(app, lines, i));
+    fill(strip, element('b', {}, `${told(texts.lineMeans, { line: String(i + 1) })} `), ...meaningOf(app, lines, i));
 }
 
 /**
@@ -33,24 +39,25 @@ export function explainLine(app, lines, i, strip) {
 function meaningOf(app, lines, i) {
     const { content, text } = lines.lines[i];
     if (isFault(content)) return withTerms(helpOfFault(lines, i).text);
-    if (content === CONTENT.NOTHING) return [wordsOf(text).length === 0 ? 'an empty line.' : 'a comment. It changes nothing.'];
+    if (content === CONTENT.NOTHING) return [wordsOf(text).length === 0 ? texts.emptyLine : texts.commentLine];
     const patch = lines.patchAt(i);
     if (patch === null) {
-        return [`${HEAD_IN_WORDS} `, element('span', { class: 'mono' }, 'set 4711 26 5374617274 was 8358835E81'), element('br'),
-            ...withTerms('which writes 5 bytes at [offset] 26 of [block] 4711, if the old ones are there.')];
+        const example = element('span', { class: 'mono' }, EXAMPLE);
+        return [...say(texts.headMeans, { example }), element('br'), ...withTerms(texts.exampleMeans)];
     }
     const files = app.files ? filesAt(app.files.files, patch.block, patch.offset) : [];
-    return [...withTerms(patchInWords(patch, shownPaths(files, ' and '))),
-        lines.isWrong(i) && element('b', { class: 'bad-ink' }, ` It ${lines.wordsAt(i)}.`), pairOf(app, patch)];
+    return [...withTerms(patchInWords(patch, shownPaths(files, texts.andAnotherFile))),
+        lines.isWrong(i) && element('b', { class: 'bad-ink' }, ` ${told(texts.patchIsRefused, { words: lines.wordsAt(i) })}`),
+        pairOf(app, patch)];
 }
 
 /**
- * A text in which words in brackets open their notes.
+ * A text in which [block] and [offset] are words that open their notes.
  * @param {string} text
  * @returns {Child[]}
  */
 function withTerms(text) {
-    return text.split(/\[(\w+)\]/).map((part, k) => k % 2 === 1 ? term(part, part) : part);
+    return text.split(/\[(block|offset)\]/).map((part, k) => k % 2 === 1 ? term(part, NOTED[part]) : part);
 }
 
 /**
@@ -63,5 +70,5 @@ function pairOf(app, { fresh, old }) {
     const encoding = chosenEncoding(app);
     const row = (/** @type {string} */ name, /** @type {Uint8Array} */ bytes) => [element('span', { class: 'quiet' }, name),
         element('span', { class: 'mono' }, shownText(encoding.text(bytes.subarray(0, MOST_BYTES_SHOWN))))];
-    return element('div', { class: 'pair' }, ...row('new', fresh), ...old ? row('old', old) : []);
+    return element('div', { class: 'pair' }, ...row(texts.newTextShort, fresh), ...old ? row(texts.oldText, old) : []);
 }

@@ -1,6 +1,8 @@
 // How a script fits an image, in words.
 
-import { countOf, counted, nameOf } from '../ui/index.js';
+import * as texts from '../texts/index.js';
+import { say } from '../texts/index.js';
+import { nameOf } from '../ui/index.js';
 
 /** @typedef {import('../ui/fill.js').Child} Child */
 /** @typedef {import('../ui/notices.js').Tone} Tone */
@@ -11,18 +13,15 @@ import { countOf, counted, nameOf } from '../ui/index.js';
  * @param {string} image its name
  * @param {number} fitting how many of its patches fit
  * @param {number} all how many it has
- * @returns {{ tone: Tone, head: Child[], rest: string }}
+ * @param {boolean} [already] whether the image holds already what all of them write
+ * @returns {{ tone: Tone, head: Child[], rest: Child[] }}
  */
-export function fitWords(name, image, fitting, all) {
-    const [script, disc, left] = [name === '' ? 'The script' : nameOf(name), nameOf(image), all - fitting];
-    if (all === 0) return { tone: 'plain', head: [script, ' has no change.'], rest: 'The saved image would be a copy.' };
-    const changes = countOf(all, 'change');
-    if (left === 0) return { tone: 'good', head: [script, `: ${changes}, ${all === 1 ? 'which fits' : 'all fit'} `, disc, '.'], rest: '' };
-    if (fitting === 0) {
-        return { tone: 'bad', head: [script, `: ${all === 1 ? '1 change, which does' : `${changes}, which do`} not fit `, disc, '.'],
-            rest: 'Another release, another disc, or another base?' };
-    }
-    const others = `, ${counted(left)} ${left === 1 ? 'does' : 'do'} not.`;
-    return { tone: 'warn', head: [script, `: ${counted(fitting)} of ${changes} fit `, disc, others],
-        rest: left === 1 ? 'That one would be left out.' : 'Those would be left out.' };
+export function fitWords(name, image, fitting, all, already = false) {
+    const [parts, left] = [{ script: name === '' ? texts.theScript : nameOf(name), image: nameOf(image) }, all - fitting];
+    if (all === 0) return { tone: 'plain', head: say(texts.hasNoChange, parts), rest: [texts.wouldBeCopy] };
+    if (already) return { tone: 'good', head: say(texts.isPatchedAlready, parts), rest: say(texts.changesStandThere, { ...parts, n: all }) };
+    if (left === 0) return { tone: 'good', head: say(texts.allChangesFit, { ...parts, n: all }), rest: [] };
+    if (fitting === 0) return { tone: 'bad', head: say(texts.noChangeFits, { ...parts, n: all }), rest: [texts.anotherRelease] };
+    return { tone: 'warn', head: say(texts.someChangesFit, { ...parts, fitting, all, n: left }),
+        rest: [left === 1 ? texts.thatOneLeftOut : texts.thoseLeftOut] };
 }

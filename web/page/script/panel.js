@@ -3,7 +3,9 @@
 import { LONG } from '../app/index.js';
 import { downloadText } from '../save/index.js';
 import { chosenEncoding } from '../text/index.js';
-import { askBeforeLeaving, button, byId, clearNotices, copyButton, countOf, counted, element, fill, keyed, nameOf } from '../ui/index.js';
+import * as texts from '../texts/index.js';
+import { say, told } from '../texts/index.js';
+import { askBeforeLeaving, button, byId, clearNotices, copyButton, element, fill, keyed, nameOf } from '../ui/index.js';
 import { notice, said, setDisabled, showNotice } from '../ui/index.js';
 import { CheckCard } from './check_card.js';
 import { ScriptEditor } from './editor.js';
@@ -52,14 +54,13 @@ class ScriptPanel {
         this.unshown = element('div');
         this.undoing = { bar: element('div', { class: 'pad stack' }), said: said('pad') };
         this.head = element('header', {});
-        this.log = element('section', { class: 'card', 'aria-label': 'Log', hidden: true });
+        this.log = element('section', { class: 'card', 'aria-label': texts.logOfCheck, hidden: true });
         this.side = element('div', { class: 'side' });
-        this.opening = element('input', { type: 'file', class: 'hide', tabindex: -1, 'aria-label': 'A script to open',
+        this.opening = element('input', { type: 'file', class: 'hide', tabindex: -1, 'aria-label': texts.scriptToOpen,
             change: () => this.open() });
         listenToEditor(this.editor);
-        panel.append(element('div', { class: 'two script' }, element('section', { class: 'card', 'aria-label': 'Script' }, this.head,
-            this.undoing.bar, this.undoing.said, this.unshown, this.editor.box, this.strip),
-            this.side), this.opening);
+        panel.append(element('div', { class: 'two script' }, element('section', { class: 'card', 'aria-label': texts.scriptCard },
+            this.head, this.undoing.bar, this.undoing.said, this.unshown, this.editor.box, this.strip), this.side), this.opening);
         panel.addEventListener('keydown', event => this.pressed(event));
         this.load(null);
         this.listen();
@@ -67,7 +68,7 @@ class ScriptPanel {
 
     listen() {
         const { app } = this;
-        askBeforeLeaving(() => this.isLost(), 'Your script is not saved.');
+        askBeforeLeaving(() => this.isLost(), texts.scriptIsNotSaved);
         app.serve({ takeBackBytes: () => takeBackBytes(this.editor), saveScript: () => this.save() });
         app.on('line', line => this.goTo(line));
         app.on('check', () => void this.check.checkAtOnce());
@@ -113,8 +114,7 @@ class ScriptPanel {
             this.load(null);
             turnBack(this.editor, line);
         };
-        showNotice('warn', 'This script replaced yours, which was not saved.', element('div', { class: 'row' },
-            button('slim', back, 'Bring it back')));
+        showNotice('warn', texts.scriptReplacedYours, element('div', { class: 'row' }, button('slim', back, texts.bringItBack)));
     }
 
     changed() {
@@ -129,7 +129,7 @@ class ScriptPanel {
         this.isOld = false;
         const { long } = this.lines;
         this.editor.box.hidden = this.strip.hidden = long !== null;
-        fill(this.unshown, long && notice('plain', 'This script is too long: its lines are not shown.', LONG));
+        fill(this.unshown, long && notice('plain', texts.linesNotShown, LONG));
         this.editor.draw();
         this.drawSide();
         this.explain();
@@ -139,22 +139,27 @@ class ScriptPanel {
         const { lines, app } = this;
         const { name } = lines;
         const fault = lines.faults > 0;
-        const tag = fault ? countOf(lines.faults, 'fault') : lines.long ? countOf(lines.long.text.length, 'character')
-            : `${countOf(lines.patches, 'patch', 'patches')}${lines.version ? `, version ${lines.version}` : ''}`;
-        const undo = button('slim bare', () => void makeUndo(app, undo, this.undoing, lines, this.check.carry.checked),
-            'Undo script…');
+        const undo = button('slim bare', () => void makeUndo(app, undo, this.undoing, lines, this.check.carry.checked), texts.undoScript);
         setDisabled(undo, fault || app.image === null || (lines.patches === 0 && !lines.long));
-        fill(this.head, element('h2', { class: name ? 'mono' : '' }, name ? nameOf(name) : 'New script'),
-            element('span', { class: `tag${fault ? ' bad' : ''}` }, tag),
-            this.isLost() && element('span', { class: 'tag warn' }, 'not saved'),
-            button('slim bare', () => this.opening.click(), 'Open…'),
-            keyed('save', button('slim bare', () => this.save(), 'Save script…')), undo);
+        fill(this.head, element('h2', { class: name ? 'mono' : '' }, name ? nameOf(name) : texts.newScript),
+            element('span', { class: `tag${fault ? ' bad' : ''}` }, this.amount()),
+            this.isLost() && element('span', { class: 'tag warn' }, texts.scriptNotSaved),
+            button('slim bare', () => this.opening.click(), texts.openOther),
+            keyed('save', button('slim bare', () => this.save(), texts.saveScript)), undo);
         const count = byId('count-script');
         count.hidden = !fault && lines.patches === 0;
         count.className = `count${fault ? ' bad' : ''}`;
-        fill(count, counted(fault ? lines.faults : lines.patches), fault
-            ? element('span', { class: 'long' }, lines.faults === 1 ? ' fault' : ' faults')
-            : element('span', { class: 'hide' }, lines.patches === 1 ? ' patch' : ' patches'));
+        const [before, n, after] = say(fault ? texts.faultsOfScript : texts.patchesOfScript, { n: lines.faults || lines.patches });
+        fill(count, before, n, element('span', { class: fault ? 'long' : 'hide' }, after));
+    }
+
+    /** How many faults the script has, or how long it is. */
+    amount() {
+        const { faults, long, patches, version } = this.lines;
+        if (faults > 0) return told(texts.faultsOfScript, { n: faults });
+        if (long) return told(texts.charactersOfScript, { n: long.text.length });
+        const words = told(texts.patchesOfScript, { n: patches });
+        return version ? told(texts.patchesAndVersion, { patches: words, version: String(version) }) : words;
     }
 
     drawSide() {
@@ -167,11 +172,11 @@ class ScriptPanel {
 
     emptyCard() {
         const { app } = this;
-        return element('section', { class: 'card pad stack' }, element('h2', {}, 'No patches yet'),
-            element('p', {}, 'A script is the list of your changes. You rarely type it:'),
-            element('div', { class: 'stack tight start' }, button('', () => app.showPanel('text'), 'Find and replace a text'),
-                button('', () => app.showPanel('disc'), 'Change bytes of a sector'),
-                    button('', () => this.opening.click(), 'Open a script…')));
+        return element('section', { class: 'card pad stack' }, element('h2', {}, texts.noPatchesYet),
+            element('p', {}, texts.scriptIsList),
+            element('div', { class: 'stack tight start' }, button('', () => app.showPanel('text'), texts.findAndReplaceText),
+                button('', () => app.showPanel('disc'), texts.changeBytesOfSector),
+                button('', () => this.opening.click(), texts.openAScript)));
     }
 
     explain() {
@@ -226,7 +231,7 @@ class ScriptPanel {
     }
 
     save() {
-        downloadText(this.lines.text(), this.lines.name || 'script.txt');
+        downloadText(this.lines.text(), this.lines.name || texts.scriptFile);
         this.lines.noteSaved();
         this.drawHead();
     }
@@ -244,11 +249,12 @@ class ScriptPanel {
         const text = new TextDecoder().decode(bytes);
         const shown = text.length > MOST_LOG ? `${text.slice(0, text.lastIndexOf('\n', MOST_LOG))}\n…\n` : text;
         const command = element('span', { class: 'mono' }, 'cdpatch check');
-        fill(this.log, element('header', {}, element('h2', {}, 'Log'), copyButton('slim bare', () => text, 'Copy', ' the log'),
-            button('slim bare', () => downloadText(text, 'log.txt'), 'Save…', element('span', { class: 'hide' }, ' the log'))),
-        element('div', { class: 'pad stack tight' }, element('pre', { class: 'log', tabindex: 0, 'aria-label': 'Log' }, shown),
-            element('p', { class: 'small quiet' }, 'The same text as ', command,
-                ' prints, in the order of application: by block, then by line.')));
+        fill(this.log, element('header', {}, element('h2', {}, texts.logOfCheck),
+            copyButton('slim bare', () => text, texts.copy, texts.whichLog),
+            button('slim bare', () => downloadText(text, texts.logFile), texts.saveReport,
+                element('span', { class: 'hide' }, texts.whichLog))),
+        element('div', { class: 'pad stack tight' }, element('pre', { class: 'log', tabindex: 0, 'aria-label': texts.logOfCheck }, shown),
+            element('p', { class: 'small quiet' }, ...say(texts.logIsPrinted, { command }))));
     }
 }
 

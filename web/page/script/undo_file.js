@@ -5,6 +5,8 @@ import { Refusal } from '../../core/script/script.js';
 import { undoScript } from '../../core/script/undo.js';
 import { blocksText } from '../../core/sectors/runs.js';
 import { downloadBytes, watched } from '../save/index.js';
+import * as texts from '../texts/index.js';
+import { say, told } from '../texts/index.js';
 import { element, fill, isCancelled, isDisabled, jobBar, nameOf, notice, runAt, sayAt, sentence } from '../ui/index.js';
 
 /** @typedef {import('../app/state.js').App} App */
@@ -34,26 +36,25 @@ export async function makeUndo(app, from, places, lines, carry) {
  * @param {boolean} carry
  */
 async function makeUndoAt(app, image, { bar: place, said }, lines, carry) {
-    const name = `${(app.script.name || 'script').replace(/\.[^.]*$/, '')} (undo).txt`;
+    const name = told(texts.undoFile, { script: (app.script.name || texts.scriptFile).replace(/\.[^.]*$/, '') });
     try {
         const made = await app.run((signal, cancel) => {
-            const bar = jobBar('Making the undo script', cancel);
-            fill(place, element('h3', {}, 'Making ', nameOf(name)), ...bar.parts);
+            const bar = jobBar(texts.makingUndo, cancel);
+            fill(place, element('h3', {}, ...say(texts.makingFile, { name: nameOf(name) })), ...bar.parts);
             const script = [new TextEncoder().encode(lines.text())];
             const how = { base: image.base, carry, crew: app.crew };
             return undoScript(app.calls, watched(image.reader, { signal, progress: bar.at }), script, how);
         });
-        if (made instanceof Refusal) throw new Fault('The script has a fault.');
+        if (made instanceof Refusal) throw new Fault(texts.scriptHasFault);
         downloadBytes(made.script.pieces, name);
-        const left = made.left.length > 0
-            && `, but for the damage of ${blocksText(made.left, 8)}: their address and user data come back`;
-        const wants = carry && ' Apply it with carry, as this script.';
-        const long = made.script.long && ' It is longer than cdpatch and this page take: cdscript applies it with --long.';
-        sayAt(said, notice(left || long ? 'warn' : 'good', ['Saved: ', nameOf(name)],
-            'Apply it to the patched image to get the original back', left, '.', wants, long));
+        const { left, script: { long } } = made;
+        const words = [left.length > 0 ? told(texts.undoButForDamage, { blocks: blocksText(left, 8) }) : texts.undoGetsOriginalBack,
+            carry && texts.undoWithCarry, long && texts.undoIsLong];
+        sayAt(said, notice(left.length > 0 || long ? 'warn' : 'good', say(texts.fileSaved, { name: nameOf(name) }),
+            words.filter(it => it).join(' ')));
     } catch (error) {
-        const rest = 'No undo script was made.';
-        sayAt(said, isCancelled(error) ? notice('plain', 'Cancelled.', rest) : notice('bad', sentence(error), rest));
+        sayAt(said, isCancelled(error) ? notice('plain', texts.jobCancelled, texts.noUndoMade)
+            : notice('bad', sentence(error), texts.noUndoMade));
     } finally {
         fill(place);
     }

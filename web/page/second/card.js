@@ -2,18 +2,14 @@
 
 import { isSameRange } from '../../core/images/common_part.js';
 import { readImage } from '../open/index.js';
+import * as texts from '../texts/index.js';
+import { say } from '../texts/index.js';
 import { button, element, fill, isCancelled, keyed, nameOf, notice, oneStop, refuseWhileSaving, said, sentence } from '../ui/index.js';
 import { SecondCompare } from './compare.js';
 import { SecondRepair } from './repair.js';
 
 /** @typedef {import('../app/state.js').App} App */
 /** @typedef {import('../app/state.js').PairJob} Job */
-/** @typedef {import('../app/marks.js').MapModel} MapModel */
-/**
- * A job with two images: it works once, shows what it found in `body` and `table`, and on the map.
- * @typedef {{ body: HTMLElement, table: HTMLElement, model: () => MapModel | null, begin: () => Promise<void>,
- *     forget: () => void }} PairPanel
- */
 
 export class SecondCard {
     /**
@@ -25,15 +21,15 @@ export class SecondCard {
         this.changed = changed;
         this.tab = /** @type {Job} */ ('repair');
         this.title = element('h2', { id: 'second-title' });
-        this.tabs = element('div', { class: 'seg', role: 'tablist', 'aria-label': 'What to do with the second image' });
+        this.tabs = element('div', { class: 'seg', role: 'tablist', 'aria-label': texts.whatWithSecond });
         this.said = said();
         this.body = element('div', { class: 'stack', role: 'tabpanel', id: 'second-body' });
         this.table = element('div');
         this.jobs = { repair: new SecondRepair(app, changed), compare: new SecondCompare(app, changed) };
         oneStop(this.tabs, '[role=tab]', tab => this.choose(/** @type {Job} */ (tab.dataset.tab)));
         const card = element('section', { class: 'card', 'aria-labelledby': 'second-title' },
-            element('header', {}, this.title, button('slim bare', () => this.openInstead(), 'Open it instead'),
-                button('slim bare', () => this.close(), 'Close')),
+            element('header', {}, this.title, button('slim bare', () => this.openInstead(), texts.openItInstead),
+                button('slim bare', () => this.close(), texts.close)),
             element('div', { class: 'pad stack' }, this.said, this.tabs, this.body));
         this.part = element('div', { class: 'side', hidden: true }, card, this.table);
     }
@@ -65,7 +61,7 @@ export class SecondCard {
         this.jobs.compare.forget();
         this.part.hidden = image === null || second === null;
         if (image !== null && second !== null) {
-            fill(this.title, 'Second image: ', element('span', { class: 'plain' }, nameOf(second.name)));
+            fill(this.title, ...say(texts.secondImageIs, { name: element('span', { class: 'plain' }, nameOf(second.name)) }));
             this.choose(job);
         }
         this.changed();
@@ -88,13 +84,14 @@ export class SecondCard {
      * @param {Element} body of the job
      */
     failed(error, body) {
-        const again = element('div', { class: 'row' }, button('', () => this.choose(this.tab), 'Begin again'));
-        fill(body, isCancelled(error) ? element('p', {}, 'Cancelled.') : notice('bad', sentence(error), 'Nothing was found out.'), again);
+        const again = element('div', { class: 'row' }, button('', () => this.choose(this.tab), texts.beginAgain));
+        const why = isCancelled(error) ? element('p', {}, texts.jobCancelled) : notice('bad', sentence(error), texts.nothingFoundOut);
+        fill(body, why, again);
     }
 
     drawTabs() {
         /** @type {[Job, string][]} */
-        const names = [['repair', 'Repair from it'], ['compare', 'Compare']];
+        const names = [['repair', texts.repairFromIt], ['compare', texts.compareIt]];
         const { image, second } = this.app;
         // A script changes no length, and no sector's place.
         if (image === null || second === null || !isSameRange(image, second)) names.pop();

@@ -2,11 +2,13 @@
 
 import { FIELD_COUNT, SECOND_STATE, tailsDiffer } from '../../core/images/compare.js';
 import { patchedName } from '../save/index.js';
-import { button, countOf, element, fill, jobBar, nameOf, notice, tableCard, tallyOf, term } from '../ui/index.js';
+import * as texts from '../texts/index.js';
+import { told } from '../texts/index.js';
+import { button, element, fill, nameOf, notice, tableCard, tallyOf, term } from '../ui/index.js';
 import { addDiffering, compareMarks } from './marks.js';
+import { PairJob } from './pair_job.js';
 import { writeScript } from './script.js';
 
-/** @typedef {import('../app/state.js').App} App */
 /** @typedef {import('../../core/images/compare.js').Differing} Differing */
 /** @typedef {import('./marks.js').PairMarks} PairMarks */
 /** @typedef {{ block: number, fields: number[], state: number }} FieldRow */
@@ -16,76 +18,39 @@ import { writeScript } from './script.js';
 
 const MOST_ROWS = 400;
 
-export class SecondCompare {
-    /**
-     * @param {App} app
-     * @param {() => void} changed
-     */
-    constructor(app, changed) {
-        this.app = app;
-        this.changed = changed;
-        this.body = element('div', { class: 'stack' });
-        this.table = element('div');
-        this.place = element('div', { class: 'stack' });
-        this.marks = /** @type {PairMarks | null} */ (null);
-        this.begun = false;
-        /** @type {FieldRow[]} */
-        this.rows = [];
-        this.onlyCodes = 0;
-        this.tail = false;
-    }
-
-    model() {
-        return this.marks;
-    }
-
-    forget() {
-        Object.assign(this, { begun: false, marks: null, rows: [], onlyCodes: 0, tail: false });
-        fill(this.body);
-        fill(this.table);
-        fill(this.place);
-    }
-
+export class SecondCompare extends PairJob {
     async begin() {
-        const { app } = this;
-        const { image, second, survey } = app;
+        const { crew, image, second, survey } = this.app;
         if (this.begun || image === null || second === null || survey === null) return;
-        this.forget();
-        this.begun = true;
         const marks = compareMarks(survey.marks);
         /** @type {Rows} */
         const found = { rows: [], onlyCodes: 0, tail: false };
-        try {
-            await app.runPair((signal, cancel) => {
-                const bar = jobBar('Comparing both images', cancel);
-                fill(this.body, ...bar.parts);
-                const how = { base: image.base, signal, progress: bar.sectors };
-                return app.crew.share('differ', [image.reader, second.reader], {}, how, answer => addRows(marks, found, answer));
-            });
+        await this.once(async watch => {
+            const how = { base: image.base, ...watch };
+            await crew.share('differ', [image.reader, second.reader], {}, how, answer => addRows(marks, found, answer));
             found.tail = await tailsDiffer(image.reader, second.reader);
-        } catch (error) {
-            if (app.second !== second) return;
-            this.begun = false;
-            throw error;
-        }
-        if (app.second !== second) return;
-        Object.assign(this, found, { marks });
-        this.draw(marks);
-        this.changed();
+        }, async () => {
+            this.marks = marks;
+            this.draw(marks, found);
+            this.changed();
+        });
     }
 
-    /** @param {PairMarks} marks */
-    draw(marks) {
+    /**
+     * @param {PairMarks} marks
+     * @param {Rows} found
+     */
+    draw(marks, { rows, onlyCodes, tail }) {
         const [differ, damaged, others] = [0, 1, 2].map(which => marks.count(which));
         const all = differ + damaged + others;
-        const tally = tallyOf([[all, all === 1 ? 'sector differs' : 'sectors differ', ''], [this.onlyCodes, 'only in EDC or parity', ''],
-            [damaged, 'damaged in the second', damaged > 0 ? 'bad-ink' : '']]);
-        const write = element('div', { class: 'row' }, button('main', () => this.write('save'), 'Save the script…'),
-            button('', () => this.write('open'), 'Open in Script'));
-        const same = notice('good', `Both images are the same, ${this.tail ? 'sector for sector' : 'byte for byte'}.`);
-        const tail = this.tail && notice('warn', 'The bytes after the last sector differ.', 'No script changes them.');
-        fill(this.body, tally, tail, all === 0 ? same : write, this.place);
-        if (all > 0) this.drawTable(all);
+        const tally = tallyOf([[all, all === 1 ? texts.sectorDiffers : texts.sectorsDiffer, ''],
+            [onlyCodes, texts.differInCodesOnly, ''], [damaged, texts.damagedInSecond, damaged > 0 ? 'bad-ink' : '']]);
+        const write = element('div', { class: 'row' }, button('main', () => this.write('save'), texts.saveTheScript),
+            button('', () => this.write('open'), texts.openInScript));
+        const same = notice('good', tail ? texts.bothSameSectors : texts.bothSameBytes);
+        const other = tail && notice('warn', texts.tailsDiffer, texts.noScriptChangesThem);
+        fill(this.body, tally, other, all === 0 ? same : write, this.place);
+        if (all > 0) this.drawTable(rows, all);
     }
 
     /** @param {import('./script.js').Then} then what becomes of the script */
@@ -97,22 +62,23 @@ export class SecondCompare {
         }
     }
 
-    /** @param {number} all */
-    drawTable(all) {
-        const { rows } = this;
-        const names = ['header', 'user data', 'EDC', 'parity'];
-        const head = element('tr', {}, element('th', { class: 'n' }, term('block', 'Block')), ...names.map(name =>
+    /**
+     * @param {FieldRow[]} rows
+     * @param {number} all how many blocks differ
+     */
+    drawTable(rows, all) {
+        const names = [texts.columnHeader, texts.columnUserData, 'EDC', texts.columnParity];
+        const head = element('tr', {}, element('th', { class: 'n' }, term('block', texts.columnBlock)), ...names.map(name =>
             element('th', { class: 'n' }, name === 'EDC' ? term('edc', name) : name)));
         const body = rows.map(({ block, fields, state }) => element('tr', {},
-            element('td', { class: 'n', 'data-l': 'block' },
+            element('td', { class: 'n', 'data-l': texts.blockLabel },
                 button('slim bare tiny', () => this.app.goTo(block, -1, true), String(block)),
-                state === SECOND_STATE.DAMAGED && element('span', { class: 'tag bad' }, 'damaged in the second')),
+                state === SECOND_STATE.DAMAGED && element('span', { class: 'tag bad' }, texts.damagedInSecond)),
             ...fields.map((count, i) => element('td', { class: 'n', 'data-l': names[i] }, count))));
         const text = rows.map(({ block, fields }) => `${block}\t${fields.join('\t')}\n`).join('');
         const left = all - rows.length;
-        const foot = left > 0 ? `${countOf(left, 'more block has', 'more blocks have')} no row here.`
-            : 'If the user data differ and the EDC does not, one of the two is damaged.';
-        fill(this.table, tableCard('Bytes that differ, by field', head, body, text, foot));
+        const foot = left > 0 ? told(texts.moreBlocksWithoutRow, { n: left }) : texts.userDataWithoutEdc;
+        fill(this.table, tableCard(texts.bytesThatDiffer, head, body, text, foot));
     }
 }
 

@@ -2,6 +2,7 @@
 
 import { SECOND_STATE } from '../../core/images/compare.js';
 import { MARK, SURVEY_LOOKS } from '../app/index.js';
+import * as texts from '../texts/index.js';
 
 /** @typedef {import('../app/marks.js').Look} Look */
 /** @typedef {import('../../core/sectors/runs.js').Run} Run */
@@ -69,12 +70,12 @@ export class PairMarks {
 
 /** @param {SurveyMarks} survey */
 export function repairMarks(survey) {
-    return new PairMarks(survey, looksOf('nothing to do', ['can be repaired', 'cannot be repaired']));
+    return new PairMarks(survey, looksOf(texts.nothingToDo, [texts.canBeRepaired, texts.cannotBeRepaired]));
 }
 
 /** @param {SurveyMarks} survey */
 export function compareMarks(survey) {
-    return new PairMarks(survey, looksOf('same in both', ['differ', 'damaged in the second', 'differ, and not of Mode 1']));
+    return new PairMarks(survey, looksOf(texts.sameInBoth, [texts.differInSecond, texts.damagedInSecond, texts.differNotMode1]));
 }
 
 /**

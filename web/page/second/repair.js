@@ -11,9 +11,12 @@ import { findingOf } from '../../core/sectors/survey.js';
 import { MARK, sha1Of } from '../app/index.js';
 import { fileReader, readImage } from '../open/index.js';
 import { failureOfSaving, givingAll, patchedName, saveImage } from '../save/index.js';
-import { askBeforeLeaving, button, countOf, counted, element, fill, hashParts, jobBar, messageOf, nameOf, notice } from '../ui/index.js';
+import * as texts from '../texts/index.js';
+import { say, told } from '../texts/index.js';
+import { askBeforeLeaving, button, element, fill, hashParts, jobBar, messageOf, nameOf, notice } from '../ui/index.js';
 import { runAt, shownName, tableCard, tallyOf, term } from '../ui/index.js';
 import { repairMarks } from './marks.js';
+import { PairJob } from './pair_job.js';
 import { writeScript } from './script.js';
 import { sectorOfSecond } from './sector.js';
 
@@ -21,7 +24,6 @@ import { sectorOfSecond } from './sector.js';
 /** @typedef {import('../../core/images/merge.js').Repair} Repair */
 /** @typedef {import('../../core/bytes.js').Piece} Piece */
 /** @typedef {import('../ui/fill.js').Child} Child */
-/** @typedef {import('./marks.js').PairMarks} PairMarks */
 /** @typedef {Awaited<ReturnType<typeof shiftOf>>} Shift */
 /** The pieces are those of the repaired image; the shift is that of a second image which is refused. */
 /** @typedef {{ repair: Repair, pieces: Piece[], shift: Shift }} Found */
@@ -30,20 +32,14 @@ import { sectorOfSecond } from './sector.js';
 const MOST_ROWS = 200;
 const MOST_RUNS_NAMED = 8;
 
-export class SecondRepair {
+export class SecondRepair extends PairJob {
     /**
      * @param {App} app
      * @param {() => void} changed
      */
     constructor(app, changed) {
-        this.app = app;
-        this.changed = changed;
-        this.body = element('div', { class: 'stack' });
-        this.table = element('div');
-        this.place = element('div', { class: 'stack' });
-        this.marks = /** @type {PairMarks | null} */ (null);
+        super(app, changed);
         this.found = /** @type {Found | null} */ (null);
-        this.begun = false;
         this.drawn = 0;
         /** Whether a file is being saved, as far as this page can know. */
         this.saving = false;
@@ -52,40 +48,27 @@ export class SecondRepair {
         app.on('files', () => void this.drawTable());
     }
 
-    model() {
-        return this.marks;
-    }
-
     forget() {
-        this.begun = this.saving = false;
-        this.marks = this.found = null;
-        for (const part of [this.body, this.table, this.place]) fill(part);
+        this.saving = false;
+        this.found = null;
+        super.forget();
     }
 
     async begin() {
         const { app } = this;
         const { image, second } = app;
         if (this.begun || image === null || second === null) return;
-        this.begun = true;
-        try {
-            /** @type {Piece[]} */
-            const pieces = [];
-            const repair = await app.runPair((signal, cancel) => {
-                const bar = jobBar('Comparing both images', cancel);
-                fill(this.body, ...bar.parts);
-                return mergeImages(app.crew, image, [second], { signal, progress: bar.sectors }, piece => { pieces.push(piece); });
-            });
-            const shift = repair.refused ? await shiftOf(app.calls, image, second, repair.differing[0]) : null;
-            if (app.second !== second) return;
-            this.found = { repair, pieces, shift };
+        /** @type {Piece[]} */
+        const pieces = [];
+        await this.once(async watch => {
+            const repair = await mergeImages(app.crew, image, [second], watch, piece => { pieces.push(piece); });
+            return { repair, pieces, shift: repair.refused ? await shiftOf(app.calls, image, second, repair.differing[0]) : null };
+        }, async found => {
+            this.found = found;
             this.draw();
-            app.setRepair(repair);
+            app.setRepair(found.repair);
             await this.drawTable();
-        } catch (error) {
-            if (app.second !== second) return;
-            this.begun = false;
-            throw error;
-        }
+        });
     }
 
     /** The blocks that are not repaired: damaged ones, and those inside Mode 1 that are it in neither image. */
@@ -120,22 +103,17 @@ export class SecondRepair {
      */
     foundWords(repair, pieces, damaged) {
         const [taken, different] = [blocksIn(repair.taken), repair.different[0]];
-        const tally = tallyOf([[taken, 'can be repaired', taken > 0 ? 'good-ink' : ''],
-            [damaged, 'cannot be repaired', damaged > 0 ? 'bad-ink' : ''], [different, 'intact in both, but different', '']]);
-        const save = button('main', () => void this.save(pieces), 'Save repaired image…');
-        const script = button('', () => void this.script(pieces), 'Write it as a script');
-        const none = taken === 0 ? [notice('plain', 'This dump cannot repair anything here.', damaged === 0 ? 'No sector here is damaged.'
-            : 'No sector that is damaged here is sound there, with the address of its block.')] : [];
-        const warning = different > 0 ? [notice('warn',
-            `${countOf(different, 'sector is sound in both, and differs', 'sectors are sound in both, and differ')}.`,
-            'Perhaps it is another release of the disc. They stay as they are here.')] : [];
-        const doubt = repair.doubtful.length > 0 && notice('warn',
-            `${countOf(blocksIn(repair.doubtful), 'sector has', 'sectors have')} other data here, and another EDC.`,
-            `Perhaps the second image is another release of the disc: look at ${blocksText(repair.doubtful, MOST_RUNS_NAMED)} first.`);
-        const tail = repair.tails[0] && notice('warn', 'The bytes after the last sector differ.', 'They stay as they are here.');
-        return [tally, this.partWords(repair), ...none, doubt, ...warning, tail, element('p', { class: 'small quiet' },
-            'Whole sectors are copied, and only those that are damaged here and sound there. A sound sector is never changed. ' +
-            'Your file stays as it is.'), taken > 0 && element('div', { class: 'row' }, save, script), this.place];
+        const tally = tallyOf([[taken, texts.canBeRepaired, taken > 0 ? 'good-ink' : ''],
+            [damaged, texts.cannotBeRepaired, damaged > 0 ? 'bad-ink' : ''], [different, texts.intactButDifferent, '']]);
+        const save = button('main', () => void this.save(pieces), texts.saveRepaired);
+        const script = button('', () => void this.script(pieces), texts.writeRepairAsScript);
+        const none = taken === 0 && notice('plain', texts.repairsNothing, damaged === 0 ? texts.noneDamagedHere : texts.noneSoundThere);
+        const warning = different > 0 && notice('warn', told(texts.soundInBoth, { n: different }), texts.perhapsAnotherRelease);
+        const doubt = repair.doubtful.length > 0 && notice('warn', told(texts.otherDataHere, { n: blocksIn(repair.doubtful) }),
+            told(texts.lookAtThemFirst, { blocks: blocksText(repair.doubtful, MOST_RUNS_NAMED) }));
+        const tail = repair.tails[0] && notice('warn', texts.tailsDiffer, texts.theyStay);
+        return [tally, this.partWords(repair), none, doubt, warning, tail, element('p', { class: 'small quiet' }, texts.whatRepairDoes),
+            taken > 0 && element('div', { class: 'row' }, save, script), this.place];
     }
 
     /**
@@ -147,7 +125,7 @@ export class SecondRepair {
         if (image === null || to - from === sectors) return null;
         const missing = [{ first: 0, last: from - 1 }, { first: to, last: sectors - 1 }].filter(({ first, last }) => first <= last)
             .map(({ first, last }) => ({ first: first + image.base, last: last + image.base }));
-        return notice('plain', `The second image does not have ${blocksText(missing)}.`, 'These stay as they are here.');
+        return notice('plain', told(texts.dumpLacksBlocks, { blocks: blocksText(missing) }), texts.theseStay);
     }
 
     /** @param {Piece[]} pieces */
@@ -163,7 +141,7 @@ export class SecondRepair {
         const show = (/** @type {Child[]} */ ...parts) => fill(place, ...parts);
         try {
             const saved = await app.runSave((signal, cancel) => {
-                const bar = jobBar('Saving', cancel, { saves: true });
+                const bar = jobBar(texts.savingImage, cancel, { saves: true });
                 show(...bar.parts);
                 this.saving = true;
                 const progress = (/** @type {number} */ done) => bar.at(done, image.reader.size);
@@ -185,18 +163,19 @@ export class SecondRepair {
      */
     savedWords({ name, streamed, file }, size) {
         const { app } = this;
-        const said = streamed ? notice('good', ['Saved: ', nameOf(name)], 'All sectors that were not repaired are as before.')
-            : notice('good', ['Your browser is saving ', nameOf(name)],
-                `${counted(Math.ceil(size / 1e6))} MB. Keep this page open until the download is complete.`);
+        const said = streamed ? notice('good', say(texts.fileSaved, { name: nameOf(name) }), texts.othersAsBefore)
+            : notice('good', say(texts.browserIsSaving, { name: nameOf(name) }), told(texts.keepPageOpen, { size: Math.ceil(size / 1e6) }));
         if (file === null) return [said];
         const sum = element('dd', { id: 'repaired-sha1' }, '…');
-        const told = (/** @type {number} */ done) => { sum.textContent = `(${Math.floor(100 * done / size)} %)`; };
-        sha1Of(app.parts, fileReader(file), app.pairing.signal, told).then(sha1 => fill(sum, ...hashParts(sha1)),
+        const progress = (/** @type {number} */ done) => {
+            sum.textContent = told(texts.hashPercent, { percent: Math.floor(100 * done / size) });
+        };
+        sha1Of(app.parts, fileReader(file), app.pairing.signal, progress).then(sha1 => fill(sum, ...hashParts(sha1)),
             error => { sum.textContent = messageOf(error); });
         const open = button('', () => {
             readImage(app, null);
             app.open([file], 'look');
-        }, 'Open the new image');
+        }, texts.openNewImage);
         return [said, element('dl', { class: 'hashes' }, element('dt', {}, 'SHA-1'), sum), element('div', { class: 'row' }, open)];
     }
 
@@ -205,7 +184,7 @@ export class SecondRepair {
         const { image } = this.app;
         if (image === null) return;
         const [fresh, name] = [pieceReader(image.reader, pieces), patchedName(image.name, 'repair', '.txt')];
-        await writeScript(this.app, this.place, { image, fresh, goal: 'the repaired image', name });
+        await writeScript(this.app, this.place, { image, fresh, goal: texts.theRepairedImage, name });
     }
 
     /** Lists what is not repaired, again as soon as the files are known. */
@@ -222,14 +201,15 @@ export class SecondRepair {
         }
         const count = blocksIn(damaged);
         const cells = rows.map(({ block, here, there, file }) => element('tr', {},
-            element('td', { class: 'n', 'data-l': 'block' }, button('slim bare tiny', () => this.app.goTo(block, -1, true), String(block))),
-            element('td', { class: 'mono small', 'data-l': 'here' }, here),
-            element('td', { class: 'mono small', 'data-l': 'there' }, there), element('td', { class: 'mono small wide' }, file)));
-        const head = element('tr', {}, element('th', { class: 'n' }, term('block', 'Block')), element('th', {}, 'Here'),
-            element('th', {}, 'In the second image'), element('th', {}, 'File'));
+            element('td', { class: 'n', 'data-l': texts.blockLabel },
+                button('slim bare tiny', () => this.app.goTo(block, -1, true), String(block))),
+            element('td', { class: 'mono small', 'data-l': texts.hereLabel }, here),
+            element('td', { class: 'mono small', 'data-l': texts.thereLabel }, there), element('td', { class: 'mono small wide' }, file)));
+        const head = element('tr', {}, element('th', { class: 'n' }, term('block', texts.columnBlock)), element('th', {}, texts.columnHere),
+            element('th', {}, texts.columnInSecond), element('th', {}, texts.columnFile));
         const text = rows.map(({ block, here, there, file }) => `${block}\t${here}\t${there}\t${file}\n`).join('');
         const same = rows.filter(row => row.same).map(row => row.block);
-        fill(this.table, tableCard(`Cannot be repaired: ${counted(count)}`, head, cells, text, footOf(same, count - rows.length)));
+        fill(this.table, tableCard(told(texts.countNotRepaired, { n: count }), head, cells, text, footOf(same, count - rows.length)));
     }
 
     /**
@@ -243,11 +223,11 @@ export class SecondRepair {
         for (const block of blocks) {
             const old = await readBytes(image.reader, (block - image.base) * SECTOR_SIZE, SECTOR_SIZE);
             const other = await sectorOfSecond(this.app, block);
-            const said = [old, other].map(sector => sector === null ? 'not there'
-                : findingOf(calls, block, calls.survey(sector, block)) || 'not of Mode 1');
+            const said = [old, other].map(sector => sector === null ? texts.notThere
+                : findingOf(calls, block, calls.survey(sector, block)) || texts.notOfMode1);
             const [file] = files === null ? [] : filesAt(files.files, block, 0);
             const same = other !== null && old.every((it, i) => it === other[i]);
-            const where = file ? shownName(file.path) : files === null ? '–' : 'in no file';
+            const where = file ? shownName(file.path) : files === null ? '–' : texts.inNoFile;
             rows.push({ block, here: said[0], there: said[1], file: where, same });
         }
         return rows;
@@ -261,14 +241,11 @@ export class SecondRepair {
 function refusedRepair({ different: [different] }, shift) {
     if (shift !== null) {
         const by = Math.abs(shift.by);
-        const why = shift.by > 0 ? countOf(by, 'sector before it is missing', 'sectors before it are missing')
-            : countOf(by, 'sector before it is too many', 'sectors before it are too many');
-        return notice('bad', `The second image is shifted by ${countOf(by, 'sector')} from block ${shift.first} on.`,
-            `Its addresses say so: ${why}. Nothing is taken.`);
+        const why = told(shift.by > 0 ? texts.missingBefore : texts.tooManyBefore, { n: by });
+        return notice('bad', told(texts.secondShifted,
+            { sectors: told(texts.countOfSectors, { n: by }), block: String(shift.first) }), told(texts.addressesSaySo, { why }));
     }
-    return notice('bad', 'These are not dumps of the same disc.',
-        `${countOf(different, 'sector is sound in both and differs', 'sectors are sound in both and differ')}: ` +
-        'more than one in a hundred. Nothing is taken.');
+    return notice('bad', texts.notTheSameDisc, told(texts.tooManyDiffer, { sectors: told(texts.soundAndDiffer, { n: different }) }));
 }
 
 /**
@@ -289,10 +266,8 @@ function blocksOf(runs, most) {
  * @param {number} left how many blocks have no row
  */
 function footOf(same, left) {
-    const more = left > 0 ? `${countOf(left, 'more has', 'more have')} no row here. ` : '';
-    if (same.length === 0) return `${more}The images differ in each block.`;
-    const several = same.length < 4 ? `blocks ${same.join(', ')}` : `${same.length} of these blocks`;
-    const blocks = same.length === 1 ? `block ${same[0]}` : several;
-    return `${more}In ${blocks} both images hold the same bytes: perhaps the damage is on the disc itself, or on purpose. ` +
-        'A third dump would show it.';
+    const more = left > 0 ? `${told(texts.moreHaveNoRow, { n: left })} ` : '';
+    const several = same.length < 4 ? told(same.length === 1 ? texts.theBlock : texts.theBlocks, { blocks: same.join(', ') })
+        : told(texts.someOfBlocks, { n: same.length });
+    return more + (same.length === 0 ? texts.differInEach : `${told(texts.sameBytesIn, { blocks: several })} ${texts.thirdDump}`);
 }

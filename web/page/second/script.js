@@ -4,7 +4,9 @@ import { compareImages } from '../../core/images/compare.js';
 import { leftText } from '../../core/script/sector_lines.js';
 import { blocksIn, blocksText } from '../../core/sectors/runs.js';
 import { download } from '../save/index.js';
-import { button, countOf, counted, element, fill, isCancelled, jobBar, nameOf, notice, runAt, sentence } from '../ui/index.js';
+import * as texts from '../texts/index.js';
+import { say, told } from '../texts/index.js';
+import { button, element, fill, isCancelled, jobBar, nameOf, notice, runAt, sentence } from '../ui/index.js';
 
 /** @typedef {import('../app/state.js').App} App */
 /** @typedef {import('../app/state.js').Image} Image */
@@ -51,7 +53,7 @@ async function writeScriptAt(app, place, wanted, then, skipDamaged) {
     };
     try {
         const compared = await app.runPair((signal, cancel) => {
-            const bar = jobBar('Writing the script', cancel);
+            const bar = jobBar(texts.writingScript, cancel);
             show(...bar.parts);
             const how = { base: image.base, signal, progress: bar.sectors, skipDamaged };
             return compareImages(app.calls, app.crew, image.reader, fresh, how);
@@ -62,8 +64,8 @@ async function writeScriptAt(app, place, wanted, then, skipDamaged) {
         show(written(compared.script, compared.left, wanted, then === '' ? does : {}));
         if (then !== '' && app.second === second) does[then]?.();
     } catch (error) {
-        const rest = 'No script was written.';
-        show(isCancelled(error) ? notice('plain', 'Cancelled.', rest) : notice('bad', sentence(error), rest));
+        const rest = texts.noScriptWritten;
+        show(isCancelled(error) ? notice('plain', texts.jobCancelled, rest) : notice('bad', sentence(error), rest));
     }
     return undefined;
 }
@@ -92,15 +94,12 @@ function doesWith(app, { pieces, size, long }, name) {
  * @param {{ open?: () => void, save?: () => void }} does what buttons do with it
  */
 function written({ size, patches, long }, left, { image, goal }, { open, save }) {
-    const stays = blocksIn(left) === 1 ? 'it is' : 'they are';
-    const gives = left.length === 0 ? [' gives exactly ', goal]
-        : [' gives ', goal, `, but for ${blocksText(left, MOST_LEFT_NAMED)}, which it leaves as ${stays}`];
-    const rest = long ? ' This is more than cdpatch takes: cdscript applies it with --long.' : '';
-    const head = element('b', {}, `The script has ${countOf(patches, 'patch', 'patches')}.`);
-    return element('div', { class: left.length === 0 ? 'say good' : 'say warn', role: 'status' }, head,
-        `${counted(size)} bytes. Verified: applied to `, nameOf(image.name), ' it', ...gives, `.${rest}`,
-        element('div', { class: 'row' }, open !== undefined && button('main', open, 'Open in Script'),
-            save !== undefined && button('', save, 'Save the script…')));
+    const it = { image: nameOf(image.name), goal };
+    const but = blocksIn(left) === 1 ? texts.givesButForOne : texts.givesButForSome;
+    const gives = left.length === 0 ? say(texts.givesExactly, it) : say(but, { ...it, blocks: blocksText(left, MOST_LEFT_NAMED) });
+    return notice(left.length === 0 ? 'good' : 'warn', told(texts.scriptHasPatches, { n: patches }),
+        told(texts.scriptHasBytes, { n: size }), ' ', ...gives, long && ` ${texts.appliedWithLong}`, element('div', { class: 'row' },
+            open !== undefined && button('main', open, texts.openInScript), save !== undefined && button('', save, texts.saveTheScript)));
 }
 
 /**
@@ -110,15 +109,12 @@ function written({ size, patches, long }, left, { image, goal }, { open, save })
 function refusedScript({ left, tail }, again) {
     const damaged = left.filter(it => it.why === 'damaged');
     const others = left.filter(it => it.why !== 'damaged');
-    const head = 'The script is not written: ';
     if (others.length === 0 && !tail) {
         const count = blocksIn(damaged);
-        const where = element('b', {}, `${head}${leftText(damaged, 'the second image', MOST_LEFT_NAMED)}.`);
-        return element('div', { class: 'say bad', role: 'alert' }, where,
-            'Their wrong bytes would get a correct EDC, and nobody could see the damage any more.',
-            element('div', { class: 'row' }, button('', again, count === 1 ? 'Leave this one out' : `Leave these ${counted(count)} out`)));
+        return notice('bad', told(texts.scriptNotWritten, { why: leftText(damaged, texts.theSecondImage, MOST_LEFT_NAMED) }),
+            texts.damageHidden, element('div', { class: 'row' }, button('', again, told(texts.leaveOut, { n: count }))));
     }
     const first = others.filter(it => it.why === others[0].why);
-    const why = tail ? 'the bytes after the last sector differ' : leftText(first, 'the second image', MOST_LEFT_NAMED);
-    return notice('bad', `${head}${why}.`, 'Use the second image itself, or “Repair from it”, which copies whole sectors.');
+    const why = tail ? texts.becauseTailsDiffer : leftText(first, texts.theSecondImage, MOST_LEFT_NAMED);
+    return notice('bad', told(texts.scriptNotWritten, { why }), texts.useSecondItself);
 }

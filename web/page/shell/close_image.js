@@ -1,5 +1,7 @@
 // Closing the open image, with all that was done with it.
 
+import * as texts from '../texts/index.js';
+import { say } from '../texts/index.js';
 import { asked, byId, lostByClosing, nameOf, refuseWhileSaving } from '../ui/index.js';
 
 /** @typedef {import('../app/state.js').App} App */
@@ -12,8 +14,8 @@ export async function closeImage(app) {
     const { image } = app;
     if (image === null || refuseWhileSaving(app)) return;
     const lost = lostByClosing();
-    const isSure = lost.length === 0 || await asked(['Close ', nameOf(image.name), '?'], [lost.join(' ')],
-        [['close', ['Close it anyway']]], '') === 'close';
+    const isSure = lost.length === 0 || await asked(say(texts.closeImage, { name: nameOf(image.name) }), [lost.join(' ')],
+        [['close', [texts.closeAnyway]]], '') === 'close';
     if (!isSure || app.image !== image) return;
     app.close();
     byId('open-files').focus();

@@ -4,8 +4,10 @@ import { LAST_BASE, SECTOR_SIZE } from '../../core/sectors/sector.js';
 import { MARK, lookOf } from '../app/index.js';
 import { dumpWords, isAllOver, modeOneSectors, otherBase, placesOf } from '../disc/index.js';
 import { changeBase, imageOfTrack, readImage } from '../open/index.js';
-import { button, byId, capital, copyButton, countOf, counted, element, fill, jobEnd, keyed, nameOf } from '../ui/index.js';
-import { seen, shownName, term } from '../ui/index.js';
+import * as texts from '../texts/index.js';
+import { counted, say, told } from '../texts/index.js';
+import { button, byId, capital, copyButton, element, fill, jobEnd, keyed, megabytesDone, nameOf } from '../ui/index.js';
+import { seen, shownName, term, timeLeft } from '../ui/index.js';
 import { closeImage } from './close_image.js';
 import { tracksInWords } from './tracks.js';
 
@@ -59,7 +61,9 @@ function drawCounts({ survey }) {
     const findings = survey ? survey.marks.findings() : 0;
     const count = byId('count-disc');
     count.hidden = findings === 0;
-    fill(count, counted(findings), element('span', { class: 'hide' }, findings === 1 ? ' finding' : ' findings'));
+    const number = counted(findings);
+    fill(count, ...say(texts.findingsOfTab, { n: findings }).map(part =>
+        part === '' || part === number ? part : element('span', { class: 'hide' }, part)));
 }
 
 /**
@@ -76,19 +80,19 @@ function facts(app, image, drawn) {
     const cell = (/** @type {string} */ name, /** @type {Child[]} */ ...value) => element('div', {}, element('dt', {}, name),
         element('dd', {}, ...value));
     const isMoved = image.base !== 0 || (survey !== null && survey.marks.isElsewhere());
-    const change = button('slim bare tiny change next', () => askBase(app, drawn), isMoved ? 'Change' : 'Set the base…');
-    const own = isMoved ? [cell('Base', term('base', String(image.base)), ' ', change)] : [];
+    const change = button('slim bare tiny change next', () => askBase(app, drawn), isMoved ? texts.changeBase : texts.setTheBase);
+    const own = isMoved ? [cell(texts.wordBase, term('base', String(image.base)), ' ', change)] : [];
     const sectors = (/** @type {number} */ mark, count = counts[mark]) => cell(capital(lookOf(mark).name), counted(count));
     if (mode1 > 0 || survey === null || !survey.over) own.push(sectors(MARK.MODE1, mode1));
     if (counts[MARK.MODE2] > 0) own.push(sectors(MARK.MODE2));
     if (counts[MARK.NOSYNC] > 0) own.push(sectors(MARK.NOSYNC));
-    if (findings > 0) own.push(cell('Findings', element('b', { class: 'bad-ink' }, counted(findings))));
+    if (findings > 0) own.push(cell(texts.findingsCount, element('b', { class: 'bad-ink' }, counted(findings))));
     if (panel !== 'disc') {
         const hash = cell('SHA-1', ...shaOf(image, drawn, 12));
         hash.className = 'hash';
         own.push(hash);
     }
-    const close = button('slim bare tiny', () => void closeImage(app), 'Close', element('span', { class: 'hide' }, ' the image'));
+    const close = button('slim bare tiny', () => void closeImage(app), texts.close, element('span', { class: 'hide' }, texts.theImage));
     const name = element('div', { class: 'row' }, element('p', { class: 'name' }, nameOf(image.name)), close,
         !isMoved && panel === 'disc' && change);
     return [element('div', {}, name, ...imageParts(app, image),
@@ -102,12 +106,11 @@ function facts(app, image, drawn) {
  * @returns {Child[]}
  */
 function imageParts(app, image) {
-    const tail = image.tail === 0 ? '' : ` · a tail of ${countOf(image.tail, 'byte')}`;
-    const parts = `${counted(image.reader.size)} bytes · ${countOf(image.sectors, 'sector')}${tail}`;
-    const from = image.from === '' ? [] : [' · from ', element('span', { class: 'mono' }, nameOf(image.from)), ': ',
-        ...tracksInWords(image)];
+    const sheet = element('span', { class: 'mono' }, nameOf(image.from));
+    const from = image.from === '' ? [] : [' · ', ...say(texts.fromSheet, { sheet, tracks: tracksInWords(image) })];
     const tracks = image.disc.tracks.filter(track => track.image !== null);
-    return [element('p', { class: 'small quiet num' }, parts, ...from), tracks.length > 1 && trackChoice(app, image)];
+    return [element('p', { class: 'small quiet num' }, told(texts.sizeAndSectors, { size: image.reader.size, n: image.sectors }),
+        image.tail > 0 && ` · ${told(texts.tailOf, { n: image.tail })}`, ...from), tracks.length > 1 && trackChoice(app, image)];
 }
 
 /**
@@ -121,9 +124,9 @@ function trackChoice(app, image) {
     const choice = element('select', { class: 'slim', change: chosen });
     for (const { number, type, image: own } of image.disc.tracks) {
         if (own === null) continue;
-        choice.append(element('option', { value: number, selected: number === image.number }, `track ${number}, ${type}`));
+        choice.append(element('option', { value: number, selected: number === image.number }, told(texts.trackOfType, { number, type })));
     }
-    return element('label', { class: 'row small quiet' }, 'Data track ', choice);
+    return element('label', { class: 'row small quiet' }, ...say(texts.dataTrack, { choice }));
 }
 
 /**
@@ -133,7 +136,8 @@ function trackChoice(app, image) {
  * @param {number} length
  */
 function shaWaits({ reader }, { hashed }, length) {
-    const words = hashed < 0 ? 'not known' : `(${reader.size === 0 ? 0 : Math.floor(100 * hashed / reader.size)} %)`;
+    const percent = reader.size === 0 ? 0 : Math.floor(100 * hashed / reader.size);
+    const words = hashed < 0 ? texts.hashNotKnown : `(${told(texts.inPercent, { n: percent })})`;
     return words.padEnd(length).replace(/ /g, '\u00a0');
 }
 
@@ -147,9 +151,9 @@ function shaOf(image, drawn, length) {
     const { sha1, crc32 } = image;
     const [looks, shown, copies] = sha1 === '' ? ['quiet sha-wait', shaWaits(image, drawn, length), ' unseen']
         : ['sha1', length < sha1.length ? `${sha1.slice(0, length)}…` : sha1, ''];
-    const all = `${seen(image.name)}\nsize ${image.reader.size}\nCRC-32 ${crc32}\nSHA-1 ${sha1}\n`;
+    const all = told(texts.sumsOfImage, { name: seen(image.name), size: String(image.reader.size), crc32, sha1 });
     return [element('span', { class: `mono ${looks}` }, shown), ' ',
-        copyButton(`slim bare tiny${copies}`, () => all, 'Copy all hashes')];
+        copyButton(`slim bare tiny${copies}`, () => all, texts.copyHashes)];
 }
 
 /**
@@ -170,8 +174,8 @@ function askBase(app, drawn) {
         event.preventDefault();
         close();
         changeBase(app, Number(input.value));
-    } }, element('label', { for: 'base' }, 'The block of the first sector'), input, element('button', { class: 'btn slim main' }, 'Set'),
-    button('slim bare', close, 'Cancel'));
+    } }, element('label', { for: 'base' }, texts.blockOfFirst), input, element('button', { class: 'btn slim main' }, texts.setIt),
+    button('slim bare', close, texts.cancel));
     fill(/** @type {Element} */ (byId('disc-line').firstElementChild), form);
     input.focus();
 }
@@ -184,8 +188,9 @@ function leadOf(app) {
     const { survey, image } = app;
     if (survey === null || image === null) return [];
     if (survey.over && survey.known < image.sectors) {
-        return [element('b', { class: 'warn-ink' }, `Stopped at ${Math.floor(100 * survey.known / image.sectors)} %.`),
-            button('slim', () => readImage(app, { ...image }), 'Read it again')];
+        const percent = Math.floor(100 * survey.known / image.sectors);
+        return [element('b', { class: 'warn-ink' }, told(texts.stoppedAt, { percent })),
+            button('slim', () => readImage(app, { ...image }), texts.readAgain)];
     }
     return survey.over ? verdict(app, image, survey) : progressOf(app, image, survey);
 }
@@ -199,17 +204,14 @@ function leadOf(app) {
 function progressOf(app, { sectors, reader }, { known, began }) {
     const part = sectors === 0 ? 1 : known / sectors;
     const seconds = (performance.now() - began) / 1000;
-    const megabytes = known * SECTOR_SIZE / 1e6;
     const bar = element('i');
     bar.style.width = `${100 * part}%`;
-    const fact = (/** @type {string} */ strong, /** @type {string} */ rest) => element('span', {}, element('b', {}, strong), rest);
-    const [percent, all] = [Math.floor(100 * part), counted(Math.round(reader.size / 1e6))];
+    const [percent, done] = [Math.floor(100 * part), known * SECTOR_SIZE];
     const values = { 'aria-valuemin': 0, 'aria-valuemax': 100, 'aria-valuenow': percent };
-    return [element('b', {}, `Reading the disc: ${percent} %`),
-        element('div', { class: 'progress', role: 'progressbar', 'aria-label': 'Reading the disc', ...values }, bar),
-        element('p', { class: 'facts' }, fact(counted(Math.round(megabytes)), ` of ${all} MB`),
-            fact(counted(Math.round(megabytes / Math.max(seconds, 0.001))), ' MB/s'),
-            part > 0 && fact(`${Math.ceil(seconds / part - seconds)} s`, ' left')),
+    return [element('b', {}, told(texts.readingAt, { percent })),
+        element('div', { class: 'progress', role: 'progressbar', 'aria-label': texts.readingDisc, ...values }, bar),
+        element('p', { class: 'facts' }, ...megabytesDone(done, reader.size, done / Math.max(seconds, 0.001)),
+            part > 0 && timeLeft(Math.ceil(seconds / part - seconds))),
         jobEnd(() => app.reading.abort(), false)];
 }
 
@@ -223,29 +225,34 @@ function progressOf(app, { sectors, reader }, { known, began }) {
 function verdict(app, image, { marks }) {
     const [mode1, damaged, lost, elsewhere] = [marks.mode1(), marks.damaged(), marks.counts[MARK.LOST], marks.counts[MARK.ADDRESS]];
     if (mode1 === 0) {
-        return [element('span', {}, element('b', { class: 'warn-ink' }, 'There is no Mode 1 sector here:'),
-            ' audio, or Mode 2 as on a PlayStation disc. It can be looked at, not patched.')];
+        return [element('span', {}, element('b', { class: 'warn-ink' }, texts.noModeOne), ` ${texts.canBeLookedAt}`)];
     }
     const base = otherBase(image, marks);
     if (base !== null) return otherBaseVerdict(app, image, base, damaged);
     const others = [];
-    if (lost > 0) others.push(`${counted(lost)} lost ${lost === 1 ? 'its' : 'their'} sync field or mode`);
-    if (elsewhere > 0) others.push(`${counted(elsewhere)} ${elsewhere === 1 ? 'has' : 'have'} another address`);
+    if (lost > 0) others.push(told(texts.lostSync, { n: lost }));
+    if (elsewhere > 0) others.push(told(texts.haveOtherAddress, { n: elsewhere }));
     if (damaged + others.length === 0) {
-        const all = mode1 === 1 ? 'The Mode 1 sector is sound:' : `All ${counted(mode1)} Mode 1 sectors are sound:`;
-        return [element('span', {}, element('b', { class: 'good-ink' }, all), ` ${mode1 === 1 ? 'its' : 'their'} EDC and parity fit.`)];
+        return [element('span', {}, element('b', { class: 'good-ink' }, told(texts.allSound, { n: mode1 })),
+            ` ${told(texts.theirCodesFit, { n: mode1 })}`)];
     }
-    const places = placesOf(marks);
-    const head = damaged === 0 ? element('b', { class: 'good-ink' }, `The EDC and parity of ${modeOneSectors(mode1)} fit`)
-        : element('b', { class: 'bad-ink' },
-            `${counted(damaged)} of ${countOf(mode1, 'Mode 1 sector')} ${damaged === 1 ? 'is' : 'are'} damaged,`);
-    const hurt = places.filter(it => it.counts[MARK.EDC] + it.counts[MARK.PARITY] > 0);
-    const isOver = hurt.some(place => isAllOver(place, marks.known));
-    const where = damaged === 0 ? '' : isOver ? ' all over the disc' : ` in ${countOf(hurt.length, 'place')}`;
-    const rest = [where, ...others].join('; ');
-    return [element('span', {}, head, `${rest}.${damaged > 0 ? ' The rest is sound.' : ''}`),
-        damaged > 0 && app.second === null && button('slim', () => app.choose('repair'), 'Repair from another dump…'),
-        button('slim bare', () => app.goTo(image.base + places[0].first, -1, true), 'Go to the first place')];
+    const codesFit = element('b', { class: 'good-ink' }, told(texts.codesFit, { sectors: modeOneSectors(mode1) }));
+    const said = damaged > 0 ? damageVerdict(marks, others) : say(texts.codesFitBut, { codesFit, others: others.join('; ') });
+    return [element('span', {}, ...said),
+        damaged > 0 && app.second === null && button('slim', () => app.choose('repair'), texts.repairFromOther),
+        button('slim bare', () => app.goTo(image.base + placesOf(marks)[0].first, -1, true), texts.goToFirstPlace)];
+}
+
+/**
+ * How many sectors are damaged, and where.
+ * @param {import('../app/marks.js').SurveyMarks} marks
+ * @param {string[]} others what else was found
+ */
+function damageVerdict(marks, others) {
+    const hurt = placesOf(marks).filter(it => it.counts[MARK.EDC] + it.counts[MARK.PARITY] > 0);
+    const where = hurt.some(place => isAllOver(place, marks.known)) ? texts.allOverDisc : told(texts.inPlaces, { n: hurt.length });
+    const count = told(texts.damagedOf, { n: marks.damaged(), sectors: told(texts.countOfModeOne, { n: marks.mode1() }) });
+    return say(texts.damagedWhere, { damaged: element('b', { class: 'bad-ink' }, count), places: [where, ...others].join('; ') });
 }
 
 /**
@@ -257,8 +264,8 @@ function verdict(app, image, { marks }) {
  * @returns {Child[]}
  */
 function otherBaseVerdict(app, image, base, damaged) {
-    return [element('span', {}, element('b', { class: 'warn-ink' }, 'No Mode 1 sector has the address of its block:'),
-        ` by the addresses, the base is probably ${base}, not ${image.base}.`,
-        damaged > 0 && ` ${countOf(damaged, 'sector is', 'sectors are')} damaged.`),
-    button('slim main', () => changeBase(app, base), `Set the base to ${base}`)];
+    const probably = told(texts.baseIsProbably, { base: String(base), own: String(image.base) });
+    return [element('span', {}, element('b', { class: 'warn-ink' }, texts.noAddressFits), ` ${probably}`,
+        damaged > 0 && ` ${told(texts.sectorsAreDamaged, { n: damaged })}`),
+    button('slim main', () => changeBase(app, base), told(texts.setBaseTo, { base: String(base) }))];
 }

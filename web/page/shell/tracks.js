@@ -1,7 +1,9 @@
 // The tracks of a disc in words, those of audio too.
 
 import { sheetOf } from '../../core/disc/cue.js';
-import { countOf, namesOf } from '../ui/index.js';
+import * as texts from '../texts/index.js';
+import { say, told } from '../texts/index.js';
+import { namesOf } from '../ui/index.js';
 
 /** @typedef {import('../app/state.js').Image} Image */
 /** @typedef {import('../ui/fill.js').Child} Child */
@@ -17,15 +19,15 @@ export function tracksInWords({ name, sheet, disc }) {
     const { tracks, points, files } = sheetOf(sheet);
     const isAudio = (/** @type {{ type: string }} */ { type }) => type === 'AUDIO' || type === 'CDG';
     const audio = tracks.filter(isAudio);
-    const data = countOf(tracks.length - audio.length, 'data track');
+    const data = told(texts.dataTracks, { n: tracks.length - audio.length });
     if (audio.length === 0) return [data];
     const own = audio.flatMap(track => points.filter(it => it.track === track && it.index === 1).map(it => files[it.file].name));
     const last = (/** @type {string} */ path) => path.replace(/^.*[/\\]/, '').toLowerCase();
     const others = [...new Set(own)].filter(it => last(it) !== last(name));
-    const more = others.length - MOST_NAMES;
+    const [few, more] = [namesOf(others.slice(0, MOST_NAMES)), others.length - MOST_NAMES];
     const missing = disc.tracks.some(({ file }) => file < 0);
-    const state = !missing ? 'not opened for editing' : others.length === 1 ? 'which is not here' : 'not all of them here';
-    const where = others.length === 0 ? ['in the same file']
-        : [...namesOf(others.slice(0, MOST_NAMES)), more > 0 && ` and ${more} more`, `, ${state}`];
-    return [`${tracks.length > audio.length ? `${data}, ` : ''}${countOf(audio.length, 'audio track')} (`, ...where, ')'];
+    const state = !missing ? texts.notForEditing : others.length === 1 ? texts.isNotHere : texts.notAllHere;
+    const where = others.length === 0 ? texts.inSameFile
+        : say(state, { names: more > 0 ? say(texts.namesAndMore, { names: few, n: more }) : few });
+    return [tracks.length > audio.length && `${data}, `, ...say(texts.audioTracks, { n: audio.length, where })];
 }

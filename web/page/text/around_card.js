@@ -3,6 +3,8 @@
 import { USER_SIZE } from '../../core/sectors/sector.js';
 import { bytesInside, charactersFrom } from '../../core/texts/boundaries.js';
 import { bytesAround } from '../../core/texts/context.js';
+import * as texts from '../texts/index.js';
+import { told } from '../texts/index.js';
 import { button, element, fill, hexOf } from '../ui/index.js';
 import { chosenEncoding, columnLabel, encodingLabel, signOf } from './encodings.js';
 
@@ -38,7 +40,7 @@ export class AroundCard {
         this.app = app;
         this.columns = 0;
         this.shown = /** @type {{ hit: Hit, around: Around } | null} */ (null);
-        this.card = element('section', { class: 'card', 'aria-label': 'The bytes around it', hidden: true });
+        this.card = element('section', { class: 'card', 'aria-label': texts.bytesAround, hidden: true });
         new ResizeObserver(() => {
             if (this.shown !== null && this.columns !== this.fitting()) this.draw(this.shown);
         }).observe(this.card);
@@ -66,11 +68,11 @@ export class AroundCard {
         this.columns = this.fitting() || 16;
         const label = columnLabel(encodingLabel(this.app.encoding), this.columns);
         const numbers = Array.from({ length: this.columns }, (_, i) => element('i', {}, i));
-        fill(this.card, element('header', {}, element('h2', {}, 'The bytes around it'),
-            button('slim bare', () => this.app.goTo(hit.block, hit.offset, true), 'Open the sector')),
+        fill(this.card, element('header', {}, element('h2', {}, texts.bytesAround),
+            button('slim bare', () => this.app.goTo(hit.block, hit.offset, true), texts.openTheSector)),
         element('div', { class: `hex around${this.columns === 8 ? ' cols8' : ''}`, tabindex: 0, role: 'group',
-            'aria-label': `The bytes around block ${hit.block} offset ${hit.offset}` },
-        element('div', { class: 'head', 'aria-hidden': 'true' }, element('span', { class: 'o' }, 'offset'),
+            'aria-label': told(texts.bytesAroundPlace, { block: String(hit.block), offset: String(hit.offset) }) },
+        element('div', { class: 'head', 'aria-hidden': 'true' }, element('span', { class: 'o' }, texts.offsetLabel),
             element('span', { class: 'b' }, ...numbers),
             element('span', { class: 't' }, label)), ...hexRows(this.app, hit, around, this.columns)));
     }
@@ -85,12 +87,12 @@ export class AroundCard {
 function hexRows(app, hit, { bytes: user, at }, columns) {
     const from = Math.max(Math.floor(at / columns) - ROWS_BEFORE, 0) * columns;
     const to = Math.min(from + ROWS * columns, user.length);
-    const texts = rowTexts(chosenEncoding(app), user, [from, at, Math.min(at + hit.size, to), to]);
+    const shownTexts = rowTexts(chosenEncoding(app), user, [from, at, Math.min(at + hit.size, to), to]);
     const rows = [];
     for (let row = from; row < to; row += columns) {
         const cells = [];
         for (let i = row; i < row + columns; i++) cells.push(byteBox(user[i], i >= at && i < at + hit.size));
-        const shown = texts.slice(row - from, row - from + columns)
+        const shown = shownTexts.slice(row - from, row - from + columns)
             .map((text, k) => row + k >= at && row + k < at + hit.size && text !== '' ? element('mark', {}, text) : text);
         rows.push(element('div', { class: 'line' }, element('span', { class: 'o' }, row % USER_SIZE),
             element('span', { class: 'b' }, ...cells),
@@ -117,10 +119,10 @@ function byteBox(byte, hit) {
  */
 function rowTexts(encoding, user, ends) {
     const [from] = ends;
-    const texts = Array.from({ length: ends[ends.length - 1] - from }, () => '');
+    const signs = Array.from({ length: ends[ends.length - 1] - from }, () => '');
     ends.slice(1).forEach((end, i) => {
         const begin = ends[i] + (i === 0 ? Math.min(bytesInside(encoding, user, from), end - from) : 0);
-        for (const { at, text } of charactersFrom(encoding, user.subarray(0, end), begin)) texts[at - from] = signOf(text);
+        for (const { at, text } of charactersFrom(encoding, user.subarray(0, end), begin)) signs[at - from] = signOf(text);
     });
-    return texts;
+    return signs;
 }

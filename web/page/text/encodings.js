@@ -2,6 +2,8 @@
 
 import { ENCODINGS, USUAL_ENCODING, encodingOf, tableTextOf } from '../../core/texts/encodings.js';
 import { tableEncoding } from '../../core/texts/table.js';
+import * as texts from '../texts/index.js';
+import { say } from '../texts/index.js';
 import { element, fill, messageOf, nameOf, notice, shownName } from '../ui/index.js';
 
 /** @typedef {import('../app/state.js').App} App */
@@ -83,8 +85,8 @@ export async function takeTable(app, file) {
         const table = tableEncoding(text);
         sources.set(table, text);
         app.addTable(file.name, table);
-        return notice('good', ['Loaded: ', nameOf(file.name)], 'It is the encoding now, here and where bytes are shown as text.');
+        return notice('good', say(texts.fileLoaded, { name: nameOf(file.name) }), texts.isEncodingNow);
     } catch (error) {
-        return notice('bad', ['Not a table that can be read: ', nameOf(file.name)], messageOf(error));
+        return notice('bad', say(texts.noReadableTable, { name: nameOf(file.name) }), messageOf(error));
     }
 }

@@ -2,7 +2,9 @@
 
 import { USER_SIZE } from '../../core/module/numbers.js';
 import { contextOf, contextsOf, filesWith } from '../../core/texts/context.js';
-import { button, copyButton, counted, element, fill, keyed, oneStop, seen, shownPaths, term } from '../ui/index.js';
+import * as texts from '../texts/index.js';
+import { told } from '../texts/index.js';
+import { button, copyButton, element, fill, keyed, oneStop, seen, shownPaths, term } from '../ui/index.js';
 import { chosenEncoding, signOf } from './encodings.js';
 
 /** @typedef {import('../app/state.js').App} App */
@@ -46,7 +48,7 @@ export class HitsCard {
         this.reader = 0;
         this.body = element('tbody', {});
         oneStop(this.body, 'button');
-        this.card = element('section', { class: 'card', 'aria-label': 'Hits' });
+        this.card = element('section', { class: 'card', 'aria-label': texts.theHits });
     }
 
     /** @param {Search} search */
@@ -54,15 +56,16 @@ export class HitsCard {
         this.search = search;
         this.shown = ROWS_SHOWN;
         this.contexts = new Map();
-        const head = element('header', {}, element('h2', {}, search.count === 1 ? '1 hit' : `${counted(search.count)} hits`),
-            element('span', { class: 'small quiet' }, `in ${search.seconds.toFixed(1)} s`),
+        const head = element('header', {}, element('h2', {}, told(texts.hitsFound, { n: search.count })),
+            element('span', { class: 'small quiet' }, told(texts.foundInSeconds, { seconds: search.seconds.toFixed(1) })),
             search.count > search.hits.length && element('span', { class: 'tag warn' },
-                `only the first ${counted(search.hits.length)} are listed`),
-            copyButton('slim bare', () => this.table(), 'Copy as a table', ' with file and text'));
+                told(texts.onlyFirstListed, { n: search.hits.length })),
+            copyButton('slim bare', () => this.table(), texts.copyAsTable, ` ${texts.withFileAndText}`));
         const column = (/** @type {string} */ name, /** @type {Child} */ shown) => element('th',
             { scope: 'col', class: name === 'n' ? 'n' : '' }, shown);
-        const table = element('table', { class: 'hits' }, element('thead', {}, element('tr', {}, column('n', term('block', 'Block')),
-            column('n', term('offset', 'Offset')), column('', 'File'), column('', 'Context'))), this.body);
+        const columns = element('tr', {}, column('n', term('block', texts.columnBlock)), column('n', term('offset', texts.columnOffset)),
+            column('', texts.columnFile), column('', texts.columnContext));
+        const table = element('table', { class: 'hits' }, element('thead', {}, columns), this.body);
         fill(this.card, head, element('div', { class: 'scroll fit' }, table), this.more());
         this.draw();
     }
@@ -75,7 +78,7 @@ export class HitsCard {
             next.remove();
             this.draw();
             this.card.append(...[this.more()].filter(it => it !== null).map(it => /** @type {Node} */ (it)));
-        }, `Show ${counted(Math.min(ROWS_SHOWN, search.hits.length - this.shown))} more`);
+        }, told(texts.showMoreHits, { n: Math.min(ROWS_SHOWN, search.hits.length - this.shown) }));
         return element('div', { class: 'pad' }, next);
     }
 
@@ -95,13 +98,15 @@ export class HitsCard {
     row(hit, i, line) {
         const { app } = this;
         const files = app.files ? filesWith(app.files.files, hit) : [];
-        const tags = [line > 0 && element('span', { class: 'tag good' }, `in the script, line ${line}`),
-            hit.offset + hit.size > USER_SIZE && element('span', { class: 'tag' }, 'over a border of blocks'),
-            app.files !== null && files.length === 0 && element('span', { class: 'tag' }, 'in no file')];
+        const tags = [line > 0 && element('span', { class: 'tag good' }, told(texts.inScriptLine, { line: String(line) })),
+            hit.offset + hit.size > USER_SIZE && element('span', { class: 'tag' }, texts.overBlockBorder),
+            app.files !== null && files.length === 0 && element('span', { class: 'tag' }, texts.inNoFile)];
         const place = element('td', { class: 'wide' }, ...this.context(i), ...tags);
-        const choose = button('plain', () => this.choose(i), hit.block, element('span', { class: 'hide' }, `, hit ${i + 1}`));
+        const choose = button('plain', () => this.choose(i), hit.block,
+            element('span', { class: 'hide' }, `, ${told(texts.hitNumber, { number: String(i + 1) })}`));
         const made = element('tr', { class: i === this.chosen ? 'on' : '', click: () => this.choose(i) },
-            element('td', { class: 'n', 'data-l': 'block' }, choose), element('td', { class: 'n', 'data-l': 'offset' }, hit.offset),
+            element('td', { class: 'n', 'data-l': texts.blockLabel }, choose),
+            element('td', { class: 'n', 'data-l': texts.offsetLabel }, hit.offset),
             element('td', { class: 'mono small' }, element('bdi', {}, shownPaths(files, ' ') || '–')), place);
         if (i === this.chosen) made.setAttribute('aria-current', 'true');
         return keyed(String(i), made);

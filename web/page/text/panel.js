@@ -1,7 +1,9 @@
 // The panel Text: find, the hits, and replacing them in the script.
 
 import { filledUp } from '../../core/script/replace_bytes.js';
-import { announce, button, countOf, element, fill, hexOf, isCancelled, jobBar, messageOf, notice } from '../ui/index.js';
+import * as texts from '../texts/index.js';
+import { say, told } from '../texts/index.js';
+import { announce, button, element, fill, hexOf, isCancelled, jobBar, messageOf, notice } from '../ui/index.js';
 import { said, sayAt, sentence, term } from '../ui/index.js';
 import { AroundCard, readAround } from './around_card.js';
 import { bindEncodings, chosenEncoding, encodingLabel, takeTable } from './encodings.js';
@@ -37,7 +39,7 @@ class TextPanel {
             } });
         this.choice = element('select', { id: 'find-encoding' });
         bindEncodings(app, this.choice);
-        this.table = element('input', { type: 'file', class: 'hide', tabindex: -1, accept: '.tbl,.txt', 'aria-label': 'A table to load',
+        this.table = element('input', { type: 'file', class: 'hide', tabindex: -1, accept: '.tbl,.txt', 'aria-label': texts.tableToLoad,
             change: () => this.load() });
         this.hint = element('p', { class: 'small quiet hint' });
         this.state = said();
@@ -74,22 +76,23 @@ class TextPanel {
 
     askCard() {
         const label = (/** @type {string} */ target, /** @type {string} */ text) => element('label', { for: target }, text);
-        return element('section', { class: 'card pad stack tight', 'aria-label': 'Find' }, element('div', { class: 'ask' },
-            element('div', {}, label('find-text', 'Find this text'), this.field),
-                element('div', {}, label('find-encoding', 'Encoding'), this.choice),
-            button('', () => this.table.click(), 'Load a .tbl file…'), button('main', () => this.find(), 'Find')),
+        return element('section', { class: 'card pad stack tight', 'aria-label': texts.findText }, element('div', { class: 'ask' },
+            element('div', {}, label('find-text', texts.findThisText), this.field),
+                element('div', {}, label('find-encoding', texts.findEncoding), this.choice),
+            button('', () => this.table.click(), texts.loadTableFile), button('main', () => this.find(), texts.findText)),
         this.hint, this.search.place, this.texts.part);
     }
 
     /** The bytes of the text that is searched for, or why it has none. */
     drawHint() {
-        if (this.field.value === '') return fill(this.hint, 'Searches the ', term('user', 'data'),
-            ' of every sector, including text that runs over into the next one.');
+        if (this.field.value === '') return fill(this.hint,
+            ...say(texts.searchesEverySector, { data: term('user', texts.searchedData) }));
         try {
             const bytes = chosenEncoding(this.app).units(this.field.value).map(([usual]) => hexOf(usual).replace(/..(?=.)/g, '$& '));
             this.field.setAttribute('aria-invalid', 'false');
-            return fill(this.hint, `${countOf(bytes.join(' ').split(' ').length, 'byte')}: `, element('span', { class: 'mono' },
-                bytes.slice(0, 24).join(' ')), bytes.length > 24 ? '…' : '');
+            const shown = element('span', { class: 'mono' }, bytes.slice(0, 24).join(' '));
+            return fill(this.hint, ...say(texts.bytesAre, { n: bytes.join(' ').split(' ').length, bytes: shown }),
+                bytes.length > 24 ? '…' : '');
         } catch (error) {
             this.field.setAttribute('aria-invalid', 'true');
             return fill(this.hint, element('b', { class: 'bad-ink' }, messageOf(error)));
@@ -127,16 +130,15 @@ class TextPanel {
         const { image } = app;
         const asked = { text: this.field.value, encoding: chosenEncoding(app) };
         if (asked.text === '') return this.field.focus();
-        if (image === null) return fill(this.state, notice('warn', 'No image is open.', 'Open the disc image first.'));
+        if (image === null) return fill(this.state, notice('warn', texts.noImageIsOpen, texts.openDiscFirst));
         if (this.field.getAttribute('aria-invalid') === 'true') return this.field.focus();
-        if (this.adding) return fill(this.state, notice('warn', 'Lines are still being made.',
-            'Search again when that has ended, or press Cancel there first.'));
+        if (this.adding) return fill(this.state, notice('warn', texts.linesBeingMade, texts.searchWhenEnded));
         this.forget();
         try {
             const found = await this.search.find(image, asked);
             if (found !== null) await this.take(found, image);
         } catch (error) {
-            fill(this.state, isCancelled(error) ? notice('plain', 'Cancelled.', 'The search has not come to its end.')
+            fill(this.state, isCancelled(error) ? notice('plain', texts.jobCancelled, texts.searchNotEnded)
                 : notice('bad', messageOf(error)));
         }
         return undefined;
@@ -151,16 +153,15 @@ class TextPanel {
         fill(this.state);
         if (!this.isAsked(found)) return;
         if (found.count === 0) {
-            fill(this.state, notice('plain', `No hit in ${encodingLabel(app.encoding)}.`,
-                `The user data of ${countOf(image.sectors, 'sector')} were searched to the end. `,
-                'Another encoding? A game may also have its own table, or packed texts.'));
-            announce('No hit.');
+            fill(this.state, notice('plain', told(texts.noHitIn, { encoding: encodingLabel(app.encoding) }),
+                told(texts.searchedToEnd, { sectors: told(texts.countOfSectors, { n: image.sectors }) }), ' ', texts.anotherEncoding));
+            announce(texts.noHit);
             return;
         }
         this.found = found;
         this.results.hidden = false;
         this.hits.take(found);
-        announce(countOf(found.count, 'hit'));
+        announce(told(texts.hitsFound, { n: found.count }));
         this.chosen = -1;
         await this.next();
         this.replace.input.focus();
@@ -215,7 +216,7 @@ class TextPanel {
             return;
         }
         await this.choose(this.chosen < 0 ? 0 : this.chosen);
-        sayAt(this.replace.said, notice('good', 'All hits are in the script.', 'Open Script and press Check to test them.'));
+        sayAt(this.replace.said, notice('good', texts.allHitsInScript, texts.checkToTest));
     }
 
     /** @param {() => Promise<void>} job that makes lines, of which one runs at a time */
@@ -236,11 +237,11 @@ class TextPanel {
         if (app.image === null) return;
         try {
             app.addLines(await linesReplacing(app.calls, app.image, hit, fresh, old));
-            announce('Added to the script.');
+            announce(texts.addedToScript);
             fill(this.replace.said);
             await this.next();
         } catch (error) {
-            sayAt(this.replace.said, notice('bad', 'Nothing was added to the script.', sentence(error)));
+            sayAt(this.replace.said, notice('bad', texts.nothingAdded, sentence(error)));
         }
     }
 
@@ -254,7 +255,7 @@ class TextPanel {
         if (found === null || image === null) return;
         try {
             const { lines, left } = await app.runOnImage((signal, cancel) => {
-                const bar = jobBar('Making the lines', cancel, { noun: 'hits' });
+                const bar = jobBar(texts.makingLines, cancel, { noun: texts.makingOfHits });
                 fill(this.replace.job, ...bar.parts);
                 return linesForAll(app.calls, image, chosenEncoding(app), found.hits.filter(hit => app.script.lineAt(hit) === 0),
                     size => filledUp(fresh, size, filling), { signal, progress: bar.things });
@@ -262,13 +263,12 @@ class TextPanel {
             if (app.image !== image || this.found !== found) return;
             if (lines.length > 0) app.addLines(lines);
             await this.next();
-            const rest = left.length === 0 ? 'Open Script and press Check to test them.'
-                : `${countOf(left.length, 'hit')} left: ${left.slice(0, 5).join('; ')}${left.length > 5 ? '; …' : '.'}`;
-            sayAt(this.replace.said, notice(left.length > 0 ? 'warn' : 'good', `${countOf(lines.length, 'line')} added to the script.`,
-                rest));
+            const rest = left.length === 0 ? texts.checkToTest
+                : told(texts.hitsLeft, { n: left.length, why: left.slice(0, 5).join('; ') + (left.length > 5 ? '; …' : '.') });
+            sayAt(this.replace.said, notice(left.length > 0 ? 'warn' : 'good', told(texts.linesAdded, { n: lines.length }), rest));
         } catch (error) {
-            const rest = 'Nothing was added to the script.';
-            if (app.image === image) sayAt(this.replace.said, isCancelled(error) ? notice('plain', 'Cancelled.', rest)
+            const rest = texts.nothingAdded;
+            if (app.image === image) sayAt(this.replace.said, isCancelled(error) ? notice('plain', texts.jobCancelled, rest)
                 : notice('bad', sentence(error), rest));
         } finally {
             fill(this.replace.job);

@@ -3,7 +3,9 @@
 import { filledUp } from '../../core/script/replace_bytes.js';
 import { encodeText, fillsOf, spaceIn } from '../../core/texts/encoding.js';
 import { bytesOfHex, hexText } from '../../core/texts/hex.js';
-import { button, countOf, counted, element, fill, hexOf, isDisabled, messageOf, notice, said, sayAt } from '../ui/index.js';
+import * as texts from '../texts/index.js';
+import { say, told } from '../texts/index.js';
+import { button, element, fill, hexOf, isDisabled, messageOf, notice, said, sayAt } from '../ui/index.js';
 import { setDisabled, shownText } from '../ui/index.js';
 import { chosenEncoding } from './encodings.js';
 import { replacingLine } from './hits.js';
@@ -37,26 +39,25 @@ export class ReplaceCard {
         this.target = /** @type {Target | null} */ (null);
         this.input = element('input', { type: 'text', class: 'mono', id: 'new-text', autocomplete: 'off', spellcheck: 'false',
             'aria-describedby': 'new-length', input: () => this.draw(), keydown: event => this.pressed(event) });
-        this.fill = element('select', { class: 'short', 'aria-label': 'Fill with', change: () => this.draw() });
+        this.fill = element('select', { class: 'short', 'aria-label': texts.fillWith, change: () => this.draw() });
         this.filled = /** @type {Encoding | null} the one to which the choices belong */ (null);
-        this.other = element('input', { type: 'text', class: 'short mono', 'aria-label': 'The byte to fill with, two digits',
-            maxlength: 2, value: 'FF',
-            hidden: true, input: () => this.draw() });
+        this.other = element('input', { type: 'text', class: 'short mono', 'aria-label': texts.byteToFillWith,
+            maxlength: 2, value: 'FF', hidden: true, input: () => this.draw() });
         this.head = element('header', {});
         this.old = element('div', {});
         this.length = element('span', { class: 'small', id: 'new-length', role: 'status' });
         this.rest = element('div', { class: 'stack' });
         this.job = element('div', { class: 'stack' });
         this.said = said();
-        this.add = button('main', () => this.addLine(), 'Replace');
+        this.add = button('main', () => this.addLine(), texts.replaceText);
         this.all = button('', () => this.addAll(), '');
-        const filling = element('span', { class: 'row small quiet' }, 'Fill with', this.fill, this.other);
-        this.card = element('section', { class: 'card', 'aria-label': 'Replace', hidden: true }, this.head,
+        const filling = element('span', { class: 'row small quiet' }, texts.fillWith, this.fill, this.other);
+        const buttons = element('div', { class: 'row' }, this.add, this.all, button('slim bare', () => owner.skip(), texts.skipHit));
+        this.card = element('section', { class: 'card', 'aria-label': texts.replaceText, hidden: true }, this.head,
             element('div', { class: 'pad stack' }, this.old,
-            element('div', {}, element('label', { for: 'new-text' }, 'New text'), this.input),
-            element('div', { class: 'row spread' }, this.length, filling), this.rest,
-            element('div', { class: 'row' }, this.add, this.all, button('slim bare', () => owner.skip(), 'Skip ▸')), this.job, this.said,
-            element('p', { class: 'small quiet' }, element('kbd', {}, 'Enter'), ' replaces and goes to the next hit.')));
+            element('div', {}, element('label', { for: 'new-text' }, texts.newText), this.input),
+            element('div', { class: 'row spread' }, this.length, filling), this.rest, buttons, this.job, this.said,
+            element('p', { class: 'small quiet' }, ...say(texts.replacesAndNext, { key: element('kbd', {}, texts.enterKey) }))));
     }
 
     /** @param {Target | null} target */
@@ -81,8 +82,8 @@ export class ReplaceCard {
         if (this.filled === encoding) return;
         this.filled = encoding;
         const choices = fillsOf(encoding).map(({ bytes, name }) => [hexText(bytes), `${hexText(bytes, ' ')} ${name}`.trim()]);
-        if (spaceIn(encoding) === null) choices.unshift([NO_FILL, 'choose…']);
-        fill(this.fill, ...[...choices, [OTHER_FILL, 'another byte…']].map(([value, label]) => element('option', { value }, label)));
+        if (spaceIn(encoding) === null) choices.unshift([NO_FILL, texts.chooseFill]);
+        fill(this.fill, ...[...choices, [OTHER_FILL, texts.anotherByte]].map(([value, label]) => element('option', { value }, label)));
     }
 
     /** The bytes to fill with, or null if they are no byte. */
@@ -97,21 +98,21 @@ export class ReplaceCard {
         const { hit, number, of, old, left, line } = target;
         this.drawFills();
         this.other.hidden = this.fill.value !== OTHER_FILL;
-        fill(this.head, element('h2', {}, `Replace: block ${hit.block} offset ${hit.offset}`),
-            element('span', { class: 'small quiet' }, `hit ${counted(number)} of ${counted(of)}`));
-        fill(this.old, element('span', { class: 'label' }, `Old text: ${countOf(old.length, 'byte')}`),
+        fill(this.head, element('h2', {}, told(texts.replaceAtPlace, { block: String(hit.block), offset: String(hit.offset) })),
+            element('span', { class: 'small quiet' }, told(texts.hitOfHits, { number, count: of })));
+        fill(this.old, element('span', { class: 'label' }, told(texts.oldTextHas, { n: old.length })),
             element('p', { class: 'mono old-text' }, shownText(chosenEncoding(this.app).text(old))));
         const { bytes, fault } = this.fresh();
         const filling = this.filling();
         const filled = filledTo(bytes, old.length, filling);
         const ready = filled !== null && fault === '' && this.input.value !== '';
         const replaces = this.rewritten(target, old) !== '';
-        fill(this.add, replaces ? `Update line ${line}` : 'Replace');
+        fill(this.add, replaces ? told(texts.updateLine, { line: String(line) }) : texts.replaceText);
         this.add.classList.toggle('main', line === 0 || replaces);
         fill(this.length, ...this.lengthWords(bytes, old.length, fault));
         this.input.setAttribute('aria-invalid', String(fault !== '' || bytes.length > old.length));
         fill(this.rest, gauge(bytes, old.length, filling), ...this.advice(bytes, old, filled, fault, line));
-        fill(this.all, `Replace all ${counted(left)}`);
+        fill(this.all, told(texts.replaceAll, { n: left }));
         const had = document.activeElement === this.all;
         this.all.hidden = left < 2;
         if (had && left < 2) this.input.focus();
@@ -126,11 +127,12 @@ export class ReplaceCard {
      */
     lengthWords(bytes, size, fault) {
         if (fault !== '') return [element('b', { class: 'bad-ink' }, fault)];
-        const more = bytes.length - size;
-        if (more > 0) return [element('b', { class: 'bad-ink' }, `${countOf(bytes.length, 'byte')}, ${more} too many`),
-            ` for the ${size} of the old text`];
-        const rest = more === 0 ? ', just as many' : `, and ${-more} to fill`;
-        return [element('b', { class: 'good-ink' }, countOf(bytes.length, 'byte')), ` of ${size}${rest}`];
+        const n = bytes.length;
+        const more = n - size;
+        const has = more > 0 ? told(texts.bytesTooMany, { n, more: String(more) }) : told(texts.bytesOfNewText, { n });
+        const facts = { bytes: element('b', { class: more > 0 ? 'bad-ink' : 'good-ink' }, has), size: String(size) };
+        if (more < 0) return say(texts.moreToFill, { ...facts, more: String(-more) });
+        return say(more > 0 ? texts.forOldText : texts.justAsMany, facts);
     }
 
     /**
@@ -144,20 +146,16 @@ export class ReplaceCard {
      */
     advice(bytes, old, filled, fault, line) {
         const more = bytes.length - old.length;
-        const say = (/** @type {string} */ text) => [element('p', { class: 'say bad' }, text)];
+        const bad = (/** @type {string} */ text) => [element('p', { class: 'say bad' }, text)];
         if (fault !== '' || this.target === null) return [];
-        if (more > 0) {
-            return say(`A patch cannot move bytes: the new text needs as many bytes as the old one, or fewer. Shorten it by\u00A0${more}.`);
-        }
-        if (this.input.value === '') return [element('p', { class: 'say plain' }, 'Type the new text.')];
-        if (filled === null) return say(`${countOf(-more, 'byte')} cannot be filled with that. Choose another byte.`);
+        if (more > 0) return bad(`${texts.cannotMoveBytes} ${told(texts.shortenBy, { more: String(more) })}`);
+        if (this.input.value === '') return [element('p', { class: 'say plain' }, texts.typeNewText)];
+        if (filled === null) return bad(`${told(texts.cannotFill, { n: -more })} ${texts.chooseAnotherByte}`);
         const out = this.rewritten(this.target, filled);
-        const known = line > 0 && out === '' ? `Line ${line} of the script writes here already. A second line would meet other old bytes.`
-            : '';
-        return [element('div', {}, element('span', { class: 'label' }, out ? `This line takes the place of line ${line}`
-            : 'This line goes into the script'),
-        element('p', { class: 'line-out' }, out || replacingLine(this.target.hit, filled, old))),
-        known !== '' && element('p', { class: 'say warn' }, known)];
+        const its = { line: String(line) };
+        return [element('div', {}, element('span', { class: 'label' }, out ? told(texts.takesPlaceOfLine, its) : texts.goesIntoScript),
+            element('p', { class: 'line-out' }, out || replacingLine(this.target.hit, filled, old))),
+        line > 0 && out === '' && element('p', { class: 'say warn' }, told(texts.lineWritesHere, its))];
     }
 
     /**
@@ -185,7 +183,7 @@ export class ReplaceCard {
         if (line === '') return this.owner.add(target.hit, filled, target.old);
         this.app.replaceLine(target.line, line);
         this.owner.skip();
-        sayAt(this.said, notice('good', `Line ${target.line} is updated.`));
+        sayAt(this.said, notice('good', told(texts.lineUpdated, { line: String(target.line) })));
     }
 
     addAll() {

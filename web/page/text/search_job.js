@@ -1,6 +1,7 @@
 // The search of the panel Text: one at a time, with its bar.
 
 import { searchText } from '../../core/texts/search.js';
+import * as texts from '../texts/index.js';
 import { element, fill, jobBar } from '../ui/index.js';
 import { MOST_HITS } from './hits.js';
 
@@ -41,7 +42,7 @@ export class SearchJob {
         try {
             return await app.runOnImage(async (signal, cancel) => {
                 this.cancel = cancel;
-                const bar = jobBar('Searching', cancel);
+                const bar = jobBar(texts.searching, cancel);
                 fill(this.place, ...bar.parts);
                 const began = performance.now();
                 const [{ count, hits } = { count: 0, hits: [] }] = await searchText(app.crew, image, { text: asked.text,

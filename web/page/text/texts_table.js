@@ -11,7 +11,9 @@ import { SEARCHED, encodingOf } from '../../core/texts/encodings.js';
 import { encodingsOfRows, leftRowText, replaceList, rowsOfList } from '../../core/texts/list.js';
 import { fileReader } from '../open/index.js';
 import { downloadBytes } from '../save/index.js';
-import { announce, button, countOf, counted, element, fill, isCancelled, jobBar, messageParts, nameOf, notice } from '../ui/index.js';
+import * as texts from '../texts/index.js';
+import { say, told } from '../texts/index.js';
+import { announce, button, element, fill, isCancelled, jobBar, messageParts, nameOf, notice } from '../ui/index.js';
 import { runAt, showFailure, shownText, tableCard } from '../ui/index.js';
 import { AroundCard, readAround } from './around_card.js';
 import { chosenEncoding, tableSource } from './encodings.js';
@@ -43,14 +45,14 @@ export class TextsTable {
         this.around = new AroundCard(app);
         /** @type {HTMLInputElement} */
         this.input = element('input', { type: 'file', class: 'hide', tabindex: -1, accept: '.tsv,.csv,.txt',
-            'aria-label': 'A table to import', change: () => this.chosen() });
+            'aria-label': texts.tableToImport, change: () => this.chosen() });
         this.job = element('div', { class: 'stack' });
         this.said = element('div', { role: 'status' });
         this.left = element('div', { class: 'side' });
         this.part = element('div', { class: 'stack tight' }, element('div', { class: 'row texts-table' },
-            element('span', { class: 'small quiet' }, 'All texts of the disc, as a table for a spreadsheet:'),
-            button('slim', () => void this.save(), 'Export texts…'), button('slim', () => this.input.click(), 'Import a table…')), this.job,
-        this.said, this.input);
+            element('span', { class: 'small quiet' }, texts.allTextsAsTable),
+            button('slim', () => void this.save(), texts.exportTexts),
+            button('slim', () => this.input.click(), texts.importTable)), this.job, this.said, this.input);
         this.results = element('div', { class: 'two even', hidden: true }, this.left, element('div', { class: 'side' }, this.around.card));
         app.on('image', () => this.forget());
         app.addTaker(file => this.isTable(file));
@@ -72,7 +74,7 @@ export class TextsTable {
     async work(name, noun, unmade, job) {
         const { app } = this;
         const { image } = app;
-        if (image === null) return void fill(this.said, notice('warn', 'No image is open.', 'Open the disc image first.'));
+        if (image === null) return void fill(this.said, notice('warn', texts.noImageIsOpen, texts.openDiscFirst));
         return runAt(this.job, async () => {
             this.forget();
             try {
@@ -83,7 +85,7 @@ export class TextsTable {
                 });
                 if (app.image === image) fill(this.said, said);
             } catch (error) {
-                if (app.image === image) fill(this.said, isCancelled(error) ? notice('plain', 'Cancelled.', unmade)
+                if (app.image === image) fill(this.said, isCancelled(error) ? notice('plain', texts.jobCancelled, unmade)
                     : notice('bad', unmade, ...messageParts(error, [image.name])));
             } finally {
                 fill(this.job);
@@ -101,22 +103,20 @@ export class TextsTable {
 
     /** Saves the table that `cdscript texts` prints. */
     save() {
-        return this.work('Looking for texts', '', 'No table was saved.', async (image, bar, signal) => {
+        return this.work(texts.lookingForTexts, '', texts.noTableSaved, async (image, bar, signal) => {
             const { part, files } = await inFileOrder(image.part);
             const how = { asked: this.asked(), signal, progress: bar.sectors };
             const pieces = [];
-            let texts = 0;
+            let all = 0;
             for await (const { text, count } of tableOfTexts(this.app.crew, part, stretchesOf(part, files), how)) {
                 pieces.push(text);
-                texts += count;
+                all += count;
             }
-            if (texts === 0) {
-                return notice('plain', 'No text was found.', 'Another encoding? A game may also have its own table, or packed texts.');
-            }
+            if (all === 0) return notice('plain', texts.noTextFound, texts.anotherEncoding);
             const name = `${image.name.replace(/\.[^.]*$/, '')} (texts).tsv`;
             downloadBytes(pieces, name);
-            const next = 'Write the new ones in its column “new”, and import it.';
-            return notice('good', ['Saved: ', nameOf(name)], `It has ${countOf(texts, 'text')}. ${next}`);
+            return notice('good', say(texts.fileSaved, { name: nameOf(name) }),
+                `${told(texts.tableHasTexts, { n: all })} ${texts.writeNewTexts}`);
         });
     }
 
@@ -140,7 +140,7 @@ export class TextsTable {
      */
     take(file) {
         const { app } = this;
-        return this.work('Making the lines', 'rows', 'Nothing was added to the script.', async (image, bar, signal) => {
+        return this.work(texts.makingLines, texts.makingOfRows, texts.nothingAdded, async (image, bar, signal) => {
             const rows = await rowsOfList(fileReader(file), file.name);
             const { part } = await inFileOrder(image.part);
             const encoding = chosenEncoding(app);
@@ -150,7 +150,7 @@ export class TextsTable {
             const { parts, left } = await replaceList(app.calls, part, rows, encodingsOfRows(given, isTable), null, watch);
             const script = parts.script(app.calls);
             if (script.patches > 0) await assertFits(app.calls, image, script);
-            if (script.long) throw new Fault('The script would be longer than cdpatch takes. cdscript replace --list makes it.');
+            if (script.long) throw new Fault(texts.scriptLongerThanTaken);
             if (app.image !== image) return null;
             if (script.patches > 0) {
                 app.addLines(new TextDecoder().decode(joinedBytes(script.pieces.slice(1))).trimEnd().split('\n'));
@@ -166,12 +166,12 @@ export class TextsTable {
      * @param {number} lines
      */
     madeNotice(fit, left, lines) {
-        const added = lines === 0 ? 'Nothing was added to the script.' : `${countOf(lines, 'line')} added to the script.`;
-        const rows = left === 0 ? `${fit === 1 ? 'The new text fits' : `All ${counted(fit)} new texts fit`}.`
-            : `${countOf(fit, 'new text')} ${fit === 1 ? 'fits' : 'fit'}, ${counted(left)} ${left === 1 ? 'does' : 'do'} not.`;
+        const added = lines === 0 ? texts.nothingAdded : told(texts.linesAdded, { n: lines });
+        const rows = left === 0 ? told(texts.newTextsFit, { n: fit })
+            : told(texts.someTextsFit, { n: fit, others: told(texts.othersDoNot, { n: left }) });
         announce(`${added} ${rows}`);
         return notice(left === 0 ? 'good' : 'warn', added, rows, lines > 0 && element('div', { class: 'row' },
-            button('slim', () => this.app.showPanel('script'), 'Open Script')));
+            button('slim', () => this.app.showPanel('script'), texts.openScriptPanel)));
     }
 
     /**
@@ -184,13 +184,12 @@ export class TextsTable {
         this.results.hidden = left.length === 0;
         if (left.length === 0) return;
         const byNumber = new Map(rows.map(row => [row.number, row]));
-        const names = ['Row', 'Block, offset', 'Text', 'Why it does not fit'];
+        const names = [texts.columnRow, texts.columnPlace, texts.columnText, texts.columnWhyNot];
         const head = element('tr', {}, ...names.map(name => element('th', { scope: 'col' }, name)));
         const shown = left.slice(0, MOST_ROWS).map(it => this.leftRow(image, /** @type {ListRow} */ (byNumber.get(it.number)), it.why));
-        const more = left.length > MOST_ROWS ? `and ${counted(left.length - MOST_ROWS)} more, which Copy has too. ` : '';
-        fill(this.left, tableCard(`${countOf(left.length, 'row')} ${left.length === 1 ? 'does' : 'do'} not fit`, head, shown,
-            left.map(it => `${leftRowText(it)}\n`).join(''),
-            `${more}Press a row to see the bytes at its place. Correct it in the table, and import that again.`));
+        const more = left.length > MOST_ROWS ? `${told(texts.moreRowsCopied, { n: left.length - MOST_ROWS })} ` : '';
+        fill(this.left, tableCard(told(texts.rowsDoNotFit, { n: left.length }), head, shown,
+            left.map(it => `${leftRowText(it)}\n`).join(''), more + texts.pressRow));
     }
 
     /**
@@ -201,7 +200,7 @@ export class TextsTable {
     leftRow(image, row, why) {
         const { number, block, offset, text, fresh } = row;
         const open = element('button', { type: 'button', class: 'fold', click: () => void this.showPlace(image, row) }, number);
-        const place = element('td', { class: 'nowrap', 'data-l': 'at' }, block < 0 ? '–' : `${block}, ${offset}`);
+        const place = element('td', { class: 'nowrap', 'data-l': texts.placeLabel }, block < 0 ? '–' : `${block}, ${offset}`);
         return element('tr', {}, element('td', {}, open), place, element('td', { class: 'mono small wide' }, shownText(text), ' → ',
             shownText(fresh)), element('td', { class: 'wide' }, shownText(why)));
     }

@@ -9,22 +9,27 @@ import { LANGUAGE } from './english.js';
  * @typedef {Text extends `${string}{${infer Name}}${infer Rest}` ? Name | NamesIn<Rest> : never} NamesIn
  */
 /**
+ * The same and, if it has several forms, the number that chooses one.
+ * @template {string} Text
+ * @typedef {NamesIn<Text> | (Text extends `${string}|${string}` ? 'n' : never)} Given
+ */
+/**
  * What goes into a text, by the names in its braces.
  * @template {string} Text
  * @template Part
- * @typedef {[NamesIn<Text>] extends [never] ? [] : [{ [Name in NamesIn<Text>]: Part }]} Parts
+ * @typedef {[Given<Text>] extends [never] ? [] : [{ [Name in Given<Text>]: Part }]} Parts
  */
 
-const counts = new Intl.PluralRules(LANGUAGE);
-const numbers = new Intl.NumberFormat(LANGUAGE);
-const { pluralCategories } = counts.resolvedOptions();
+/** What knows the counts of the language, made when it is first asked: a start can do without the milliseconds that this takes. */
+const asked = { counts: /** @type {Intl.PluralRules | null} */ (null), numbers: /** @type {Intl.NumberFormat | null} */ (null) };
 
 /**
  * A count with separators, as 1,329. Blocks and offsets have none, so that they can be copied into a script.
  * @param {number} number
  */
 export function counted(number) {
-    return numbers.format(number);
+    asked.numbers = asked.numbers || new Intl.NumberFormat(LANGUAGE);
+    return asked.numbers.format(number);
 }
 
 /**
@@ -34,8 +39,10 @@ export function counted(number) {
  */
 function formOf(text, count) {
     const forms = text.split('|');
-    if (typeof count !== 'number') return forms[0];
-    return forms[Math.min(pluralCategories.indexOf(counts.select(count)), forms.length - 1)];
+    if (forms.length === 1 || typeof count !== 'number') return forms[0];
+    asked.counts = asked.counts || new Intl.PluralRules(LANGUAGE);
+    const { pluralCategories } = asked.counts.resolvedOptions();
+    return forms[Math.min(pluralCategories.indexOf(asked.counts.select(count)), forms.length - 1)];
 }
 
 /**

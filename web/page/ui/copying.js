@@ -1,5 +1,6 @@
 // Buttons that copy a text, and say so for a moment.
 
+import * as texts from '../texts/index.js';
 import { announce, button, element } from './dom.js';
 import { fill } from './fill.js';
 
@@ -18,7 +19,7 @@ const copying = { label: '', says: '', ends: 0 };
  */
 export function copyButton(looks, text, label, what = '') {
     const made = button(looks, async () => {
-        say(`${label}${what}`, await isCopied(await text()) ? 'Copied' : 'Not copied');
+        say(`${label}${what}`, await isCopied(await text()) ? texts.copied : texts.notCopied);
     });
     Object.assign(made.dataset, { copies: label, what });
     drawCopying(made);

@@ -1,5 +1,6 @@
 // Making parts of the page, and numbers and texts as people read them. Texts go in as texts: nothing here reads markup.
 
+import { counted } from '../texts/index.js';
 import { listen, nodesOf } from './fill.js';
 
 /** @typedef {import('./fill.js').Child} Child */
@@ -108,14 +109,6 @@ export function setDisabled(target, disabled) {
 /** @param {Element} target */
 export function isDisabled(target) {
     return target.getAttribute('aria-disabled') === 'true';
-}
-
-/**
- * A count with separators, as 1,329. Blocks and offsets have none, so that they can be copied into a script.
- * @param {number} number
- */
-export function counted(number) {
-    return number.toLocaleString('en-GB');
 }
 
 /**

@@ -1,5 +1,7 @@
 // Names of files and other texts of strangers, as they are shown: who made a file has chosen its name.
 
+import * as texts from '../texts/index.js';
+import { told } from '../texts/index.js';
 import { element } from './dom.js';
 
 /** @typedef {import('./fill.js').Child} Child */
@@ -76,7 +78,8 @@ export function namesOf(names) {
  */
 export function shownPaths(files, joint) {
     const more = files.length - MOST_PATHS;
-    return [...files.slice(0, MOST_PATHS).map(({ path }) => shownName(path)), ...more > 0 ? [`${more} more`] : []].join(joint);
+    const names = files.slice(0, MOST_PATHS).map(({ path }) => shownName(path));
+    return [...names, ...more > 0 ? [told(texts.andMore, { n: String(more) })] : []].join(joint);
 }
 
 /**

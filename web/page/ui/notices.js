@@ -1,6 +1,8 @@
 // What the page says of files and failures: first what it is, then what to do.
 
 import { FAULT, failedBy } from '../../core/faults.js';
+import * as texts from '../texts/index.js';
+import { say, told } from '../texts/index.js';
 import { copyButton } from './copying.js';
 import { button, byId, element } from './dom.js';
 import { fill } from './fill.js';
@@ -28,7 +30,7 @@ export function notice(tone, head, ...rest) {
  */
 export function showNotice(tone, head, ...rest) {
     const place = byId(byId('start').offsetParent === null ? 'messages' : 'start-message');
-    const close = button('slim bare', clearNotices, 'Close');
+    const close = button('slim bare', clearNotices, texts.close);
     const made = notice(tone, head, ...rest);
     const row = made.querySelector('.row') || element('div', { class: 'row' });
     row.append(close);
@@ -46,8 +48,9 @@ export function showNotice(tone, head, ...rest) {
  */
 export function refuseWhileSaving({ saves }, names = [], place = null) {
     if (saves === 0) return false;
-    const head = names.length > 0 ? ['Not opened: ', ...namesOf(names), '.'] : ['An image is being saved.'];
-    const rest = `${names.length > 0 ? 'An image is being saved. ' : ''}Do it again when that has ended, or press Cancel there first.`;
+    const isNew = names.length > 0;
+    const head = isNew ? say(texts.notOpened, { names: namesOf(names) }) : texts.imageBeingSaved;
+    const rest = isNew ? `${texts.imageBeingSaved} ${texts.againWhenEnded}` : texts.againWhenEnded;
     if (place === null) showNotice('warn', head, rest);
     else sayAt(place, notice('warn', head, rest));
     return true;
@@ -93,15 +96,12 @@ export function endMessages() {
 export function showFailure(error, rest = '') {
     if (failedBy(error, FAULT.MISSING_FILES)) {
         const { sheet = '', names = [] } = error.facts;
-        return showNotice('bad', [nameOf(sheet), ' also needs ', ...namesOf(names), '.'], TOGETHER);
+        return showNotice('bad', say(texts.alsoNeeds, { sheet: nameOf(sheet), names: namesOf(names) }), texts.openAllTogether);
     }
     const text = messageOf(error);
     const [, first, after] = /^(.*?[.!?])\s+(.*)$/s.exec(text) || ['', text, ''];
     return showNotice('bad', first, [after, rest].filter(it => it !== '').join(' '));
 }
-
-/** A page does not see what lies beside a file. */
-const TOGETHER = 'Open them all together.';
 
 /** Most characters of a message that are shown: the lines of a stranger's cue sheet stand in some of them. */
 const MOST_MESSAGE = 1000;
@@ -109,9 +109,12 @@ const MOST_MESSAGE = 1000;
 /** @param {unknown} error */
 function errorWords(error) {
     const message = error instanceof Error ? error.message : String(error);
-    if (failedBy(error, FAULT.MISSING_FILES)) return `${error.facts.sheet} also needs ${(error.facts.names || []).join(', ')}. ${TOGETHER}`;
-    if (failedBy(error, FAULT.IMAGE_ENDED)) return 'The file is shorter than it was when it was opened.';
-    if (failedBy(error, FAULT.NO_MEMORY)) return 'This browser has not enough memory left. Close other tabs, then try again.';
+    if (failedBy(error, FAULT.MISSING_FILES)) {
+        const { sheet = '', names = [] } = error.facts;
+        return `${told(texts.alsoNeeds, { sheet, names: names.join(', ') })} ${texts.openAllTogether}`;
+    }
+    if (failedBy(error, FAULT.IMAGE_ENDED)) return texts.fileIsShorter;
+    if (failedBy(error, FAULT.NO_MEMORY)) return texts.noMemoryLeft;
     return message.length > MOST_MESSAGE ? `${message.slice(0, MOST_MESSAGE)}…` : message;
 }
 
@@ -152,6 +155,6 @@ export function isCancelled(error) {
  * @param {string} text
  */
 export function copyable(text) {
-    const copy = copyButton('slim', () => text, 'Copy the command');
+    const copy = copyButton('slim', () => text, texts.copyCommand);
     return [element('p', { class: 'line-out' }, text), element('div', { class: 'row' }, copy)];
 }

@@ -1,7 +1,9 @@
 // The bar of a running job, with how much is done, the rate and the time left, and Cancel, which Escape presses in the job's card.
 
 import { SECTOR_SIZE } from '../../core/sectors/sector.js';
-import { button, counted, element } from './dom.js';
+import * as texts from '../texts/index.js';
+import { counted, say, told } from '../texts/index.js';
+import { button, element } from './dom.js';
 import { fill } from './fill.js';
 import { Pace } from './pace.js';
 
@@ -19,7 +21,6 @@ export function jobBar(name, cancel, { saves = false, noun = '' } = {}) {
         'aria-valuemax': 100 }, bar);
     const facts = element('p', { class: 'facts' });
     const pace = { now: /** @type {Pace | null} */ (null), drawn: 0 };
-    const fact = (/** @type {string} */ strong, /** @type {string} */ rest) => element('span', {}, element('b', {}, strong), rest);
     const draw = (/** @type {number} */ done, /** @type {number} */ all, /** @type {(rate: number) => Child[]} */ amounts) => {
         const now = performance.now();
         if (pace.now === null || pace.now.all !== all) pace.now = new Pace(all, now);
@@ -28,15 +29,36 @@ export function jobBar(name, cancel, { saves = false, noun = '' } = {}) {
         const { percent, rate, left } = all === 0 ? { percent: 0, rate: 0, left: 0 } : pace.now.at(done, now);
         bar.style.width = `${percent}%`;
         progress.setAttribute('aria-valuenow', String(percent));
-        fill(facts, fact(`${percent} %`, ''), ...all === 0 ? [] : [...amounts(rate), fact(`${left} s`, ' left')]);
+        fill(facts, element('span', {}, bold(told(texts.inPercent, { n: percent }))),
+            ...all === 0 ? [] : [...amounts(rate), timeLeft(left)]);
     };
-    const at = (/** @type {number} */ done, /** @type {number} */ all) => draw(done, all, rate =>
-        [fact(megabytes(done), ` of ${megabytes(all)} MB`), fact(megabytes(rate), ' MB/s')]);
+    const at = (/** @type {number} */ done, /** @type {number} */ all) => draw(done, all, rate => megabytesDone(done, all, rate));
     const things = (/** @type {number} */ done, /** @type {number} */ all) => draw(done, all, () =>
-        [fact(counted(done), ` of ${counted(all)} ${noun}`)]);
+        [element('span', {}, ...say(texts.thingsOf, { done: bold(counted(done)), all, things: noun }))]);
     const sectors = (/** @type {number} */ done, /** @type {number} */ all) => at(done * SECTOR_SIZE, all * SECTOR_SIZE);
     at(0, 0);
     return { at, sectors, things, parts: [progress, facts, jobEnd(cancel, saves)] };
+}
+
+/** @param {string} text */
+function bold(text) {
+    return element('b', {}, text);
+}
+
+/**
+ * How many bytes are done, and how fast, in megabytes.
+ * @param {number} done
+ * @param {number} all
+ * @param {number} rate bytes a second
+ */
+export function megabytesDone(done, all, rate) {
+    return [element('span', {}, ...say(texts.megabytesOf, { done: bold(megabytes(done)), all: megabytes(all) })),
+        element('span', {}, ...say(texts.megabytesASecond, { rate: bold(megabytes(rate)) }))];
+}
+
+/** @param {number} seconds that a job still takes */
+export function timeLeft(seconds) {
+    return element('span', {}, ...say(texts.timeLeft, { time: bold(told(texts.inSeconds, { seconds: String(seconds) })) }));
 }
 
 /**
@@ -45,13 +67,13 @@ export function jobBar(name, cancel, { saves = false, noun = '' } = {}) {
  * @param {boolean} saves
  */
 export function jobEnd(cancel, saves) {
-    const row = element('div', { class: 'row' }, button('', cancel, 'Cancel'));
+    const row = element('div', { class: 'row' }, button('', cancel, texts.cancel));
     const show = (/** @type {HTMLElement} */ part) => {
         fill(end, part);
         /** @type {HTMLElement} */ (part.querySelector('.btn')).focus();
     };
-    const question = element('div', { class: 'say warn', role: 'alert' }, element('b', {}, 'End the saving?'), 'Then no image is kept.',
-        element('div', { class: 'row' }, button('', () => show(row), 'Go on saving'), button('', cancel, 'End it')));
+    const question = element('div', { class: 'say warn', role: 'alert' }, bold(texts.endTheSaving), texts.noImageIsKept,
+        element('div', { class: 'row' }, button('', () => show(row), texts.goOnSaving), button('', cancel, texts.endIt)));
     const escaped = () => saves ? show(question.isConnected ? row : question) : cancel();
     const end = element('div', { class: 'job-end', escape: escaped }, row);
     return end;

@@ -1,5 +1,6 @@
 // A small sheet over the page that asks what is to be done.
 
+import { cancel } from '../texts/index.js';
 import { button, byId, element } from './dom.js';
 import { fill, listen } from './fill.js';
 
@@ -34,7 +35,7 @@ export function asked(title, words, answers, main) {
         const buttons = answers.map(([chosen, label]) =>
             button(chosen === main ? 'main' : '', () => answer(chosen), element('span', {}, ...label)));
         fill(sheet, element('h2', { id: 'sheet-title' }, ...title), words.length > 0 && element('p', {}, ...words),
-            element('div', { class: 'stack tight' }, ...buttons, button('bare', () => answer(''), 'Cancel')));
+            element('div', { class: 'stack tight' }, ...buttons, button('bare', () => answer(''), cancel)));
         sheet.showModal();
     });
 }

@@ -1,7 +1,9 @@
 // A few counts, written large, and the card of a table.
 
+import * as texts from '../texts/index.js';
+import { counted, told } from '../texts/index.js';
 import { copyButton } from './copying.js';
-import { counted, element } from './dom.js';
+import { element } from './dom.js';
 import { oneStop } from './tab_groups.js';
 
 /** @param {[number, string, string][]} counts each with what it counts, and how it looks */
@@ -23,6 +25,7 @@ export function tableCard(title, head, rows, text, foot) {
     const part = element('div', { class: 'scroll fit' }, table);
     oneStop(part, 'tbody button');
     return element('section', { class: 'card', 'aria-label': title },
-        element('header', {}, element('h2', {}, title), copyButton('slim bare', () => text, 'Copy', ` the rows: ${title}`)), part,
+        element('header', {}, element('h2', {}, title),
+            copyButton('slim bare', () => text, texts.copy, told(texts.theRowsOf, { title }))), part,
         element('p', { class: 'foot' }, element('span', {}, foot)));
 }
