@@ -7,8 +7,11 @@ import { fileURLToPath, pathToFileURL } from 'node:url';
 export const top = fileURLToPath(new URL('../..', import.meta.url));
 const web = process.env.WEB ?? join(top, 'web');
 
+/** @param {string} name a file or a directory of the page */
+export const pageFile = name => join(web, 'page', name);
+
 /** @param {string} name a module of the page */
-export const page = name => import(pathToFileURL(join(web, 'page', name)).href);
+export const page = name => import(pathToFileURL(pageFile(name)).href);
 
 /** @param {string} name a module of the core */
 export const core = name => import(pathToFileURL(join(web, 'core', name)).href);

@@ -1,5 +1,6 @@
 // What the page says in English, by key: a translation is another file like this one. What stands in braces is put there by the page, in
-// any order. A text in several forms, with | between them, takes that for the number {n}, in the order of the language's plural categories.
+// any order. A text in several forms, with | between them, takes that for the number {n}: those of the language's counts, in the order zero,
+// one, two, few, many, other.
 
 export const LANGUAGE = 'en-GB';
 

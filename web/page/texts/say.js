@@ -20,6 +20,9 @@ import { LANGUAGE } from './english.js';
  * @typedef {[Given<Text>] extends [never] ? [] : [{ [Name in Given<Text>]: Part }]} Parts
  */
 
+/** @type {Intl.LDMLPluralRule[]} kinds of counts, of which each language has some, and which engines name in any order */
+const KINDS = ['zero', 'one', 'two', 'few', 'many', 'other'];
+
 /** What knows the counts of the language, made when it is first asked: a start can do without the milliseconds that this takes. */
 const asked = { counts: /** @type {Intl.PluralRules | null} */ (null), numbers: /** @type {Intl.NumberFormat | null} */ (null) };
 
@@ -42,7 +45,8 @@ function formOf(text, count) {
     if (forms.length === 1 || typeof count !== 'number') return forms[0];
     asked.counts = asked.counts || new Intl.PluralRules(LANGUAGE);
     const { pluralCategories } = asked.counts.resolvedOptions();
-    return forms[Math.min(pluralCategories.indexOf(asked.counts.select(count)), forms.length - 1)];
+    const kinds = KINDS.filter(kind => pluralCategories.includes(kind));
+    return forms[Math.min(kinds.indexOf(asked.counts.select(count)), forms.length - 1)];
 }
 
 /**

@@ -1,0 +1,37 @@
+// Names, numbers and parts that are put into the texts of the page.
+
+import assert from 'node:assert/strict';
+import { cpSync, mkdtempSync, readFileSync, rmSync, writeFileSync } from 'node:fs';
+import { tmpdir } from 'node:os';
+import { join } from 'node:path';
+import { test } from 'node:test';
+import { page, pageFile } from './page.mjs';
+
+const { say, told } = await page('texts/say.js');
+
+test('names take their places in any order, and numbers are written as counts', () => {
+    assert.equal(told('{b} before {a}', { a: 'x', b: 1329 }), '1,329 before x');
+    assert.equal(told('nothing'), 'nothing');
+    const part = { a: 'part' };
+    assert.deepEqual(say('It is {part}, {n} times.', { part, n: 2000 }), ['It is ', part, ', ', '2,000', ' times.']);
+    assert.deepEqual(say('{parts}', { parts: [part, null] }), ['', part, null, '']);
+});
+
+test('the form of a text follows from its number', () => {
+    const forms = '{n} sector is damaged|{n} sectors are damaged';
+    assert.deepEqual([0, 1, 2, 1000].map(n => told(forms, { n })),
+        ['0 sectors are damaged', '1 sector is damaged', '2 sectors are damaged', '1,000 sectors are damaged']);
+    assert.equal(told('a b|c', { n: 'x' }), 'a b');
+});
+
+test('each form of another language stands at its place, whatever the engine names first', async context => {
+    const place = mkdtempSync(join(tmpdir(), 'texts-'));
+    context.after(() => rmSync(place, { recursive: true }));
+    cpSync(pageFile('texts'), place, { recursive: true });
+    writeFileSync(join(place, 'package.json'), '{"type": "module"}');
+    const english = readFileSync(join(place, 'english.js'), 'utf8');
+    writeFileSync(join(place, 'english.js'), english.replace("LANGUAGE = 'en-GB'", "LANGUAGE = 'ru'"));
+    const russian = await import(join(place, 'say.js'));
+    const forms = [1, 3, 5, 21, 1.5].map(n => russian.told('{n} one|{n} few|{n} many|{n} other', { n }));
+    assert.deepEqual(forms, ['1 one', '3 few', '5 many', '21 one', '1,5 other']);
+});
