@@ -31,7 +31,7 @@ printf '%s\n' '<!doctype html>' '<meta charset="utf-8">' '<title>small</title>' 
     '<link rel="stylesheet" href="style.css">' '<p id="text" title="{title}">{small}</p>' '<script type="module" src="main.js"></script>' \
     '<plaintext hidden id="data">' > small/page/page.html
 echo '<svg xmlns="http://www.w3.org/2000/svg"></svg>' > small/page/icon.svg
-printf '%s\n' "export const title = 'a \"title\"';" "export const small = 'small' +" "    ' & ' +" '    "it’s & isn'"'"'t";' 'export const KEYS = [' "    ['x', 'y']," '];' \
+printf '%s\n' "export const title = 'a \"title\"';" "export const small = 'small' +" "    ' & ' +" '    "naïve & isn'"'"'t";' 'export const KEYS = [' "    ['x', 'y']," '];' \
     > small/page/texts/english.js
 echo 'p { color: black; }' > small/page/style.css
 head -c 100 "$vectors" > module
@@ -103,7 +103,7 @@ test_page() {
     judge 'spaces stay only in texts' grep -qF 'document.title=' page.html
     judge 'it is strict' test "$(grep -c "<script>'use strict';" page.html)" = 1
     judge 'its last line takes what comes after it as text' test "$(tail -n 1 page.html)" = '<plaintext hidden id="data">'
-    judge 'its texts are those of english.js' grep -qF '<p id="text" title="a &quot;title&quot;">small &amp; it’s &amp; isn&#x27;t</p>' page.html
+    judge 'its texts are those of english.js' grep -qF '<p id="text" title="a &quot;title&quot;">small &amp; naïve &amp; isn&#x27;t</p>' page.html
     judge 'it names no other file' eval '! grep -oE "(href|src)=.{0,7}" page.html | grep -vE "=.?\"data:"'
     changed page/draw.js cat
     echo '{ "compilerOptions": { "alwaysStrict": true } }' > other/tsconfig.json
