@@ -5,11 +5,11 @@ import { createHash } from 'node:crypto';
 import { test } from 'node:test';
 import { calls, imageOf, imageOfBytes, page, parts } from './page.mjs';
 
-const { isPatched, judgeImage } = await page('player/verdict.js');
+const { judgeImage } = await page('player/verdict.js');
 const { reasonForPlayer, reasonsOf } = await page('player/reason.js');
 const { applyPatches } = await page('../core/script/patches.js');
 const { bytesOfPieces } = await page('../core/bytes.js');
-const { scriptFor } = await page('save/patch_job.js');
+const { isPatched, scriptFor } = await page('save/patch_job.js');
 const { Crew, localHand } = await page('../core/jobs.js');
 
 const app = { calls, parts, crew: new Crew([localHand(calls)]) };

@@ -46,7 +46,7 @@ class Asked(PageTest):
         self.browser.run(WATCHED)
         self.browser.drop('#main', [files['other']])
         self.assertEqual(self.buttons(), ['Repair game.bin from it', 'Compare', 'Open it instead', 'Cancel'])
-        self.assertEqual(self.browser.text('#sheet h2'), 'other.bin:')
+        self.assertEqual(self.browser.text('#sheet h2'), 'What do you want to do with other.bin?')
         self.assertLess(self.browser.run('return bytes'), 2_000_000)
         self.assertEqual(self.browser.run('return pieces'), 0)
         self.browser.answer('Compare')
@@ -77,7 +77,7 @@ class Asked(PageTest):
         self.browser.wait('#disc-line .name', 'first.bin')
         self.assertEqual(self.buttons()[0], 'Repair first.bin from it')
         self.browser.drop('#main', [files['third']])
-        self.browser.wait('#sheet', 'third.bin:')
+        self.browser.wait('#sheet', 'What do you want to do with third.bin?')
         self.browser.answer('Cancel')
         self.assertFalse(self.is_asked())
 

@@ -53,6 +53,14 @@ class Next(PageTest):
             self.browser.wait(SAID, said)
             self.assertIn(said, self.browser.text('#announced'))
 
+    def test_an_image_that_holds_all_that_the_script_writes_is_called_patched(self) -> None:
+        files = self.files()
+        patched = discs.written(patched=applied(files['game'], files['english'])[2])['patched']
+        self.browser.drop('#drop', [patched, files['english']])
+        self.browser.wait(f'{SAID}.good', 'patched.bin is patched already. It holds what all 6 changes of english.txt write.')
+        self.assertNotIn('Apply and save', self.browser.text('#panel-script .side'))
+        self.assertIn('is patched already', self.browser.text('#announced'))
+
     def test_what_was_found_and_its_button_are_seen_at_every_width(self) -> None:
         files = self.files()
         for width in WIDTHS:

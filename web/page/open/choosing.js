@@ -67,7 +67,8 @@ export function mountChoosing(app) {
     const chooser = new Chooser(app);
     const { input } = chooser;
     app.serve({ choose: aim => chooser.choose(aim) });
-    for (const id of ['open-files', 'open-other']) byId(id).addEventListener('click', () => chooser.choose(''));
+    byId('open-files').addEventListener('click', () => chooser.choose(chooser.aim));
+    byId('open-other').addEventListener('click', () => chooser.choose(''));
     for (const job of chooser.jobs) job.addEventListener('click', () => chooser.choose(/** @type {Aim} */ (job.dataset.aim)));
     input.addEventListener('cancel', () => chooser.cancelled());
     input.addEventListener('change', () => {

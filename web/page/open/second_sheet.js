@@ -40,12 +40,12 @@ function askFor({ survey }, image, second, words) {
     /** @type {[PairJob | 'instead', Child[]][]} */
     const jobs = [['repair', say(texts.repairItFrom, { name: nameOf(image.name) })], ['compare', [texts.compareIt]],
         ['instead', [texts.openItInstead]]];
-    const isSound = survey !== null && survey.over && survey.marks.damaged() === 0;
+    const isDamaged = survey !== null && survey.marks.damaged() > 0;
     const { from, to } = commonPart(image, second);
     const isPossible = { repair: from < to, compare: isSameRange(image, second), instead: true };
     const possible = jobs.filter(([job]) => isPossible[job]);
-    const main = !isPossible.repair ? 'instead' : isSound && isPossible.compare ? 'compare' : 'repair';
-    return asked([nameOf(second.name), ':'], words, possible, main);
+    const main = isPossible.repair && isDamaged ? 'repair' : isPossible.compare ? 'compare' : 'instead';
+    return asked(say(texts.whatToDoWith, { name: nameOf(second.name) }), words, possible, main);
 }
 
 /**

@@ -2,15 +2,14 @@
 // which the patch cannot say it.
 
 import { dataTrack, discFault } from '../../core/disc/disc.js';
-import { RESULT, STATUS } from '../../core/module/records.js';
-import { ReadAhead } from '../../core/read_ahead.js';
+import { RESULT } from '../../core/module/records.js';
 import { wordsOn } from '../../core/script/line_words.js';
 import { oldBytesOf } from '../../core/script/long_script.js';
 import { passPatched } from '../../core/script/patches.js';
 import { SECTOR_SIZE } from '../../core/sectors/sector.js';
 import { surveyCounts } from '../../core/sectors/survey.js';
 import { sha1Of } from '../app/index.js';
-import { assertNotTooLong, scriptFor, watched } from '../save/index.js';
+import { assertNotTooLong, isPatched, scriptFor, watched } from '../save/index.js';
 import * as texts from '../texts/index.js';
 import { told } from '../texts/index.js';
 
@@ -97,21 +96,4 @@ async function damagedSectors({ crew }, { reader, base }, { signal, progress }) 
  */
 function addressedBase({ addressed, base }, other) {
     return addressed === null || addressed < 0 ? other : base;
-}
-
-/**
- * Whether the script, without the old bytes that it asks for, would change nothing in the image.
- * @param {App} app
- * @param {PatchWork} work
- */
-export async function isPatched(app, { reader, base, script }) {
-    let same = true;
-    const ahead = new ReadAhead(reader);
-    const how = { base, carry: true, withoutOld: true };
-    const made = await passPatched(app.calls, reader, await scriptFor(app, script, base), how, async piece => {
-        if (!('bytes' in piece) || !same) return;
-        const there = await ahead.bytesAt(piece.at, piece.bytes.length);
-        same = there.every((byte, i) => byte === piece.bytes[i]);
-    });
-    return same && made.status === STATUS.DONE && made.outcomes.length > 0;
 }

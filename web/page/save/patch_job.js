@@ -2,7 +2,8 @@
 
 import { watchedReader } from '../../core/bytes.js';
 import { Fault, cancelled } from '../../core/faults.js';
-import { MOST_SCRIPT_BYTES } from '../../core/module/records.js';
+import { MOST_SCRIPT_BYTES, STATUS } from '../../core/module/records.js';
+import { ReadAhead } from '../../core/read_ahead.js';
 import { baseFault } from '../../core/script/base_said.js';
 import { NEAR_HELD, NEAR_WRITTEN } from '../../core/script/patch_run.js';
 import { passPatched } from '../../core/script/patches.js';
@@ -77,6 +78,23 @@ export async function checkWork(app, { reader, base, script, carry }, watch) {
     const read = await scriptFor(app, script, base);
     assertNotTooLong(reader);
     return passPatched(app.calls, watched(reader, watch), read, { base, carry });
+}
+
+/**
+ * Whether the script, without the old bytes that it asks for, would change nothing in the image.
+ * @param {App} app
+ * @param {Pick<PatchWork, 'reader' | 'base' | 'script'>} work
+ */
+export async function isPatched(app, { reader, base, script }) {
+    let same = true;
+    const ahead = new ReadAhead(reader);
+    const how = { base, carry: true, withoutOld: true };
+    const made = await passPatched(app.calls, reader, await scriptFor(app, script, base), how, async piece => {
+        if (!('bytes' in piece) || !same) return;
+        const there = await ahead.bytesAt(piece.at, piece.bytes.length);
+        same = there.every((byte, i) => byte === piece.bytes[i]);
+    });
+    return same && made.status === STATUS.DONE && made.outcomes.length > 0;
 }
 
 /**

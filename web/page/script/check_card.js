@@ -1,7 +1,7 @@
 // The card beside the editor: Check, what came of it, carry, and Apply and save.
 
 import { RESULT } from '../../core/module/records.js';
-import { SaveCard, adviceOf, checkWork } from '../save/index.js';
+import { SaveCard, adviceOf, checkWork, isPatched } from '../save/index.js';
 import * as texts from '../texts/index.js';
 import { say, told } from '../texts/index.js';
 import { announce, button, element, fill, isCancelled, jobBar, messageOf, nameOf, notice, setDisabled, term } from '../ui/index.js';
@@ -19,7 +19,7 @@ import { fitWords } from './fit_words.js';
 
 const MOST_NAMED = 12;
 
-/** The card. `patched` is what Check said, null if that is old. */
+/** The card. `patched` is what Check said, null if that is old; and `already`, that the image holds all that the script writes. */
 export class CheckCard {
     /**
      * @param {App} app
@@ -29,6 +29,7 @@ export class CheckCard {
         this.app = app;
         this.owner = owner;
         this.patched = /** @type {Patched | null} */ (null);
+        this.already = false;
         this.seconds = 0;
         this.busy = false;
         /** The check that runs, or has run last, and what ends it. */
@@ -49,6 +50,7 @@ export class CheckCard {
     outdate() {
         this.cancel();
         this.patched = null;
+        this.already = false;
         this.failure = null;
         this.saving.leave();
     }
@@ -115,7 +117,8 @@ export class CheckCard {
             element('div', { class: looks }, before, element('b', {}, count), after);
         const first = lines.nextWrong(lines.lines.length - 1, 1);
         const { tone, head, rest } = this.fit(this.patched);
-        return [notice(tone, head, rest, element('div', { class: 'row' }, apply)),
+        if (this.already) return [notice(tone, head, ...rest)];
+        return [notice(tone, head, ...rest, element('div', { class: 'row' }, apply)),
             refused > 0 && element('div', { class: 'tally' }, applied > 0 && tally('good-ink', say(texts.countFits, { n: applied })),
                 tally('bad-ink', say(texts.countDoesNotFit, { n: refused }))),
             first >= 0 && element('div', { class: 'row next' },
@@ -128,6 +131,7 @@ export class CheckCard {
      */
     footnote(ready) {
         if (!ready) return [texts.fixErrors];
+        if (this.already) return [];
         const outcomes = this.patched ? this.patched.outcomes : [];
         const applied = outcomes.filter(it => it.result === RESULT.OK).length;
         const name = this.app.image ? this.app.image.name : '';
@@ -147,7 +151,7 @@ export class CheckCard {
      */
     fit({ outcomes }) {
         const fitting = outcomes.filter(it => it.result === RESULT.OK).length;
-        return fitWords(this.owner.lines.name, this.app.image ? this.app.image.name : '', fitting, outcomes.length);
+        return fitWords(this.owner.lines.name, this.app.image ? this.app.image.name : '', fitting, outcomes.length, this.already);
     }
 
     /** Checks the script on the image. */
@@ -177,7 +181,10 @@ export class CheckCard {
                 fill(this.body, ...bar.parts);
                 const work = { reader: image.reader, base: image.base, script: lines.text(), carry: this.carry.checked };
                 const patched = await checkWork(this.app, work, { signal, progress: bar.at });
-                if (this.app.image === image && work.script === lines.text()) this.take(patched, (performance.now() - began) / 1000);
+                const already = patched.outcomes.some(it => it.result !== RESULT.OK) && await isPatched(this.app, work);
+                if (this.app.image !== image || work.script !== lines.text()) return;
+                this.already = already;
+                this.take(patched, (performance.now() - began) / 1000);
             });
         } catch (error) {
             this.failure = isCancelled(error) ? null : failureOf(error);
@@ -199,7 +206,7 @@ export class CheckCard {
         this.owner.log(patched.text);
         this.owner.redraw();
         const { head, rest } = this.fit(patched);
-        announce(`${element('p', {}, ...head).textContent} ${rest}`.trim());
+        announce(`${element('p', {}, ...head, ' ', ...rest).textContent}`.trim());
     }
 
     /** Saves the patched image. */

@@ -13,13 +13,18 @@ import { nameOf } from '../ui/index.js';
  * @param {string} image its name
  * @param {number} fitting how many of its patches fit
  * @param {number} all how many it has
- * @returns {{ tone: Tone, head: Child[], rest: string }}
+ * @param {boolean} [already] whether the image holds already what all of them write
+ * @returns {{ tone: Tone, head: Child[], rest: Child[] }}
  */
-export function fitWords(name, image, fitting, all) {
+export function fitWords(name, image, fitting, all, already = false) {
     const [parts, left] = [{ script: name === '' ? texts.theScript : nameOf(name), image: nameOf(image) }, all - fitting];
-    if (all === 0) return { tone: 'plain', head: say(texts.hasNoChange, parts), rest: texts.wouldBeCopy };
-    if (left === 0) return { tone: 'good', head: say(texts.allChangesFit, { ...parts, n: all }), rest: '' };
-    if (fitting === 0) return { tone: 'bad', head: say(texts.noChangeFits, { ...parts, n: all }), rest: texts.anotherRelease };
+    if (all === 0) return { tone: 'plain', head: say(texts.hasNoChange, parts), rest: [texts.wouldBeCopy] };
+    if (already) {
+        return { tone: 'good', head: say(texts.isPatchedAlready, { image: parts.image }),
+            rest: say(texts.changesStandThere, { script: parts.script, n: all }) };
+    }
+    if (left === 0) return { tone: 'good', head: say(texts.allChangesFit, { ...parts, n: all }), rest: [] };
+    if (fitting === 0) return { tone: 'bad', head: say(texts.noChangeFits, { ...parts, n: all }), rest: [texts.anotherRelease] };
     return { tone: 'warn', head: say(texts.someChangesFit, { ...parts, fitting, all, n: left }),
-        rest: left === 1 ? texts.thatOneLeftOut : texts.thoseLeftOut };
+        rest: [left === 1 ? texts.thatOneLeftOut : texts.thoseLeftOut] };
 }

@@ -194,6 +194,7 @@ export const notOpenedYet = 'Not opened.';
 
 // what a second image is for
 export const repairItFrom = 'Repair {name} from it';
+export const whatToDoWith = 'What do you want to do with {name}?';
 export const compareIt = 'Compare';
 export const openItInstead = 'Open it instead';
 export const isImageItself = 'This is the open image itself.';
@@ -203,7 +204,7 @@ export const hasMoreSectors = 'It has {n} sector more than {name}.|It has {n} se
 export const hasFewerSectors = 'It has {n} sector fewer than {name}.|It has {n} sectors fewer than {name}.';
 export const later = 'It is shifted: it begins {n} sector later than {name}.|It is shifted: it begins {n} sectors later than {name}.';
 export const earlier = 'It is shifted: it begins {n} sector earlier than {name}.|It is shifted: it begins {n} sectors earlier than {name}.';
-export const repairUsesCommon = 'A repair uses the blocks that both have.';
+export const repairUsesCommon = 'A repair uses the blocks that both have. Only images of the same blocks are compared.';
 
 // ---- end of opening files
 
@@ -734,6 +735,8 @@ export const hasNoChange = '{script} has no change.';
 export const wouldBeCopy = 'The saved image would be a copy.';
 export const allChangesFit = '{script}: {n} change, which fits {image}.|{script}: {n} changes, all fit {image}.';
 export const noChangeFits = '{script}: {n} change, which does not fit {image}.|{script}: {n} changes, which do not fit {image}.';
+export const isPatchedAlready = '{image} is patched already.';
+export const changesStandThere = 'It holds what the change of {script} writes.|It holds what all {n} changes of {script} write.';
 export const anotherRelease = 'Another release, another disc, or another base?';
 export const someChangesFit =
     '{script}: {fitting} of {all} changes fit {image}, {n} does not.|{script}: {fitting} of {all} changes fit {image}, {n} do not.';
