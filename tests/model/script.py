@@ -1,8 +1,12 @@
 """Scripts: rules of cdpatch. Versions 1 and 2, each fault and which of several decides, and the order of patches."""
 
 import re
+import sys
+from pathlib import Path
 from typing import NamedTuple, Optional
 
+sys.path.append(str(Path(__file__).resolve().parent.parent / 'lib'))
+from messages import MESSAGES  # noqa: E402
 
 MOST_PATCHES = 65535  # of a script
 MOST_BYTES = 4096  # that a patch changes
@@ -46,44 +50,44 @@ def demand(holds, fault):
 
 def number(word):
     """One to nine decimal digits."""
-    demand(re.fullmatch(rb'[0-9]{1,9}', word), 'bad number')
+    demand(re.fullmatch(rb'[0-9]{1,9}', word), MESSAGES['bad_number'])
     return int(word)
 
 
 def hexadecimal(word):
     """An even number of hexadecimal digits, in small or capital letters."""
-    demand(re.fullmatch(rb'([0-9a-fA-F][0-9a-fA-F])+', word), 'bad hex')
+    demand(re.fullmatch(rb'([0-9a-fA-F][0-9a-fA-F])+', word), MESSAGES['bad_hex'])
     return bytes(int(word[i:i + 2], 16) for i in range(0, len(word), 2))
 
 
 def address(word):
     """MM:SS:FF, as the three bytes of a header: each pair of digits is its BCD byte."""
-    demand(re.fullmatch(rb'[0-9][0-9]:[0-5][0-9]:([0-6][0-9]|7[0-4])', word), 'bad address')
+    demand(re.fullmatch(rb'[0-9][0-9]:[0-5][0-9]:([0-6][0-9]|7[0-4])', word), MESSAGES['bad_address'])
     return bytes(int(pair, 16) for pair in word.split(b':'))
 
 
 def patch(line, found, version):
     """The patch of a line's words: verb, number of words, then word by word from the left, form before value."""
     verb = found[0]
-    demand(verb in VERBS[version], 'unknown verb')
-    demand(len(found) in NUMBERS_OF_WORDS[verb] and (len(found) != 6 or found[4] == b'was'), 'wrong number of words')
+    demand(verb in VERBS[version], MESSAGES['unknown_verb'])
+    demand(len(found) in NUMBERS_OF_WORDS[verb] and (len(found) != 6 or found[4] == b'was'), MESSAGES['word_count'])
     block = number(found[1])
     if verb == b'rebuild':
         return Patch(line, block, 'rebuild')
     if verb == b'address':
         return Patch(line, block, 'address', 0, address(found[2]))
     offset = number(found[2])
-    demand(offset <= 2047, 'offset over 2047')
+    demand(offset <= 2047, MESSAGES['bad_offset'])
     if verb == b'fill':
         count = number(found[3])
-        demand(1 <= count <= MOST_BYTES, 'bad length')
+        demand(1 <= count <= MOST_BYTES, MESSAGES['bad_length'])
         byte = hexadecimal(found[4])
-        demand(len(byte) == 1, 'bad length')
+        demand(len(byte) == 1, MESSAGES['bad_length'])
         return Patch(line, block, 'fill', offset, count * byte)
     new = hexadecimal(found[3])
-    demand(len(new) <= MOST_BYTES, 'bad length')
+    demand(len(new) <= MOST_BYTES, MESSAGES['bad_length'])
     was = hexadecimal(found[5]) if len(found) == 6 else None
-    demand(was is None or len(was) == len(new), 'bad length')
+    demand(was is None or len(was) == len(new), MESSAGES['bad_length'])
     return Patch(line, block, 'set', offset, new, was)
 
 
@@ -95,14 +99,14 @@ def script(text):
             if not found or found[0].startswith(b'#'):
                 continue
             if version is None:
-                demand(found in ([b'cdpatch', b'1'], [b'cdpatch', b'2']), 'no cdpatch 1 line')
+                demand(found in ([b'cdpatch', b'1'], [b'cdpatch', b'2']), MESSAGES['no_head'])
                 version = int(found[1])
                 continue
             patches.append(patch(line, found, version))
             demand(len(patches) <= MOST_PATCHES, TOO_MANY)
         except ScriptFault as fault:
             raise ScriptFault(f'script line {line}: {fault}') from None
-    demand(version, f'script line {len(cut) + 1}: no cdpatch 1 line')
+    demand(version, f'script line {len(cut) + 1}: {MESSAGES["no_head"]}')
     return patches
 
 

@@ -4,11 +4,12 @@ import assert from 'node:assert/strict';
 import { createHash } from 'node:crypto';
 import { test } from 'node:test';
 import { deflateSync, inflateSync } from 'node:zlib';
-import { calls, page } from './page.mjs';
+import { calls, core, page } from './page.mjs';
 
 const { base64Of, comparedWithPage, patcherText, readPatcherText } = await page('player/patcher.js');
 const { headFault } = await page('player/patcher_head.js');
 const { bytesOfBase64 } = await page('app/bundle.js');
+const { MOST_SCRIPT_BYTES } = await core('module/records.js');
 
 const data = {
     title: 'Starlit Detective <img src=x onerror=alert(1)>', author: 'Team', note: 'line\n</plaintext>\n日本語', name: 'Starlit (English).bin',
@@ -76,7 +77,7 @@ test('what follows the data, or stands before them, is refused', async () => {
 });
 
 test('data that are too long are refused while they are inflated', async () => {
-    const bomb = Buffer.concat([Buffer.from(`${JSON.stringify(head)}\n`), Buffer.alloc(69 << 20, 10)]);
+    const bomb = Buffer.concat([Buffer.from(`${JSON.stringify(head)}\n`), Buffer.alloc(MOST_SCRIPT_BYTES + (5 << 20), 10)]);
     await assert.rejects(readPatcherText(calls, packed(bomb)), { message: 'the data are too long' });
 });
 
