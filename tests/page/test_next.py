@@ -57,7 +57,8 @@ class Next(PageTest):
         files = self.files()
         patched = discs.written(patched=applied(files['game'], files['english'])[2])['patched']
         self.browser.drop('#drop', [patched, files['english']])
-        self.browser.wait(f'{SAID}.good', 'patched.bin is patched already. It holds what all 6 changes of english.txt write.')
+        self.browser.wait(f'{SAID}.good', 'patched.bin is patched already.')
+        self.assertIn('It holds what all 6 changes of english.txt write.', self.browser.text(f'{SAID}.good'))
         self.assertNotIn('Apply and save', self.browser.text('#panel-script .side'))
         self.assertIn('is patched already', self.browser.text('#announced'))
 

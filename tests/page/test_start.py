@@ -49,8 +49,11 @@ class Start(PageTest):
                 self.browser.wait('#wanted', words)
                 self.assertIn(words, self.browser.text('#announced'))
                 self.assertEqual(self.browser.run('return asked'), 1)
+        # The job stays, for who presses the button below it.
         self.press('Open files')
-        self.assertEqual(self.browser.run('return document.querySelectorAll(".job[aria-pressed=true]").length'), 0)
+        self.browser.wait('#wanted', 'the second dump with it')
+        self.assertEqual(self.browser.run('return document.querySelectorAll(".job[aria-pressed=true]").length'), 1)
+        self.assertEqual(self.browser.run('return asked'), 2)
 
     def leads(self, job: str, focus: str, panel: str) -> None:
         self.setUp()
