@@ -78,6 +78,23 @@ test('a list goes on where it was interrupted, and tells nothing twice', () => i
     assert.deepEqual([again.status, read(room, 'list').toString().split('\n').filter(Boolean).sort()], [1, rows]);
 }));
 
+test('a file that is no list is not gone on with, and stays as it is', () => inDirectory(async room => {
+    const image = imageOf(room, 20);
+    write(room, { 'a.bin': image, 'b.bin': damaged(image, 0, [3, 100]) });
+    const row = `a.bin\tmode1 20\t0\t0\t0\t${shaOf(image)}\t-`;
+    const others = { 'x.bin': damaged(image, 0, [2, 9]), note: 'no list, and no end of a line', 'k.dat': datOf({ 'a.bin': image }), lines: `${row}\nmine\n`,
+        columns: `${row}\n${row}\tmore\n`, half: row };
+    write(room, others);
+    for (const [name, bytes] of Object.entries(others)) {
+        const { status, errors } = await run(['scan', '--resume', name, 'a.bin', 'b.bin'], { cwd: room });
+        assert.deepEqual([status, errors], [2, `cdscript: ${name} is no list that scan has written, so it stays as it is\n`]);
+        assert.deepEqual(read(room, name), Buffer.from(bytes), name);
+    }
+    write(room, { empty: '' });
+    assert.equal((await run(['scan', '--resume', 'empty', 'a.bin'], { cwd: room })).status, 0);
+    assert.equal(read(room, 'empty').toString(), `${row}\n`);
+}));
+
 test('of a sheet of which the list has some files the others are told', () => inDirectory(async room => {
     const two = 'FILE "b.bin" BINARY\n TRACK 02 MODE1/2352\n INDEX 01 00:00:00\n';
     write(room, { 'a.bin': imageOf(room, 20), 'b.bin': imageOf(room, 20, 20), 'both.cue': sheet('a.bin') + two });

@@ -1,15 +1,15 @@
 // The job `scan`: what is in each image of a collection, a line for each as it is done.
 
-import { closeSync, ftruncateSync, openSync, readFileSync, readdirSync, realpathSync, statSync } from 'node:fs';
+import { readFileSync, readdirSync, realpathSync, statSync } from 'node:fs';
 import { cpus } from 'node:os';
 import { basename, dirname, join } from 'node:path';
 import { bytesOfLines } from '../core/bytes.js';
 import { sheetOf } from '../core/disc/cue.js';
 import { Fault } from '../core/faults.js';
 import { textOfFile } from '../core/texts/encodings.js';
-import { reasonOf, tryFile } from './failures.js';
-import { writeFully } from './new_file.js';
+import { reasonOf } from './failures.js';
 import { compiledModule } from './run.js';
+import { listedName, resumedList } from './scan_list.js';
 import { scanOne } from './scan_thread.js';
 import { begunThread } from './threads.js';
 
@@ -19,48 +19,6 @@ import { begunThread } from './threads.js';
 /** @typedef {import('./scan_thread.js').Answer} Answer */
 /** @typedef {import('./scan_thread.js').Scanned} Scanned */
 /** @typedef {{ scan(name: string): Promise<Answer>, close(): void }} Scanner */
-
-/**
- * A name as a list has it: no two names are the same there, and none has a tab or a line end.
- * @param {string} name
- */
-function listedName(name) {
-    const digits = (/** @type {string} */ it) => (it.codePointAt(0) || 0).toString(16);
-    return name.replace(/[\p{C}\p{Zl}\p{Zp}\\]/gu, it => it === '\\' ? '\\\\' : `\\u{${digits(it)}}`);
-}
-
-/** A list that goes on where an earlier run was interrupted. It has whole lines only, whatever happens. */
-class ResumedList {
-    /** @param {string} name */
-    constructor(name) {
-        this.name = name;
-        this.descriptor = openSync(name, 'a+');
-        const bytes = readFileSync(name);
-        this.size = bytes.lastIndexOf(0x0A) + 1;
-        ftruncateSync(this.descriptor, this.size);
-        const rows = new TextDecoder().decode(bytes.subarray(0, this.size)).split('\n').map(line => line.split('\t'));
-        /** The names of what was done. */
-        this.done = new Set(rows.map(([done]) => done));
-        this.hasFindings = rows.some(([,,, findings]) => Number(findings) > 0);
-    }
-
-    /** @param {Uint8Array} bytes of whole lines */
-    async write(bytes) {
-        await tryFile('write', this.name, () => {
-            try {
-                writeFully(this.descriptor, bytes);
-                this.size += bytes.length;
-            } catch (error) {
-                ftruncateSync(this.descriptor, this.size);
-                throw error;
-            }
-        });
-    }
-
-    close() {
-        closeSync(this.descriptor);
-    }
-}
 
 /** What is looked at, each once: by the paths that were given, directories and all below them in the order of their names. */
 class Collection {
@@ -227,17 +185,6 @@ function realName(name) {
     } catch {
         return name;
     }
-}
-
-/**
- * @param {Run} run
- * @returns {Promise<ResumedList | null>}
- */
-async function resumedList(run) {
-    const { resume, output } = run.options;
-    if (resume === undefined) return null;
-    if (output !== undefined) throw new Fault('--resume and -o exclude each other');
-    return tryFile('open', resume, () => new ResumedList(resume));
 }
 
 /** @param {Run} run */
