@@ -140,7 +140,7 @@ class ScriptPanel {
         const { name } = lines;
         const fault = lines.faults > 0;
         const tag = fault ? countOf(lines.faults, 'fault') : lines.long ? countOf(lines.long.text.length, 'character')
-            : `${countOf(lines.patches, 'patch', 'patches')}${lines.version ? `, version ${lines.version}` : ''}`;
+            : `${countOf(lines.patches, 'patch', 'patches')}${lines.version ? `, version ${lines.versionName()}` : ''}`;
         const undo = button('slim bare', () => void makeUndo(app, undo, this.undoing, lines, this.check.carry.checked),
             'Undo script…');
         setDisabled(undo, fault || app.image === null || (lines.patches === 0 && !lines.long));
