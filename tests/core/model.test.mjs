@@ -2,7 +2,7 @@
 
 import assert from 'node:assert/strict';
 import { test } from 'node:test';
-import { calls, core, diceOf, newCalls } from './common.mjs';
+import { calls, core, decoded, diceOf, newCalls } from './common.mjs';
 
 const { ScriptModel, lastBlockOf, writersIn } = await core('script/model.js');
 const { faultyWord, lacksDigit, wordsOf } = await core('script/line_words.js');
@@ -12,6 +12,17 @@ const { CONTENT, VERB } = await core('module/records.js');
 const modelOf = text => new ScriptModel(calls, text);
 const at = (block, offset, size) => ({ block, offset, size });
 const linesAt = (model, asked) => asked.map(it => model.lineAt(at(...it)));
+/** A library whose scripts may also begin with `cdpatch 9`, a language with the verbs of version 2. */
+function laterCalls() {
+    const later = newCalls();
+    const readLine = later.readLine.bind(later);
+    later.readLine = (version, number, earlier, from, size) => {
+        const isHead = version === 0 && decoded(later.held(from, from + size)) === 'cdpatch 9';
+        return isHead ? 999 : readLine(version === 999 ? 2 : version, number, earlier, from, size);
+    };
+    return later;
+}
+
 const plain = ({ lines, head, version, patches, faults, size }) => ({ lines, head, version, patches, faults, size });
 
 test('a line with a fault is no line that writes', () => {
@@ -135,6 +146,12 @@ test('the word that makes a line faulty is found, and a word that lacks a digit'
     assert.deepEqual(model.lines.slice(1).map(({ text, content }) => faultyWord(calls, text, content)), Object.values(faulty));
     assert.deepEqual(['4', '414', '4x', '41', ''].map(word => lacksDigit(calls, word)), [true, true, false, false, false]);
     assert.deepEqual(wordsOf(' \tset  5\t6 41 '), ['set', '5', '6', '41']);
+});
+
+test('a version is called as the head line names it, whatever number the calls have for it', () => {
+    const later = new ScriptModel(laterCalls(), '# a\ncdpatch 9\naddress 5 00:02:05\n');
+    assert.deepEqual([later.version, later.versionName(), later.faults, later.patches], [999, '9', 0, 1]);
+    assert.deepEqual(['\n \tcdpatch  2 \r\n', 'cdpatch 1', '# a\n', 'rebuild'].map(text => modelOf(text).versionName()), ['2', '1', '', '']);
 });
 
 test('a text is a script by its first line that says something, or meant as one', () => {

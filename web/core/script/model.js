@@ -3,7 +3,7 @@
 import { CONTENT, PATCH_SIZE, VERB, isFault } from '../module/records.js';
 import { USER_SIZE } from '../sectors/sector.js';
 import { hexText } from '../texts/hex.js';
-import { contentOf, linesOfText, partOfWord, lineParts } from './line_words.js';
+import { contentOf, linesOfText, partOfWord, lineParts, wordsOf } from './line_words.js';
 
 /** @typedef {import('../module/calls.js').Calls} Calls */
 /** @typedef {import('../module/calls.js').PatchRange} PatchRange */
@@ -90,6 +90,11 @@ export class ScriptModel {
     text() {
         if (this.joined === null) this.joined = this.lines.map(({ text }) => text).join('\n');
         return this.joined;
+    }
+
+    /** The version as the head line names it, '' without one: the number that calls have for a later one is another. */
+    versionName() {
+        return this.version === 0 ? '' : wordsOf(this.lines[this.head].text)[1] || '';
     }
 
     /**

@@ -159,7 +159,7 @@ class ScriptPanel {
         if (faults > 0) return told(texts.faultsOfScript, { n: faults });
         if (long) return told(texts.charactersOfScript, { n: long.text.length });
         const words = told(texts.patchesOfScript, { n: patches });
-        return version ? told(texts.patchesAndVersion, { patches: words, version: String(version) }) : words;
+        return version ? told(texts.patchesAndVersion, { patches: words, version: this.lines.versionName() }) : words;
     }
 
     drawSide() {
