@@ -13,6 +13,9 @@ test('a mistyped job, option or encoding is answered by what was meant', async (
     const SAID = {
         'fnd x': "there is no job 'fnd'; did you mean find?; see cdscript --help",
         'Info x': "there is no job 'Info'; did you mean info?; see cdscript --help",
+        'repair x': "there is no job 'repair'; did you mean merge?; see cdscript --help",
+        'rebuild x': "there is no job 'rebuild'; did you mean merge?; see cdscript --help",
+        'Verify x': "there is no job 'Verify'; did you mean info?; see cdscript --help",
         'aplpy x': "there is no job 'aplpy'; did you mean apply?; see cdscript --help",
         'frobnicate x': "there is no job 'frobnicate'; see cdscript --help",
         'list --bsae 0 x': 'there is no option --bsae; did you mean --base?',

@@ -53,6 +53,15 @@ test('a scan tells each image of a collection once, with what a list of dumps kn
     assert.deepEqual(read(room, 'list').toString(), [rows[0], rows[23]].map(row => `${row.replace(/\tverified.*/, '\t-')}\n`).join(''));
 }));
 
+test('in a directory what is called like a raw image, and is none, is named', () => inDirectory(async room => {
+    mkdirSync(join(room, 'set'));
+    write(join(room, 'set'), { 'a.bin': imageOf(room, 20), 'b.IMG': '', 'c.bin': 'no image', 'd.txt': 'notes' });
+    const { status, out, errors } = await run(['scan', 'set'], { cwd: room });
+    assert.deepEqual([status, out.split('\n').length], [0, 2]);
+    assert.equal(errors, ['files that are no raw images: 3', 'set/b.IMG is called like a raw image, and is none', 'set/c.bin is called like a raw image, and is none', '']
+        .join('\n').replace(/^(?=.)/gm, 'cdscript: '));
+}));
+
 test('what could not be read is named, and the status is 2', () => inDirectory(async room => {
     const set = join(room, 'set');
     mkdirSync(set);

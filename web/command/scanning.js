@@ -107,7 +107,8 @@ class Scan {
         this.target = target;
         this.known = known;
         this.done = done;
-        this.others = 0;
+        /** @type {string[]} files in directories that are no raw images */
+        this.others = [];
         this.status = 0;
         /** The real paths of files that were told. */
         this.told = new Set();
@@ -123,8 +124,8 @@ class Scan {
      * @param {{ name: string, isNamed: boolean }} wanted
      * @param {Answer} answer
      */
-    async tell({ isNamed }, { files, missing, fault, isOther }) {
-        if (isOther && !isNamed) this.others += 1;
+    async tell(wanted, { files, missing, fault, isOther }) {
+        if (isOther && !wanted.isNamed) this.others.push(wanted.name);
         else if (fault !== '') this.fault(fault);
         missing.forEach(text => this.fault(text));
         const fresh = files.filter(({ name }) => !this.told.has(realName(name)));
@@ -202,8 +203,19 @@ export async function scanJob(run) {
     } finally {
         if (list) list.close();
     }
-    if (scan.others > 0) run.say(`files that are no raw images: ${scan.others}`);
+    sayOthers(run, scan.others);
     return scan.status;
+}
+
+/**
+ * Says how many files are no raw images, and names those that are called like one: an empty or a damaged one is among them.
+ * @param {Run} run
+ * @param {string[]} names
+ */
+function sayOthers(run, names) {
+    if (names.length === 0) return;
+    run.say(`files that are no raw images: ${names.length}`);
+    for (const name of names.filter(it => /\.(bin|img)$/i.test(it)).sort()) run.say(`${name} is called like a raw image, and is none`);
 }
 
 /**

@@ -41,12 +41,17 @@ export function nearest(word, known) {
     return best;
 }
 
+/** Other words for what jobs do. */
+const OTHER_WORDS = new Map([['repair', 'merge'], ['rebuild', 'merge'], ['fix', 'merge'], ['verify', 'info'], ['hash', 'info'],
+    ['patch', 'apply'], ['compare', 'diff'], ['search', 'find'], ['dump', 'texts'], ['collection', 'scan']]);
+
 /**
  * A question at the end of a message, '' if nothing is near.
  * @param {string} word
  * @param {Iterable<string>} known
  */
 export function didYouMean(word, known) {
-    const meant = nearest(word, known);
+    const other = OTHER_WORDS.get(word.toLowerCase()) || '';
+    const meant = [...known].includes(other) ? other : nearest(word, known);
     return meant === null ? '' : `; did you mean ${meant}?`;
 }
