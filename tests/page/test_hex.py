@@ -9,6 +9,12 @@ from selenium.webdriver.common.keys import Keys
 
 CLIPBOARD = 'navigator.clipboard.writeText = async text => { globalThis.copied = text; };'
 
+# How many rows the tools of a sector take.
+TOOL_ROWS = '''const tools = [...document.querySelector('#go-to').closest('header').querySelectorAll('input, select, button')];
+    const middles = tools.filter(it => it.checkVisibility() && !it.matches('.term')).map(it => it.getBoundingClientRect())
+        .map(({ top, bottom }) => Math.round((top + bottom) / 8));
+    return [new Set(middles).size, middles.length]'''
+
 
 class Hex(PageTest):
     def sector_of(self, block: int, image: bytes) -> chromium.Chromium:
@@ -82,6 +88,13 @@ class Hex(PageTest):
         browser.wait('#panel-disc .foot .bad-ink', 'é')
         browser.click('#tab-script')
         self.assertEqual(self.script_text(), f'cdpatch 1\n{line}\n')
+
+    def test_the_tools_of_a_sector_are_one_row(self) -> None:
+        self.sector_of(60, discs.game())
+        for width in (1280, 900):
+            self.browser.size(width)
+            self.assertEqual(self.browser.run(TOOL_ROWS), [1, 3], width)
+        self.browser.size(1280)
 
     def test_offsets_are_shown_in_hexadecimal_too(self) -> None:
         browser = self.sector_of(60, discs.game())

@@ -49,8 +49,10 @@ export class SectorCard {
             this.view.setOffsets(!this.view.hexadecimal);
             fill(offsets, this.view.hexadecimal ? texts.offsetsHexadecimal : texts.offsetsDecimal);
         }, texts.offsetsDecimal);
-        this.part = element('section', { class: 'card', 'aria-labelledby': 'sector-title' }, element('header', {}, this.title, form,
-            element('label', { class: 'row small' }, texts.encodingOfBytes, this.choice), offsets), this.noBlock, this.empty, this.body);
+        const tools = element('div', { class: 'row' }, form, element('label', { class: 'row small' }, texts.encodingOfBytes, this.choice),
+            offsets);
+        this.part = element('section', { class: 'card', 'aria-labelledby': 'sector-title' }, element('header', {}, this.title, tools),
+            this.noBlock, this.empty, this.body);
         oneStop(this.fields, 'button');
         for (const name of /** @type {const} */ (['encoding', 'script', 'second', 'repair', 'panel'])) {
             app.on(name, () => this.redraw(name !== 'panel'));
