@@ -4,7 +4,7 @@ import { inflatedText, sha256Of } from '../app/index.js';
 import { pageSource } from '../player/index.js';
 import * as texts from '../texts/index.js';
 import { say, told } from '../texts/index.js';
-import { byId, element, fill, hashParts, messageOf, setAttribute } from '../ui/index.js';
+import { byId, element, fill, hashParts, keysIn, messageOf, setAttribute } from '../ui/index.js';
 
 /** @typedef {import('../app/state.js').App} App */
 /** @typedef {import('../ui/fill.js').Child} Child */
@@ -35,8 +35,7 @@ function paragraphs(...all) {
 /** @param {string[]} row */
 function keyRow([keys, does]) {
     if (keys === '') return [element('dt', { class: 'part' }, element('b', {}, does)), element('dd')];
-    const parts = keys.split('`').map((part, i) => i % 2 === 0 ? part : element('kbd', {}, part));
-    return [element('dt', {}, ...parts), element('dd', {}, does)];
+    return [element('dt', {}, ...keysIn(keys)), element('dd', {}, does)];
 }
 
 /** The words of the page, each with the note that it opens elsewhere. */

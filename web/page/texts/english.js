@@ -471,6 +471,11 @@ export const offsetIs = '{offset} {at}';
 export const byteOfSector = 'byte {at} of the sector';
 export const placeHolds = '{place}: {digits}';
 
+// the keys, each between `, in one line over the bytes: of digits, of texts, and of bytes that cannot be changed
+export const keysOfDigits = '`arrows` move · `0`–`F` change · `T` for text · `Ctrl`+`Z` takes back · `Ctrl`+`C` copies';
+export const keysOfTexts = 'type the text · `Esc` for digits · `Ctrl`+`Z` takes back · `Ctrl`+`C` copies';
+export const keysOfOthers = '`arrows` move · `Ctrl`+`C` copies';
+
 // the chosen byte
 export const fileAt = 'file {name} at {position}';
 export const inNoFile = 'in no file';
@@ -479,14 +484,14 @@ export const copyAsHex = 'Copy as hex';
 export const copyAsText = 'Copy as text';
 export const changedByScript = 'changed by the script, {digits} in the file';
 export const inSecondImage = '{digits} in the second image';
-export const typeToChange = 'Type to change bytes, or T and then a text: each change becomes a line of the script.';
+export const changeIsLine = 'Each change becomes a line of the script.';
 export const changeWillBeRefused = 'This sector is damaged: Check refuses the change, unless damaged sectors are patched too (carry), ' +
     'or a rebuild in the script comes before it.';
 export const edcFollowsFromData = 'Only user data can be typed over. EDC and parity follow from them.';
 export const onlyModeOneChanges = 'Only Mode 1 sectors can be changed.';
 
 // keys, copy and paste
-export const bytesCopied = '{n} byte copied.|{n} bytes copied.';
+export const bytesCopied = 'Copied {n} byte|Copied {n} bytes';
 export const inTheScript = 'In the script: {line}';
 export const bytesTakenBack = 'The bytes that were typed last are taken back.';
 export const notTypedHere = 'The last change of the script was not typed here.';
