@@ -329,6 +329,7 @@ export const rowSpliced = '{count} in a row: spliced by hand? not damage';
 export const rowOnPurpose = '{count} in a row: perhaps on purpose (copy protection)';
 export const singleSector = 'a single sector';
 export const singleSectorUserDataFit = 'a single sector; its user data fit';
+export const sectorsInRow = '{count} sectors in a row';
 export const singleSectors = 'single sectors';
 export const singleSectorsAllOver = 'single sectors all over the disc';
 export const userDataFit = '{what}; the user data fit';
