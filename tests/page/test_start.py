@@ -50,7 +50,14 @@ class Start(PageTest):
                 self.assertIn(words, self.browser.text('#announced'))
                 self.assertEqual(self.browser.run('return asked'), 1)
         self.press('Open files')
-        self.assertEqual(self.browser.run('return document.querySelectorAll(".job[aria-pressed=true]").length'), 0)
+        self.assertEqual(self.browser.run('return [...document.querySelectorAll(".job[aria-pressed=true]")].map(it => it.dataset.aim)'), ['repair'])
+
+    def test_the_button_stays_in_view_on_a_phone_when_a_job_is_chosen(self) -> None:
+        self.browser.run(ASKED)
+        self.browser.size(360, 740)
+        for job in ('play', 'translate', 'repair'):
+            self.browser.run('document.querySelector(`[data-aim=${arguments[0]}]`).click(); scrollTo(0, 0)', job)
+            self.assertLessEqual(self.browser.run('return document.querySelector("#open-files").getBoundingClientRect().bottom'), 740, job)
 
     def leads(self, job: str, focus: str, panel: str) -> None:
         self.setUp()

@@ -19,7 +19,27 @@ export function mountHelp(app) {
     fill(byId('proved'), element('b', {}, texts.whatIsProved), ...paragraphs(texts.provedCode, texts.notProved, texts.scriptsWereApplied));
     fill(byId('about'), element('b', {}, `cdpatch ${number}`),
         ...paragraphs(texts.pageIsOneFile, texts.triedIn, ...madeWith(app.parts.made)), ownHash(app), notices());
-    for (const note of document.querySelectorAll('[popover]')) setAttribute(note, 'aria-label', note.children[0].textContent);
+    for (const note of document.querySelectorAll('[popover]')) {
+        setAttribute(note, 'aria-label', note.children[0].textContent);
+        note.prepend(element('button', { type: 'button', class: 'btn slim bare shut', popovertarget: note.id, popovertargetaction: 'hide' },
+            texts.close));
+    }
+    if ('popover' in HTMLElement.prototype) keepTouches();
+}
+
+/** A finger beside an open note closes it, and presses nothing that lies there. */
+function keepTouches() {
+    let closes = false;
+    document.addEventListener('pointerdown', ({ pointerType, target }) => {
+        const note = document.querySelector(':popover-open');
+        closes = pointerType === 'touch' && note !== null && !note.contains(/** @type {Node} */ (target));
+    }, true);
+    document.addEventListener('click', event => {
+        if (!closes) return;
+        closes = false;
+        event.preventDefault();
+        event.stopPropagation();
+    }, true);
 }
 
 /** @param {string[]} tools and their versions */
