@@ -43,7 +43,7 @@ class Start(PageTest):
         for width in (1280, 360):
             self.browser.size(width)
             for job, words in (('Play a patch', 'the disc image together with its patch'), ('Translate a disc', 'its cue sheet with all BINs'),
-                               ('Repair a dump', 'the second dump with it')):
+                               ('Repair or compare dumps', 'the second dump with it')):
                 self.browser.run('asked = 0')
                 self.press(job)
                 self.browser.wait('#wanted', words)
@@ -51,6 +51,15 @@ class Start(PageTest):
                 self.assertEqual(self.browser.run('return asked'), 1)
         self.press('Open files')
         self.assertEqual(self.browser.run('return [...document.querySelectorAll(".job[aria-pressed=true]")].map(it => it.dataset.aim)'), ['repair'])
+
+    def test_each_job_says_before_what_it_asks_for(self) -> None:
+        cards = '''return [...document.querySelectorAll('.job')].map(it =>
+            [it.querySelector('span').innerText, getComputedStyle(it.querySelector('b'), '::after').content])'''
+        said = self.browser.run(cards)
+        for (text, sign), words in zip(said, ('Choose your disc image and a patch', 'Choose the disc image:', 'Choose one dump or two:'), strict=True):
+            self.assertTrue(text.startswith(words), text)
+            self.assertEqual(sign, '"…"')
+        self.assertIn('compare', self.browser.text('[data-aim=repair]'))
 
     def test_the_button_stays_in_view_on_a_phone_when_a_job_is_chosen(self) -> None:
         self.browser.run(ASKED)
@@ -70,7 +79,7 @@ class Start(PageTest):
 
     def test_each_job_leads_to_its_panel(self) -> None:
         self.leads('Translate a disc', 'find-text', 'text')
-        self.leads('Repair a dump', 'map', 'disc')
+        self.leads('Repair or compare dumps', 'map', 'disc')
         self.leads('Open files', 'map', 'disc')
         self.setUp()
         self.browser.run(ASKED)
