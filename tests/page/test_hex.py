@@ -89,6 +89,11 @@ class Hex(PageTest):
         browser.click('#tab-script')
         self.assertEqual(self.script_text(), f'cdpatch 1\n{line}\n')
 
+    def test_offsets_and_bytes_of_the_sector_are_told_apart(self) -> None:
+        browser = self.sector_of(60, discs.game())
+        browser.wait('.hex .cut', 'User data: offset 0 to 2047, which are bytes 16 to 2063 of the sector')
+        self.assertEqual(browser.text('.fields').split()[:2], ['Bytes', 'sync0–11'])
+
     def test_the_tools_of_a_sector_are_one_row(self) -> None:
         self.sector_of(60, discs.game())
         for width in (1280, 900):

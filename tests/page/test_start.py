@@ -35,7 +35,7 @@ class Start(PageTest):
     def test_the_kinds_of_files_are_one_line(self) -> None:
         height = 'const it = document.querySelector(".takes"); return it.getClientRects().length && it.innerText.split("\\n").length'
         self.assertEqual(self.browser.run(height), 1)
-        for word in ('.bin', '.cue', 'patch scripts', 'patcher pages', '2352', 'not ISO or CHD'):
+        for word in ('raw images (.bin, .img)', '.cue', 'patch scripts', 'patcher pages', 'not ISO or CHD'):
             self.assertIn(word, self.browser.text('.takes'))
 
     def test_each_job_says_what_to_choose_and_opens_the_picker(self) -> None:
@@ -51,6 +51,15 @@ class Start(PageTest):
                 self.assertEqual(self.browser.run('return asked'), 1)
         self.press('Open files')
         self.assertEqual(self.browser.run('return [...document.querySelectorAll(".job[aria-pressed=true]")].map(it => it.dataset.aim)'), ['repair'])
+
+    def test_the_notes_say_what_cdpatch_is_for_and_what_its_words_mean(self) -> None:
+        self.browser.click('[popovertarget=about]:not(.shut)')
+        self.browser.wait('#about p', 'cdpatch puts patches on raw CD images')
+        self.browser.click('#about .shut')
+        self.browser.click('[popovertarget=words]:not(.shut)')
+        words = self.browser.run('''return [...document.querySelectorAll('#words dt')].map(it => [it.innerText, it.nextSibling.innerText])''')
+        for word in ('Sector', 'Dump', 'Mode 1', 'Cue sheet', 'Patcher', 'Block', 'Carry'):
+            self.assertTrue(dict(words)[word].endswith('.'), word)
 
     def test_each_job_says_before_what_it_asks_for(self) -> None:
         cards = '''return [...document.querySelectorAll('.job')].map(it =>

@@ -161,7 +161,8 @@ export class SectorCard {
 
     /** @param {Field[]} fields */
     drawFields(fields) {
-        fill(this.fields, ...fields.map(({ name, label, from, to }) => element('button', {
+        const bytes = element('span', { class: 'small quiet' }, texts.bytesColumn);
+        fill(this.fields, bytes, ...fields.map(({ name, label, from, to }) => element('button', {
             type: 'button', class: `x-${name}`, click: () => {
                 this.view.moveTo(from);
                 this.view.reveal(from, true);

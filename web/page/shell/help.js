@@ -18,7 +18,7 @@ export function mountHelp(app) {
     fill(byId('words'), element('b', {}, texts.wordsUsed), element('dl', { class: 'keys' }, ...wordRows()));
     fill(byId('proved'), element('b', {}, texts.whatIsProved), ...paragraphs(texts.provedCode, texts.notProved, texts.scriptsWereApplied));
     fill(byId('about'), element('b', {}, `cdpatch ${number}`),
-        ...paragraphs(texts.pageIsOneFile, texts.triedIn, ...madeWith(app.parts.made)), ownHash(app), notices());
+        ...paragraphs(texts.whatItIsFor, texts.pageIsOneFile, texts.triedIn, ...madeWith(app.parts.made)), ownHash(app), notices());
     for (const note of document.querySelectorAll('[popover]')) {
         setAttribute(note, 'aria-label', note.children[0].textContent);
         note.prepend(element('button', { type: 'button', class: 'btn slim bare shut', popovertarget: note.id, popovertargetaction: 'hide' },
@@ -58,12 +58,11 @@ function keyRow([keys, does]) {
     return [element('dt', {}, ...keysIn(keys)), element('dd', {}, does)];
 }
 
-/** The words of the page, each with the note that it opens elsewhere. */
+/** The words of the page: those that have a note elsewhere too come last, with its text. */
 function wordRows() {
-    return [...document.querySelectorAll('[popover][id^="term-"]')].flatMap(note => {
-        const [name, text] = note.children;
-        return [element('dt', {}, element('b', {}, name.textContent)), element('dd', {}, text.textContent)];
-    });
+    const notes = [...document.querySelectorAll('[popover][id^="term-"]')].map(note => [...note.children].map(it => it.textContent));
+    return [...texts.WORDS, ...notes].flatMap(([name, text]) =>
+        [element('dt', {}, element('b', {}, name)), element('dd', {}, text)]);
 }
 
 /**

@@ -96,9 +96,9 @@ export const repairDump = 'Repair or compare dumps';
 export const seeDamage = 'Choose one dump or two: see damage on a map, repair it, see what differs.';
 export const openFilesHere = 'Open files';
 export const openFiles = 'Open files…';
-export const orTryExample = 'or {example}: 300 sectors with a scratch and the text {text}';
+export const orTryExample = 'or {example}: a small one, with some damage and the Japanese text {text}';
 export const tryExample = 'try it with an example disc';
-export const takesFiles = 'Takes .bin and .img with 2352 bytes a sector, their .cue, patch scripts and patcher pages; not ISO or CHD.';
+export const takesFiles = 'Takes raw images (.bin, .img), their .cue, patch scripts and patcher pages; not ISO or CHD.';
 export const nothingLeavesYourComputer = 'Nothing leaves your computer.';
 export const oneFileOffline = 'This page is one file without any connection. It works offline.';
 
@@ -111,7 +111,7 @@ export const offsetMeans = 'A place in the 2048 bytes of user data of one block:
     'sector.';
 export const wordBase = 'Base';
 export const baseMeans = 'The block number of this file’s first sector: 0 for a whole disc, more for the BIN of a later track. The page ' +
-    'reads it from the headers of Mode 1 sectors.';
+    'reads it from the headers of Mode 1 sectors. Set it only if a script or a list counts the blocks of this file from another number.';
 export const wordUserData = 'User data';
 export const userDataMeans = 'The 2048 bytes of a Mode 1 sector in which files are stored. Patches write here; only “address” writes in ' +
     'the header.';
@@ -121,6 +121,15 @@ export const edcParityMeans = 'EDC is a checksum of the sector. P and Q parity a
 export const wordCarry = 'Carry';
 export const carryMeans = 'A patch on a damaged sector is normally refused. With carry it is accepted, and the sector keeps its damage, ' +
     'so that the damage stays visible.';
+
+// the words that have no note elsewhere, and what they mean
+export const WORDS = [
+    ['Sector', '2352 bytes of an image: sync field, header, user data, EDC, zeros and parity.'],
+    ['Dump', 'An image that was read from a disc.'],
+    ['Mode 1', 'A kind of sector, with 2048 bytes of user data, EDC and parity: the only one that can be patched.'],
+    ['Cue sheet', 'A text file (.cue) that names the BIN files of a disc, and the tracks in them.'],
+    ['Patcher', 'This page with a script in it, which its author publishes for players.'],
+];
 
 // the keys, each between `, and what they do; without keys, where
 export const KEYS = [
@@ -148,6 +157,7 @@ export const notProved = 'JavaScript opens the files, moves the bytes, adds up t
     'browser are trusted.';
 export const scriptsWereApplied = 'Scripts of two images, of new texts and to undo were applied by the proved code before you see them, ' +
     'and gave just what they should. That a sector inside Mode 1 has lost its sync or mode is a guess of JavaScript.';
+export const whatItIsFor = 'cdpatch puts patches on raw CD images, helps to translate discs, and finds and repairs damaged sectors.';
 export const pageIsOneFile = 'This page is one file. It has no connection, sends nothing, and works offline: save it where you like.';
 export const triedIn = 'Tried in Chromium 156, Firefox ESR 153 and WebKitGTK 2.50, the engine of Safari. Chrome and Edge write a patched ' +
     'image straight to the file that you choose; the others give it to their downloads.';
@@ -351,7 +361,7 @@ export const filesBeingListed = 'The files are being listed.';
 export const noVolumeFound = 'No ISO 9660 volume was found here, so no file can be named.';
 export const volumeHasNoFiles = 'The volume has no files.';
 export const noNameHasThis = 'No name has this in it.';
-export const filesByBlocks = 'As the volume names them, by their blocks.';
+export const filesByBlocks = 'The files of the disc’s ISO 9660 volume, in the order of their blocks.';
 export const filesCounted = '{n} file|{n} files';
 export const filesOfAll = '{count} of {all}';
 export const filesFromTo = '{from}–{to} of {all}';
@@ -386,7 +396,7 @@ export const runIsNeighbours = 'A run is a row of neighbours of one kind. Begins
 export const whichText = 'Which text';
 export const whatProgramPrints = 'What cdpatch {verb} prints';
 export const moreLinesPrinted = '… {n} more line: Copy and Save have all|… {n} more lines: Copy and Save have all';
-export const printedToTheByte = 'The text that the program prints, to the byte.';
+export const printedToTheByte = 'What the command-line program cdpatch prints, to the byte.';
 
 // lists of known dumps
 export const fileLoaded = 'Loaded: {name}';
@@ -465,7 +475,7 @@ export const allElseField = 'all else';
 export const bytesOfSector = 'Bytes of the sector';
 export const offsetWord = 'offset';
 export const syncAndHeader = 'Sync field and header';
-export const userDataOffsets = 'User data: {size} bytes, offset 0 to {last}';
+export const userDataOffsets = 'User data: offset 0 to {last}, which are bytes {first} to {end} of the sector';
 export const edcZerosParity = 'EDC, zeros and parity';
 export const ofSecondImage = 'second';
 export const offsetIs = '{offset} {at}';
