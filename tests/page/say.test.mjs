@@ -6,8 +6,14 @@ import { calls, core, page } from './page.mjs';
 
 const { messageOf, messageParts, sentence } = await page('ui/notices.js');
 
+const { megabytes } = await page('ui/progress.js');
 const { newBytes } = await core('faults.js');
 const { serving } = await core('jobs.js');
+
+test('a size is said alike everywhere: in megabytes, below 100 with a tenth', () => {
+    const said = { 0: '0', 428064: '0.4', 7321776: '7.3', 99949999: '99.9', 99950000: '100', 734003200: '734', 2147483648: '2,147' };
+    for (const [bytes, words] of Object.entries(said)) assert.equal(megabytes(Number(bytes)), words, bytes);
+});
 
 test('want of memory is said as that, whichever browser or worker has met it', context => {
     const caught = tried => {

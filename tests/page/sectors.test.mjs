@@ -45,6 +45,17 @@ test('a base by which no sector has its address is not called copy protection, a
     assert.deepEqual(cases.map(([base, addressed, marks]) => otherBase({ base, addressed }, marks)), [null, null, null, null]);
 });
 
+test('a few sectors side by side are called a row, and what has gaps single sectors', () => {
+    const words = (...damaged) => {
+        const marks = marksOf(0, Array.from({ length: 10 }, (_, i) => i), damaged);
+        return placesOf(marks).map(place => placeGuess(place, false, 10));
+    };
+    assert.deepEqual(words(4, 5, 6, 7), ['4 sectors in a row']);
+    assert.deepEqual(words(4, 5), ['2 sectors in a row']);
+    assert.deepEqual(words(4, 5, 7), ['single sectors']);
+    assert.deepEqual(words(4), ['a single sector']);
+});
+
 test('only what is about a turn apart is called a scratch', () => {
     const known = 300000;
     /** What is guessed of 40 damaged sectors at a distance. */

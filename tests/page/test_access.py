@@ -3,12 +3,20 @@
 from collections.abc import Callable
 
 import discs
+from common import waited
 from pages import BUTTON
 from selenium.webdriver.common.keys import Keys
 from states import States
 
 # What has the focus, by its name for screen readers.
 HAS_FOCUS = 'const it = document.activeElement; return it === document.body ? "" : it.id || it.innerText.replace(/\\s+/g, " ").trim()'
+
+
+# Where a finger presses a job of the first screen, beside the note.
+BESIDE = '''const { bottom } = document.querySelector('[data-aim=play]').getBoundingClientRect(), note = document.querySelector(':popover-open');
+    scrollBy(0, bottom - note.getBoundingClientRect().top + 20);
+    const { left, top } = document.querySelector('[data-aim=play]').getBoundingClientRect();
+    return [left + 40, top + 20]'''
 
 
 class Access(States):
@@ -56,3 +64,25 @@ class Access(States):
             self.browser.press(Keys.ESCAPE)
             self.assertFalse(self.browser.run('return document.querySelector(":popover-open") !== null'))
             self.assertEqual(self.has_focus(), label)
+
+    def test_a_note_has_a_button_that_closes_it(self) -> None:
+        for width in (360, 1280):
+            self.browser.size(width, 740)
+            for name in ('about', 'proved', 'keys', 'words'):
+                self.browser.click(f'[popovertarget={name}]:not([popovertargetaction])')
+                self.browser.click(f'#{name} .shut')
+                self.assertFalse(self.browser.run('return document.querySelector(":popover-open") !== null'), f'{name} at {width}')
+        self.browser.size(1280)
+
+    def test_a_finger_beside_a_note_closes_it_and_presses_nothing(self) -> None:
+        browser = self.browser
+        browser.run('globalThis.asked = 0; HTMLInputElement.prototype.click = () => { asked += 1; }')
+        browser.size(360, 740)
+        browser.click('[popovertarget=about]')
+        for asked in (0, 1):
+            x, y = browser.run(BESIDE) if asked == 0 else (x, y)
+            browser.cdp('Input.dispatchTouchEvent', type='touchStart', touchPoints=[{'x': x, 'y': y}])
+            browser.cdp('Input.dispatchTouchEvent', type='touchEnd', touchPoints=[])
+            waited(lambda: not browser.run('return document.querySelector(":popover-open") !== null'), 'the note stays')
+            waited(lambda: browser.run('return asked') == asked, f'the job is pressed, and not {asked} times')
+        browser.size(1280)

@@ -95,7 +95,7 @@ class Actions(PageTest):
 
     def test_a_repair_takes_three(self) -> None:
         files = self.written()
-        self.chooses('Repair a dump', files['scratched'])
+        self.chooses('Repair or compare dumps', files['scratched'])
         self.chooses('Repair from another dump', files['game'])
         self.presses('Save repaired image')
         self.assertEqual(self.browser.downloaded('scratched (repaired).bin').read_bytes(), discs.game())
@@ -103,7 +103,7 @@ class Actions(PageTest):
 
     def test_a_repair_from_both_dumps_takes_two(self) -> None:
         files = self.written()
-        self.chooses('Repair a dump', files['scratched'], files['game'])
+        self.chooses('Repair or compare dumps', files['scratched'], files['game'])
         self.presses('Save repaired image')
         self.assertEqual(self.browser.downloaded('scratched (repaired).bin').read_bytes(), discs.game())
         self.assertEqual(self.actions, 2)

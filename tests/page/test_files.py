@@ -132,6 +132,7 @@ class Files(PageTest):
         self.open_image(path)
         self.browser.click('#findings [data-tab=files]')
         self.browser.wait('#findings .files', 'No ISO 9660 volume was found here')
+        self.assertNotIn('volume', self.browser.text('#findings .foot'))
 
     def test_all_tracks_of_a_cue_sheet_are_named(self) -> None:
         files = discs.written(t1=discs.game(), t2=bytes(2352 * 300), t3=bytes(2352 * 300))

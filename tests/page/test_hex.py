@@ -9,6 +9,12 @@ from selenium.webdriver.common.keys import Keys
 
 CLIPBOARD = 'navigator.clipboard.writeText = async text => { globalThis.copied = text; };'
 
+# How many rows the tools of a sector take.
+TOOL_ROWS = '''const tools = [...document.querySelector('#go-to').closest('header').querySelectorAll('input, select, button')];
+    const middles = tools.filter(it => it.checkVisibility() && !it.matches('.term')).map(it => it.getBoundingClientRect())
+        .map(({ top, bottom }) => Math.round((top + bottom) / 8));
+    return [new Set(middles).size, middles.length]'''
+
 
 class Hex(PageTest):
     def sector_of(self, block: int, image: bytes) -> chromium.Chromium:
@@ -34,7 +40,7 @@ class Hex(PageTest):
         browser.wait('#panel-disc .foot', '8 bytes selected, from offset 0 on')
         browser.run(CLIPBOARD)
         for label, text in (('Copy as hex', start), ('Copy as text', 'スタート')):
-            browser.run("[...document.querySelectorAll('.foot button')].find(it => it.innerText === arguments[0]).click()", label)
+            browser.run("[...document.querySelectorAll('.copies button')].find(it => it.innerText === arguments[0]).click()", label)
             waited(lambda: browser.run('return globalThis.copied') == text, f'{label} copies something else')
         self.assertEqual(self.copied(), start)
         browser.press('t')
@@ -82,6 +88,51 @@ class Hex(PageTest):
         browser.wait('#panel-disc .foot .bad-ink', 'é')
         browser.click('#tab-script')
         self.assertEqual(self.script_text(), f'cdpatch 1\n{line}\n')
+
+    def test_offsets_and_bytes_of_the_sector_are_told_apart(self) -> None:
+        browser = self.sector_of(60, discs.game())
+        browser.wait('.hex .cut', 'User data: offset 0 to 2047, which are bytes 16 to 2063 of the sector')
+        self.assertEqual(browser.text('.fields').split()[:2], ['Bytes', 'sync0–11'])
+
+    def test_the_tools_of_a_sector_are_one_row(self) -> None:
+        self.sector_of(60, discs.game())
+        for width in (1280, 900):
+            self.browser.size(width)
+            self.assertEqual(self.browser.run(TOOL_ROWS), [1, 3], width)
+        self.browser.size(1280)
+
+    def test_the_keys_stand_over_the_bytes_in_one_line(self) -> None:
+        browser = self.sector_of(discs.first_block(), discs.game())
+        browser.size(1280, 800)
+        browser.run('scrollTo(0, 0)')
+        place = '''const [keys, hex] = [...document.querySelectorAll('.keys-line, .hex')].map(it => it.getBoundingClientRect());
+            return [keys.bottom <= Math.min(hex.top, innerHeight), keys.height < 30]'''
+        for words in ('arrows move · 0–F change · T for text · Ctrl+Z takes back · Ctrl+C copies', 'Esc for digits'):
+            browser.wait('.keys-line', words)
+            self.assertEqual(browser.run(place), [True, True], words)
+            browser.press('t')
+        browser.press(Keys.ESCAPE)
+        browser.run('document.querySelector("#byte-3").click()')
+        waited(lambda: 'change' not in browser.text('.keys-line'), 'a sync field is changed')
+
+    def test_one_byte_is_copied_and_said_to_be(self) -> None:
+        browser = self.sector_of(discs.first_block(), discs.game())
+        self.assertEqual(self.copied(), discs.START.hex()[:2].upper())
+        browser.wait('.keys-line', 'Copied 1 byte')
+        browser.press(Keys.ARROW_RIGHT)
+        waited(lambda: 'Copied' not in browser.text('.keys-line'), 'another byte is called copied')
+        browser.run(CLIPBOARD)
+        browser.click('.copies button')
+        waited(lambda: browser.run('return globalThis.copied') == discs.START.hex()[2:4].upper(), 'the button copies something else')
+
+    def test_the_wheel_goes_on_to_the_page_at_the_end_of_the_bytes(self) -> None:
+        browser = self.sector_of(60, discs.game())
+        browser.size(1280, 600)
+        browser.run('scrollTo(0, 0); document.querySelector(".hex").scrollTop = 99999')
+        x, y = browser.run('const { left, top } = document.querySelector(".hex").getBoundingClientRect(); return [left + 200, top + 40]')
+        browser.cdp('Input.dispatchMouseEvent', type='mouseWheel', x=x, y=y, deltaX=0, deltaY=200)
+        waited(lambda: browser.run('return scrollY') > 50, 'the page stands still')
+        browser.size(1280)
 
     def test_offsets_are_shown_in_hexadecimal_too(self) -> None:
         browser = self.sector_of(60, discs.game())

@@ -74,6 +74,7 @@ class Kept(PageTest):
             self.browser.wait(f'{place} .say.warn', 'An image is being saved.')
         self.press('Open it instead')
         self.press('Set the base')
+        self.browser.wait('#disc-line form', 'Set it only if a script or a list counts the blocks of this file from another number.')
         self.press('Set')
         self.assertEqual(self.browser.text('#disc-line .name'), 'first.bin')
         self.browser.wait('#second-title', 'second.bin')

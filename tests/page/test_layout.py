@@ -114,3 +114,13 @@ class Layout(PageTest):
                 rows, facts = self.browser.run(FACTS)
                 self.assertLessEqual(rows, most, f'{facts} facts in {rows} rows at {width} on {panel}')
             self.browser.size(1280)
+
+    def test_a_map_without_a_ruler_leaves_no_room_for_one(self) -> None:
+        lefts = '''return ['#map', '.readout button'].map(css =>
+            Math.round(document.querySelector(css).getBoundingClientRect().left - document.querySelector('#map').closest('.card').getBoundingClientRect().left))'''
+        for image, ruled in ((discs.scratched(), False), (discs.scratches(), True)):
+            self.setUp()
+            self.begin(image)
+            map_left, button_left = self.browser.run(lefts)
+            self.assertEqual([map_left > 40, button_left > 40], [ruled, ruled], [map_left, button_left])
+            self.assertEqual(self.browser.run('return document.querySelectorAll(".ruler span").length > 1'), ruled)

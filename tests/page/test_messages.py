@@ -84,9 +84,12 @@ class Messages(PageTest):
 
     def copies(self, css: str, label: str, begins: str) -> None:
         """A button copies, says so, and has its own label again; also if it is drawn anew meanwhile."""
+        box = 'const { x, y, width, height } = document.querySelector(arguments[0]).getBoundingClientRect(); return [x + scrollX, y + scrollY, width, height]'
         self.browser.run('copied = ""')
+        before = self.browser.run(box, css)
         self.browser.click(css)
         self.browser.wait(css, 'Copied')
+        self.assertEqual(self.browser.run(box, css), before, f'{css} moves')
         self.assertTrue(self.browser.run('return copied').startswith(begins), css)
         self.assertEqual(self.browser.text('#announced'), 'Copied')
         common.waited(lambda: self.browser.text(css).split('\n')[0].strip() == label, f'{css} says it still', 4)

@@ -77,7 +77,7 @@ class Second(unittest.TestCase):
         self.assertEqual([self.legend('can be repaired'), self.legend('cannot be repaired')], [3, 1])
         self.press('Save repaired image')
         saved = self.browser.downloaded('game (repaired).bin')
-        self.browser.wait('#second-body .say', 'Keep this page open')
+        self.browser.wait('#second-body .say', '0.5 MB. Keep this page open')
         self.assertTrue(self.browser.asks_before_leaving())
         due = bytearray(first)
         for block in (40, 80, 100):

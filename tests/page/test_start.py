@@ -35,7 +35,7 @@ class Start(PageTest):
     def test_the_kinds_of_files_are_one_line(self) -> None:
         height = 'const it = document.querySelector(".takes"); return it.getClientRects().length && it.innerText.split("\\n").length'
         self.assertEqual(self.browser.run(height), 1)
-        for word in ('.bin', '.cue', 'patch scripts', 'patcher pages', '2352', 'not ISO or CHD'):
+        for word in ('raw images (.bin, .img)', '.cue', 'patch scripts', 'patcher pages', 'not ISO or CHD'):
             self.assertIn(word, self.browser.text('.takes'))
 
     def test_each_job_says_what_to_choose_and_opens_the_picker(self) -> None:
@@ -43,7 +43,7 @@ class Start(PageTest):
         for width in (1280, 360):
             self.browser.size(width)
             for job, words in (('Play a patch', 'the disc image together with its patch'), ('Translate a disc', 'its cue sheet with all BINs'),
-                               ('Repair a dump', 'the second dump with it')):
+                               ('Repair or compare dumps', 'the second dump with it')):
                 self.browser.run('asked = 0')
                 self.press(job)
                 self.browser.wait('#wanted', words)
@@ -51,9 +51,33 @@ class Start(PageTest):
                 self.assertEqual(self.browser.run('return asked'), 1)
         # The job stays, for who presses the button below it.
         self.press('Open files')
-        self.browser.wait('#wanted', 'the second dump with it')
-        self.assertEqual(self.browser.run('return document.querySelectorAll(".job[aria-pressed=true]").length'), 1)
+        self.assertEqual(self.browser.run('return [...document.querySelectorAll(".job[aria-pressed=true]")].map(it => it.dataset.aim)'), ['repair'])
         self.assertEqual(self.browser.run('return asked'), 2)
+
+    def test_the_notes_say_what_cdpatch_is_for_and_what_its_words_mean(self) -> None:
+        self.browser.click('[popovertarget=about]:not(.shut)')
+        self.browser.wait('#about p', 'cdpatch puts patches on raw CD images')
+        self.browser.click('#about .shut')
+        self.browser.click('[popovertarget=words]:not(.shut)')
+        words = self.browser.run('''return [...document.querySelectorAll('#words dt')].map(it => [it.innerText, it.nextSibling.innerText])''')
+        for word in ('Sector', 'Dump', 'Mode 1', 'Cue sheet', 'Patcher', 'Block', 'Carry'):
+            self.assertTrue(dict(words)[word].endswith('.'), word)
+
+    def test_each_job_says_before_what_it_asks_for(self) -> None:
+        cards = '''return [...document.querySelectorAll('.job')].map(it =>
+            [it.querySelector('span').innerText, getComputedStyle(it.querySelector('b'), '::after').content])'''
+        said = self.browser.run(cards)
+        for (text, sign), words in zip(said, ('Choose your disc image and a patch', 'Choose the disc image:', 'Choose one dump or two:'), strict=True):
+            self.assertTrue(text.startswith(words), text)
+            self.assertEqual(sign, '"…"')
+        self.assertIn('compare', self.browser.text('[data-aim=repair]'))
+
+    def test_the_button_stays_in_view_on_a_phone_when_a_job_is_chosen(self) -> None:
+        self.browser.run(ASKED)
+        self.browser.size(360, 740)
+        for job in ('play', 'translate', 'repair'):
+            self.browser.run('document.querySelector(`[data-aim=${arguments[0]}]`).click(); scrollTo(0, 0)', job)
+            self.assertLessEqual(self.browser.run('return document.querySelector("#open-files").getBoundingClientRect().bottom'), 740, job)
 
     def leads(self, job: str, focus: str, panel: str) -> None:
         self.setUp()
@@ -66,7 +90,7 @@ class Start(PageTest):
 
     def test_each_job_leads_to_its_panel(self) -> None:
         self.leads('Translate a disc', 'find-text', 'text')
-        self.leads('Repair a dump', 'map', 'disc')
+        self.leads('Repair or compare dumps', 'map', 'disc')
         self.leads('Open files', 'map', 'disc')
         self.setUp()
         self.browser.run(ASKED)

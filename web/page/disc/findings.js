@@ -170,7 +170,7 @@ export class Findings {
     drawFiles() {
         this.files.draw();
         fill(this.body, this.files.part);
-        fill(this.foot, element('span', {}, texts.filesByBlocks));
+        fill(this.foot, this.files.all.length > 0 && element('span', {}, texts.filesByBlocks));
     }
 
     /** @param {{ first: number, last: number, kind: number }[]} runs */

@@ -24,7 +24,7 @@ export const USER_END = USER_OFFSET + USER_SIZE;
 /** @type {Record<number, string>} what begins at a byte of a Mode 1 sector */
 const CUTS = {
     0: texts.syncAndHeader,
-    [USER_OFFSET]: told(texts.userDataOffsets, { size: String(USER_SIZE), last: String(USER_SIZE - 1) }),
+    [USER_OFFSET]: told(texts.userDataOffsets, { last: String(USER_SIZE - 1), first: String(USER_OFFSET), end: String(USER_END - 1) }),
     [USER_END]: texts.edcZerosParity,
 };
 

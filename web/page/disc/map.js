@@ -61,6 +61,8 @@ export class DiscMap {
     show(model) {
         if (model === null || this.model === null || model.marks.length !== this.model.marks.length) this.at = -1;
         this.model = model;
+        // Less than a minute has no ruler. That is asked of the disc and not of the ruler, which depends on the room that it takes.
+        this.part.classList.toggle('short', model !== null && model.marks.length < SECTORS_A_MINUTE);
         this.draw();
     }
 

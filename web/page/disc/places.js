@@ -91,7 +91,7 @@ export function placeGuess(place, isElsewhere, known) {
     if (count === 1) return counts[MARK.PARITY] === 1 ? texts.singleSectorUserDataFit : texts.singleSector;
     if (inRow && count >= 8) return told(texts.rowOnPurpose, row);
     const allOver = isAllOver(place, known);
-    const what = allOver ? texts.singleSectorsAllOver : texts.singleSectors;
+    const what = inRow ? told(texts.sectorsInRow, row) : allOver ? texts.singleSectorsAllOver : texts.singleSectors;
     return distanceGuess(place, allOver) || (counts[MARK.PARITY] === count ? told(texts.userDataFit, { what }) : what);
 }
 

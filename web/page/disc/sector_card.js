@@ -8,7 +8,7 @@ import { sectorOfSecond } from '../second/index.js';
 import { bindEncodings, chosenEncoding, encodingLabel } from '../text/index.js';
 import * as texts from '../texts/index.js';
 import { say, told } from '../texts/index.js';
-import { button, copyButton, element, fill, nameOf, oneStop, showFailure, term } from '../ui/index.js';
+import { button, copyButton, element, fill, keysIn, nameOf, oneStop, showFailure, term } from '../ui/index.js';
 import { crossingsOf } from './crossings.js';
 import { USER_END, byteWords, digitsOf, placeName } from './hex_lines.js';
 import { HexView } from './hex_view.js';
@@ -30,33 +30,46 @@ export class SectorCard {
         this.drawn = 0;
         this.wantsFocus = false;
         this.isOld = false;
+        /** What is said of bytes that were copied, until another byte is chosen. */
+        this.copied = '';
         this.view = new HexView((at, event) => this.edit.pressed(this.view, at, event));
+        this.view.hex.addEventListener('moved', () => { this.copied = ''; });
         this.edit.bind(this.view);
+        this.view.hex.addEventListener('copy', () => this.sayCopied());
         this.title = element('h2', { id: 'sector-title' });
         this.said = element('div');
         this.fields = element('div', { class: 'fields', role: 'group', 'aria-label': texts.pressFieldToGo });
+        this.keys = element('p', { class: 'small quiet keys-line if-mouse' });
         this.foot = element('p', { class: 'foot', 'aria-live': 'polite' });
+        const copies = element('div', { class: 'row copies' }, copyButton('slim bare tiny', () => this.edit.selectedHex(), texts.copyAsHex),
+            copyButton('slim bare tiny', () => this.edit.selectedText(), texts.copyAsText));
         this.goTo = element('input', { type: 'text', id: 'go-to', class: 'num slim', inputmode: 'numeric', autocomplete: 'off' });
-        const form = element('form', { submit: (/** @type {Event} */ event) => this.goToBlock(event) },
-            element('label', { class: 'row small' }, texts.goToBlock, this.goTo));
         this.noBlock = element('div');
         this.choice = element('select', { class: 'slim' });
         bindEncodings(app, this.choice, ({ hasCharacters }) => hasCharacters);
-        this.body = element('div', {}, this.said, this.fields, this.view.part, this.foot);
+        this.body = element('div', {}, this.said, this.fields, this.keys, this.view.part, copies, this.foot);
         this.empty = element('p', { class: 'pad quiet' }, ...say(texts.howToOpenSector,
             { tab: element('kbd', {}, texts.tabKey), enter: element('kbd', {}, texts.enterKey) }));
-        const offsets = button('slim bare', () => {
-            this.view.setOffsets(!this.view.hexadecimal);
-            fill(offsets, this.view.hexadecimal ? texts.offsetsHexadecimal : texts.offsetsDecimal);
-        }, texts.offsetsDecimal);
-        this.part = element('section', { class: 'card', 'aria-labelledby': 'sector-title' }, element('header', {}, this.title, form,
-            element('label', { class: 'row small' }, texts.encodingOfBytes, this.choice), offsets), this.noBlock, this.empty, this.body);
+        this.part = element('section', { class: 'card', 'aria-labelledby': 'sector-title' },
+            element('header', {}, this.title, this.tools()), this.noBlock, this.empty, this.body);
         oneStop(this.fields, 'button');
         for (const name of /** @type {const} */ (['encoding', 'script', 'second', 'repair', 'panel'])) {
             app.on(name, () => this.redraw(name !== 'panel'));
         }
         app.on('files', () => this.drawFoot());
         this.close();
+    }
+
+    /** The row of tools: to another block, and how bytes and offsets are shown. */
+    tools() {
+        const form = element('form', { submit: (/** @type {Event} */ event) => this.goToBlock(event) },
+            element('label', { class: 'row small' }, texts.goToBlock, this.goTo));
+        const offsets = button('slim bare', () => {
+            this.view.setOffsets(!this.view.hexadecimal);
+            fill(offsets, this.view.hexadecimal ? texts.offsetsHexadecimal : texts.offsetsDecimal);
+        }, texts.offsetsDecimal);
+        const encoding = element('label', { class: 'row small' }, texts.encodingOfBytes, this.choice);
+        return element('div', { class: 'row' }, form, encoding, offsets);
     }
 
     /** Takes the focus to the bytes, now or as soon as they are there. */
@@ -148,7 +161,8 @@ export class SectorCard {
 
     /** @param {Field[]} fields */
     drawFields(fields) {
-        fill(this.fields, ...fields.map(({ name, label, from, to }) => element('button', {
+        const bytes = element('span', { class: 'small quiet' }, texts.bytesColumn);
+        fill(this.fields, bytes, ...fields.map(({ name, label, from, to }) => element('button', {
             type: 'button', class: `x-${name}`, click: () => {
                 this.view.moveTo(from);
                 this.view.reveal(from, true);
@@ -173,20 +187,32 @@ export class SectorCard {
         if (shown.other !== null && shown.other[at] !== shown.old[at]) {
             parts.push(element('b', {}, told(texts.inSecondImage, { digits: digitsOf(shown.other[at]) })));
         }
-        const hint = isUser ? `${texts.typeToChange}${this.damageHint()}`
+        this.drawKeys(isUser);
+        const hint = isUser ? `${texts.changeIsLine}${this.damageHint()}`
             : shown.mode1 ? texts.edcFollowsFromData : texts.onlyModeOneChanges;
         fill(this.foot, fault !== '' && element('b', { class: 'bad-ink' }, fault), ...parts, element('span', {}, hint));
     }
 
-    /** How many bytes are selected, with buttons that copy them. */
+    /** @param {boolean} isUser whether the chosen byte can be typed over */
+    drawKeys(isUser) {
+        const keys = this.view.column === 'text' ? texts.keysOfTexts : texts.keysOfDigits;
+        fill(this.keys, ...this.copied !== '' ? [element('b', { class: 'good-ink' }, this.copied)]
+            : keysIn(isUser ? keys : texts.keysOfOthers));
+    }
+
+    /** Says over the bytes that they were copied by a key. */
+    sayCopied() {
+        const { first, end } = this.view.selection();
+        this.copied = told(texts.bytesCopied, { n: end - first });
+        this.drawFoot();
+    }
+
+    /** How many bytes are selected. */
     selectionWords() {
-        const { view, edit } = this;
+        const { view } = this;
         const { first, end } = view.selection();
         if (view.shown === null || end - first === 1) return [];
-        const place = placeName(view.shown, first);
-        return [element('span', {}, told(texts.bytesSelected, { n: end - first, place })),
-            copyButton('slim bare tiny', () => edit.selectedHex(), texts.copyAsHex),
-            copyButton('slim bare tiny', () => edit.selectedText(), texts.copyAsText)];
+        return [element('span', {}, told(texts.bytesSelected, { n: end - first, place: placeName(view.shown, first) }))];
     }
 
     /** What becomes of bytes that are typed in a damaged sector. */

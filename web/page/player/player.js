@@ -10,7 +10,7 @@ import { failureOfSaving, saveWork, sheetNaming } from '../save/index.js';
 import * as texts from '../texts/index.js';
 import { say, told } from '../texts/index.js';
 import { askBeforeLeaving, button, clearNotices, element, fill, hashParts, icon, isCancelled } from '../ui/index.js';
-import { jobBar, messageParts, nameOf, notice, refuseWhileSaving } from '../ui/index.js';
+import { jobBar, megabytes, messageParts, nameOf, notice, refuseWhileSaving } from '../ui/index.js';
 import { playWords } from './play_words.js';
 import { VERDICTS, reasonForPlayer, reasonsOf } from './reason.js';
 import { authorsWords, moreOf } from './trust_note.js';
@@ -156,7 +156,7 @@ export class Player {
         if (verdict === 'patched') return this.show(first, this.step('2', 'done', texts.stepPatched, texts.nothingLeftToDo),
             this.playStep(image.name, this.sheetFor(image.name)));
         const patch = button('main big', () => this.patch(image, judged, first), texts.patchAndSave);
-        const space = Math.ceil(image.reader.size / 1e6);
+        const space = megabytes(image.reader.size);
         this.show(first, this.step('2', 'now', texts.patchIt,
             element('p', {}, told(texts.changesNeedSpace, { n: judged.patches, space })),
             this.data.carry && element('p', {}, texts.authorPatchesDamaged), patch));
@@ -269,7 +269,7 @@ export class Player {
         const refused = made.outcomes.filter(it => it.result !== RESULT.OK).length;
         const head = say(streamed ? texts.fileSaved : texts.browserIsSaving, { name: nameOf(name) });
         const same = sha1 !== '' && texts.exactlyAuthorsImage;
-        const wait = !streamed && told(texts.keepPageOpen, { size: Math.ceil(size / 1e6) });
+        const wait = !streamed && told(texts.keepPageOpen, { size: megabytes(size) });
         const left = refused > 0 && told(texts.changesLeftOut, { n: refused });
         const unknown = verdict === 'unknown' && texts.nothingShowedFit;
         const tone = refused > 0 || unknown ? 'warn' : 'good';

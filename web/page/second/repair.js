@@ -13,7 +13,7 @@ import { fileReader, readImage } from '../open/index.js';
 import { failureOfSaving, givingAll, patchedName, saveImage } from '../save/index.js';
 import * as texts from '../texts/index.js';
 import { say, told } from '../texts/index.js';
-import { askBeforeLeaving, button, element, fill, hashParts, jobBar, messageOf, nameOf, notice } from '../ui/index.js';
+import { askBeforeLeaving, button, element, fill, hashParts, jobBar, megabytes, messageOf, nameOf, notice } from '../ui/index.js';
 import { runAt, shownName, tableCard, tallyOf, term } from '../ui/index.js';
 import { repairMarks } from './marks.js';
 import { PairJob } from './pair_job.js';
@@ -164,7 +164,7 @@ export class SecondRepair extends PairJob {
     savedWords({ name, streamed, file }, size) {
         const { app } = this;
         const said = streamed ? notice('good', say(texts.fileSaved, { name: nameOf(name) }), texts.othersAsBefore)
-            : notice('good', say(texts.browserIsSaving, { name: nameOf(name) }), told(texts.keepPageOpen, { size: Math.ceil(size / 1e6) }));
+            : notice('good', say(texts.browserIsSaving, { name: nameOf(name) }), told(texts.keepPageOpen, { size: megabytes(size) }));
         if (file === null) return [said];
         const sum = element('dd', { id: 'repaired-sha1' }, '…');
         const progress = (/** @type {number} */ done) => {

@@ -175,7 +175,7 @@ function askBase(app, drawn) {
         close();
         changeBase(app, Number(input.value));
     } }, element('label', { for: 'base' }, texts.blockOfFirst), input, element('button', { class: 'btn slim main' }, texts.setIt),
-    button('slim bare', close, texts.cancel));
+    button('slim bare', close, texts.cancel), element('p', { class: 'small quiet' }, texts.baseMeans));
     fill(/** @type {Element} */ (byId('disc-line').firstElementChild), form);
     input.focus();
 }

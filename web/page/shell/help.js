@@ -4,7 +4,7 @@ import { inflatedText, sha256Of } from '../app/index.js';
 import { pageSource } from '../player/index.js';
 import * as texts from '../texts/index.js';
 import { say, told } from '../texts/index.js';
-import { byId, element, fill, hashParts, messageOf, setAttribute } from '../ui/index.js';
+import { byId, element, fill, hashParts, keysIn, messageOf, setAttribute } from '../ui/index.js';
 
 /** @typedef {import('../app/state.js').App} App */
 /** @typedef {import('../ui/fill.js').Child} Child */
@@ -18,8 +18,28 @@ export function mountHelp(app) {
     fill(byId('words'), element('b', {}, texts.wordsUsed), element('dl', { class: 'keys' }, ...wordRows()));
     fill(byId('proved'), element('b', {}, texts.whatIsProved), ...paragraphs(texts.provedCode, texts.notProved, texts.scriptsWereApplied));
     fill(byId('about'), element('b', {}, `cdpatch ${number}`),
-        ...paragraphs(texts.pageIsOneFile, texts.triedIn, ...madeWith(app.parts.made)), ownHash(app), notices());
-    for (const note of document.querySelectorAll('[popover]')) setAttribute(note, 'aria-label', note.children[0].textContent);
+        ...paragraphs(texts.whatItIsFor, texts.pageIsOneFile, texts.triedIn, ...madeWith(app.parts.made)), ownHash(app), notices());
+    for (const note of document.querySelectorAll('[popover]')) {
+        setAttribute(note, 'aria-label', note.children[0].textContent);
+        note.prepend(element('button', { type: 'button', class: 'btn slim bare shut', popovertarget: note.id, popovertargetaction: 'hide' },
+            texts.close));
+    }
+    if ('popover' in HTMLElement.prototype) keepTouches();
+}
+
+/** A finger beside an open note closes it, and presses nothing that lies there. */
+function keepTouches() {
+    let closes = false;
+    document.addEventListener('pointerdown', ({ pointerType, target }) => {
+        const note = document.querySelector(':popover-open');
+        closes = pointerType === 'touch' && note !== null && !note.contains(/** @type {Node} */ (target));
+    }, true);
+    document.addEventListener('click', event => {
+        if (!closes) return;
+        closes = false;
+        event.preventDefault();
+        event.stopPropagation();
+    }, true);
 }
 
 /** @param {string[]} tools and their versions */
@@ -35,16 +55,14 @@ function paragraphs(...all) {
 /** @param {string[]} row */
 function keyRow([keys, does]) {
     if (keys === '') return [element('dt', { class: 'part' }, element('b', {}, does)), element('dd')];
-    const parts = keys.split('`').map((part, i) => i % 2 === 0 ? part : element('kbd', {}, part));
-    return [element('dt', {}, ...parts), element('dd', {}, does)];
+    return [element('dt', {}, ...keysIn(keys)), element('dd', {}, does)];
 }
 
-/** The words of the page, each with the note that it opens elsewhere. */
+/** The words of the page: those that have a note elsewhere too come last, with its text. */
 function wordRows() {
-    return [...document.querySelectorAll('[popover][id^="term-"]')].flatMap(note => {
-        const [name, text] = note.children;
-        return [element('dt', {}, element('b', {}, name.textContent)), element('dd', {}, text.textContent)];
-    });
+    const notes = [...document.querySelectorAll('[popover][id^="term-"]')].map(note => [...note.children].map(it => it.textContent));
+    return [...texts.WORDS, ...notes].flatMap(([name, text]) =>
+        [element('dt', {}, element('b', {}, name)), element('dd', {}, text)]);
 }
 
 /**

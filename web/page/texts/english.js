@@ -90,16 +90,16 @@ export const patchTranslateRepair = 'Patch, translate and repair CD images.';
 export const neverChanged = 'Your file is never changed: cdpatch saves a new one.';
 export const whatYouCanDo = 'What you can do';
 export const playPatch = 'Play a patch';
-export const putTranslation = 'Put a fan translation or another patch on your disc image.';
+export const putTranslation = 'Choose your disc image and a patch for it, a fan translation for example.';
 export const translateDisc = 'Translate a disc';
-export const findTexts = 'Find its texts, write new ones, and publish a patcher for players.';
-export const repairDump = 'Repair a dump';
-export const seeDamage = 'See each damaged sector on a map, and repair it from a second dump.';
+export const findTexts = 'Choose the disc image: find its texts, write new ones, publish a patch.';
+export const repairDump = 'Repair or compare dumps';
+export const seeDamage = 'Choose one dump or two: see damage on a map, repair it, see what differs.';
 export const openFilesHere = 'Open files';
 export const openFiles = 'Open files…';
-export const orTryExample = 'or {example}: 300 sectors with a scratch and the text {text}';
+export const orTryExample = 'or {example}: a small one, with some damage and the Japanese text {text}';
 export const tryExample = 'try it with an example disc';
-export const takesFiles = 'Takes .bin and .img with 2352 bytes a sector, their .cue, patch scripts and patcher pages; not ISO or CHD.';
+export const takesFiles = 'Takes raw images (.bin, .img), their .cue, patch scripts and patcher pages; not ISO or CHD.';
 export const nothingLeavesYourComputer = 'Nothing leaves your computer.';
 export const oneFileOffline = 'This page is one file without any connection. It works offline.';
 
@@ -112,7 +112,7 @@ export const offsetMeans = 'A place in the 2048 bytes of user data of one block:
     'sector.';
 export const wordBase = 'Base';
 export const baseMeans = 'The block number of this file’s first sector: 0 for a whole disc, more for the BIN of a later track. The page ' +
-    'reads it from the headers of Mode 1 sectors.';
+    'reads it from the headers of Mode 1 sectors. Set it only if a script or a list counts the blocks of this file from another number.';
 export const wordUserData = 'User data';
 export const userDataMeans = 'The 2048 bytes of a Mode 1 sector in which files are stored. Patches write here; only “address” writes in ' +
     'the header.';
@@ -122,6 +122,15 @@ export const edcParityMeans = 'EDC is a checksum of the sector. P and Q parity a
 export const wordCarry = 'Carry';
 export const carryMeans = 'A patch on a damaged sector is normally refused. With carry it is accepted, and the sector keeps its damage, ' +
     'so that the damage stays visible.';
+
+// the words that have no note elsewhere, and what they mean
+export const WORDS = [
+    ['Sector', '2352 bytes of an image: sync field, header, user data, EDC, zeros and parity.'],
+    ['Dump', 'An image that was read from a disc.'],
+    ['Mode 1', 'A kind of sector, with 2048 bytes of user data, EDC and parity: the only one that can be patched.'],
+    ['Cue sheet', 'A text file (.cue) that names the BIN files of a disc, and the tracks in them.'],
+    ['Patcher', 'This page with a script in it, which its author publishes for players.'],
+];
 
 // the keys, each between `, and what they do; without keys, where
 export const KEYS = [
@@ -149,6 +158,7 @@ export const notProved = 'JavaScript opens the files, moves the bytes, adds up t
     'browser are trusted.';
 export const scriptsWereApplied = 'Scripts of two images, of new texts and to undo were applied by the proved code before you see them, ' +
     'and gave just what they should. That a sector inside Mode 1 has lost its sync or mode is a guess of JavaScript.';
+export const whatItIsFor = 'cdpatch puts patches on raw CD images, helps to translate discs, and finds and repairs damaged sectors.';
 export const pageIsOneFile = 'This page is one file. It has no connection, sends nothing, and works offline: save it where you like.';
 export const triedIn = 'Tried in Chromium 156, Firefox ESR 153 and WebKitGTK 2.50, the engine of Safari. Chrome and Edge write a patched ' +
     'image straight to the file that you choose; the others give it to their downloads.';
@@ -167,7 +177,7 @@ export const thirdPartyNotices = 'Third-party notices';
 // what to choose, and what becomes of what is dropped
 export const chooseWithPatch = 'Choose the disc image together with its patch';
 export const chooseImage = 'Choose the disc image, or its cue sheet with all BINs';
-export const chooseBothDumps = 'Choose the damaged image, and the second dump with it';
+export const chooseBothDumps = 'Choose the dump, and the second dump with it if you have one';
 export const dropHere = 'Drop your files here';
 export const savedFirst = 'An image is being saved: nothing is opened before that has ended.';
 export const dropToOpen = 'Drop it to open it: a disc image, its patch, or both.';
@@ -330,6 +340,7 @@ export const rowSpliced = '{count} in a row: spliced by hand? not damage';
 export const rowOnPurpose = '{count} in a row: perhaps on purpose (copy protection)';
 export const singleSector = 'a single sector';
 export const singleSectorUserDataFit = 'a single sector; its user data fit';
+export const sectorsInRow = '{count} sectors in a row';
 export const singleSectors = 'single sectors';
 export const singleSectorsAllOver = 'single sectors all over the disc';
 export const userDataFit = '{what}; the user data fit';
@@ -351,7 +362,7 @@ export const filesBeingListed = 'The files are being listed.';
 export const noVolumeFound = 'No ISO 9660 volume was found here, so no file can be named.';
 export const volumeHasNoFiles = 'The volume has no files.';
 export const noNameHasThis = 'No name has this in it.';
-export const filesByBlocks = 'As the volume names them, by their blocks.';
+export const filesByBlocks = 'The files of the disc’s ISO 9660 volume, in the order of their blocks.';
 export const filesCounted = '{n} file|{n} files';
 export const filesOfAll = '{count} of {all}';
 export const filesFromTo = '{from}–{to} of {all}';
@@ -386,7 +397,7 @@ export const runIsNeighbours = 'A run is a row of neighbours of one kind. Begins
 export const whichText = 'Which text';
 export const whatProgramPrints = 'What cdpatch {verb} prints';
 export const moreLinesPrinted = '… {n} more line: Copy and Save have all|… {n} more lines: Copy and Save have all';
-export const printedToTheByte = 'The text that the program prints, to the byte.';
+export const printedToTheByte = 'What the command-line program cdpatch prints, to the byte.';
 
 // lists of known dumps
 export const fileLoaded = 'Loaded: {name}';
@@ -465,12 +476,17 @@ export const allElseField = 'all else';
 export const bytesOfSector = 'Bytes of the sector';
 export const offsetWord = 'offset';
 export const syncAndHeader = 'Sync field and header';
-export const userDataOffsets = 'User data: {size} bytes, offset 0 to {last}';
+export const userDataOffsets = 'User data: offset 0 to {last}, which are bytes {first} to {end} of the sector';
 export const edcZerosParity = 'EDC, zeros and parity';
 export const ofSecondImage = 'second';
 export const offsetIs = '{offset} {at}';
 export const byteOfSector = 'byte {at} of the sector';
 export const placeHolds = '{place}: {digits}';
+
+// the keys, each between `, in one line over the bytes: of digits, of texts, and of bytes that cannot be changed
+export const keysOfDigits = '`arrows` move · `0`–`F` change · `T` for text · `Ctrl`+`Z` takes back · `Ctrl`+`C` copies';
+export const keysOfTexts = 'type the text · `Esc` for digits · `Ctrl`+`Z` takes back · `Ctrl`+`C` copies';
+export const keysOfOthers = '`arrows` move · `Ctrl`+`C` copies';
 
 // the chosen byte
 export const fileAt = 'file {name} at {position}';
@@ -480,14 +496,14 @@ export const copyAsHex = 'Copy as hex';
 export const copyAsText = 'Copy as text';
 export const changedByScript = 'changed by the script, {digits} in the file';
 export const inSecondImage = '{digits} in the second image';
-export const typeToChange = 'Type to change bytes, or T and then a text: each change becomes a line of the script.';
+export const changeIsLine = 'Each change becomes a line of the script.';
 export const changeWillBeRefused = 'This sector is damaged: Check refuses the change, unless damaged sectors are patched too (carry), ' +
     'or a rebuild in the script comes before it.';
 export const edcFollowsFromData = 'Only user data can be typed over. EDC and parity follow from them.';
 export const onlyModeOneChanges = 'Only Mode 1 sectors can be changed.';
 
 // keys, copy and paste
-export const bytesCopied = '{n} byte copied.|{n} bytes copied.';
+export const bytesCopied = 'Copied {n} byte|Copied {n} bytes';
 export const inTheScript = 'In the script: {line}';
 export const bytesTakenBack = 'The bytes that were typed last are taken back.';
 export const notTypedHere = 'The last change of the script was not typed here.';

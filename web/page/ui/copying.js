@@ -26,11 +26,16 @@ export function copyButton(looks, text, label, what = '') {
     return made;
 }
 
-/** @param {HTMLElement} made */
+/**
+ * Both texts lie in one place, and one is not seen: so the button stays as large as it is, and where it is.
+ * @param {HTMLElement} made
+ */
 function drawCopying(made) {
     const { copies = '', what = '' } = made.dataset;
     const says = copying.label === `${copies}${what}` ? copying.says : '';
-    fill(made, says || copies, says === '' && what !== '' && element('span', { class: 'hide' }, what));
+    fill(made, element('span', { class: 'either' }, element('span', { class: says && 'unseen' }, copies),
+        element('span', { class: says ? '' : 'unseen' }, says || texts.copied)),
+    says === '' && what !== '' && element('span', { class: 'hide' }, what));
 }
 
 /**

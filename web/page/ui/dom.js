@@ -98,6 +98,14 @@ export function term(name, word) {
 }
 
 /**
+ * A text in which the keys stand between `.
+ * @param {string} text
+ */
+export function keysIn(text) {
+    return text.split('`').map((part, i) => i % 2 === 0 ? part : element('kbd', {}, part));
+}
+
+/**
  * Makes a button that can't be pressed now stay reachable, and says so to screen readers.
  * @param {Element} target
  * @param {boolean} disabled

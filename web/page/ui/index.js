@@ -2,13 +2,13 @@
 
 export { counted } from '../texts/index.js';
 export { copyButton } from './copying.js';
-export { announce, askBeforeLeaving, button, byId, countOf, element, hashParts, hexOf, icon, isDisabled } from './dom.js';
+export { announce, askBeforeLeaving, button, byId, countOf, element, hashParts, hexOf, icon, isDisabled, keysIn } from './dom.js';
 export { lostByClosing, setAttribute, setDisabled, styleValue, term } from './dom.js';
 export { fill, keyed } from './fill.js';
 export { capital, nameOf, namesOf, seen, seenTitle, shownName, shownPaths, shownText, stemOf } from './names.js';
 export { clearNotices, copyable, endMessages, isCancelled, messageOf, messageParts, notice, refuseWhileSaving } from './notices.js';
 export { said, sayAt, sentence, showFailure, showNotice } from './notices.js';
-export { escapeJob, jobBar, jobEnd, megabytesDone, runAt, timeLeft } from './progress.js';
+export { escapeJob, jobBar, jobEnd, megabytes, megabytesDone, runAt, timeLeft } from './progress.js';
 export { asked } from './sheet.js';
 export { tableCard, tallyOf } from './stat_row.js';
 export { oneStop } from './tab_groups.js';

@@ -104,7 +104,11 @@ export function escapeJob(focused) {
     return Boolean(end);
 }
 
-/** @param {number} bytes */
-function megabytes(bytes) {
-    return counted(Math.round(bytes / 1e6));
+/**
+ * A size as it is said everywhere: in megabytes, fewer than 100 with a tenth.
+ * @param {number} bytes
+ */
+export function megabytes(bytes) {
+    const tenths = Math.round(bytes / 1e5);
+    return counted(tenths < 1000 ? tenths / 10 : Math.round(bytes / 1e6));
 }
