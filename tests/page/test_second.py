@@ -146,6 +146,24 @@ class Second(unittest.TestCase):
         self.browser.wait('#panel-script .say.good', 'other (changes).txt: 3 changes, all fit game.bin.')
         script.unlink()
 
+    def test_a_comparison_names_the_file_of_each_block(self) -> None:
+        first = with_faults() + AUDIO * 14
+        root = int.from_bytes(first[16 * SECTOR_SIZE + 16 + 158:][:4], 'little')
+        due = {16: 'volume descriptor', root: 'in a directory', discs.first_block(): '/DATA/MSG00.DAT'}
+        due.update((SECTORS + block, 'in no file') for block in range(14 * 30))
+        second = bytearray(first)
+        for block in due:
+            second[block * SECTOR_SIZE + 2000] ^= 1
+        self.pair(first, bytes(second))
+        named = """return [...document.querySelectorAll('[aria-label="Bytes that differ, by field"] tbody tr')].map(it => it.lastChild.innerText)"""
+        waited(lambda: self.browser.run(named) == list(due.values())[:400], f'other files are named: {self.browser.run(named)[:9]}')
+        self.press('Save the list')
+        saved = self.browser.downloaded('other (differences).txt')
+        self.assertEqual(saved.read_text(), ''.join(f'{block}\t0\t1\t0\t0\t{file}\n' for block, file in due.items()))
+        saved.unlink()
+        self.press(str(root))
+        self.browser.wait('#sector-title', f'block {root}')
+
     def test_damage_of_the_second_is_named_and_left_out_only_if_asked(self) -> None:
         first = with_faults()
         path, _ = self.pair(first, with_faults((33, 5), (44, 5)))

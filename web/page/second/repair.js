@@ -3,7 +3,6 @@
 import { readBytes } from '../../core/bytes.js';
 import { shiftOf } from '../../core/images/common_part.js';
 import { mergeImages } from '../../core/images/merge.js';
-import { filesAt } from '../../core/iso/files.js';
 import { pieceReader } from '../../core/piece_reader.js';
 import { blocksIn, blocksText } from '../../core/sectors/runs.js';
 import { SECTOR_SIZE } from '../../core/sectors/sector.js';
@@ -14,11 +13,12 @@ import { failureOfSaving, givingAll, patchedName, saveImage } from '../save/inde
 import * as texts from '../texts/index.js';
 import { say, told } from '../texts/index.js';
 import { askBeforeLeaving, button, element, fill, hashParts, jobBar, messageOf, nameOf, notice } from '../ui/index.js';
-import { runAt, shownName, tableCard, tallyOf, term } from '../ui/index.js';
+import { runAt, tableCard, tallyOf, term } from '../ui/index.js';
 import { repairMarks } from './marks.js';
 import { PairJob } from './pair_job.js';
 import { writeScript } from './script.js';
 import { sectorOfSecond } from './sector.js';
+import { fileSayer } from './where.js';
 
 /** @typedef {import('../app/state.js').App} App */
 /** @typedef {import('../../core/images/merge.js').Repair} Repair */
@@ -220,15 +220,14 @@ export class SecondRepair extends PairJob {
         const { calls, image, second, files } = this.app;
         if (image === null || second === null) return [];
         const rows = [];
+        const fileOf = fileSayer(files);
         for (const block of blocks) {
             const old = await readBytes(image.reader, (block - image.base) * SECTOR_SIZE, SECTOR_SIZE);
             const other = await sectorOfSecond(this.app, block);
             const said = [old, other].map(sector => sector === null ? texts.notThere
                 : findingOf(calls, block, calls.survey(sector, block)) || texts.notOfMode1);
-            const [file] = files === null ? [] : filesAt(files.files, block, 0);
             const same = other !== null && old.every((it, i) => it === other[i]);
-            const where = file ? shownName(file.path) : files === null ? '–' : texts.inNoFile;
-            rows.push({ block, here: said[0], there: said[1], file: where, same });
+            rows.push({ block, here: said[0], there: said[1], file: fileOf(block), same });
         }
         return rows;
     }

@@ -474,6 +474,8 @@ export const placeHolds = '{place}: {digits}';
 // the chosen byte
 export const fileAt = 'file {name} at {position}';
 export const inNoFile = 'in no file';
+export const inDirectory = 'in a directory';
+export const volumeDescriptor = 'volume descriptor';
 export const bytesSelected = '{n} bytes selected, from {place} on';
 export const copyAsHex = 'Copy as hex';
 export const copyAsText = 'Copy as text';
@@ -883,6 +885,7 @@ export const noScriptChangesThem = 'No script changes them.';
 export const saveTheScript = 'Save the script…';
 export const openInScript = 'Open in Script';
 export const bytesThatDiffer = 'Bytes that differ, by field';
+export const saveTheList = 'Save the list…';
 export const columnHeader = 'header';
 export const columnUserData = 'user data';
 export const columnParity = 'parity';
