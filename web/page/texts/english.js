@@ -1073,6 +1073,11 @@ export const nothingShowedFit = 'Nothing has shown whether the patch fits this d
 // its third step
 export const stepPlay = 'Play';
 export const openInEmulator = 'Open {name} in your emulator.';
+export const oldSheetStartsOld = 'No cue sheet was chosen here: if you have a .cue of the old image, it starts the old game.';
+export const saveOneSheetBeside = 'Your emulator opens a cue sheet. Save one beside {name}.';
+export const sheetOfOneTrack = 'It is for a disc of one track. If yours has music tracks, choose its .cue and all .bin files in step 1, ' +
+    'and patch again.';
+export const sheetSaved = 'Saved. Now open {name} in your emulator.';
 export const saveSheetBeside = 'Your emulator opens a cue sheet. Save this one beside {name}.';
 export const copySheetFiles = 'Copy there too, since the cue sheet names it: {files}.|\
 Copy there too, since the cue sheet names them: {files}.';
