@@ -139,11 +139,13 @@ class Second(unittest.TestCase):
         self.press('Save the script')
         script = self.browser.downloaded('other (changes).txt')
         self.browser.wait('#second-body .say.good', 'The script has 3 patches.')
+        self.browser.wait('#second-body .say.good', 'Saved: other (changes).txt')
         out = path.parent / 'new.bin'
         self.assertEqual(run_program('apply', path, script, out)[0], 0)
         self.assertEqual(out.read_bytes(), bytes(second))
         self.press('Open in Script')
         self.browser.wait('#panel-script .say.good', 'other (changes).txt: 3 changes, all fit game.bin.')
+        self.assertNotIn('not saved', self.browser.text('#panel-script'))
         script.unlink()
 
     def test_a_comparison_names_the_file_of_each_block(self) -> None:
