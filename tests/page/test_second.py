@@ -90,6 +90,27 @@ class Second(unittest.TestCase):
         self.press('Open the new image')
         self.browser.wait('#disc-line .name', 'game (repaired).bin')
 
+    def sees_swapped(self) -> None:
+        """The one that was the second is repaired from the one that was open."""
+        self.browser.wait('#disc-line .name', 'other.bin')
+        self.browser.wait('#second-title', 'game.bin')
+        waited(lambda: self.tally() == [1, 0, 0], 'another image is repaired')
+
+    def test_two_images_are_taken_the_other_way_round_if_the_second_is_to_be_repaired(self) -> None:
+        place = folder('both')
+        paths = place / 'game.bin', place / 'other.bin'
+        for path, data in zip(paths, (with_faults(), with_faults((40, 9)))):
+            path.write_bytes(data)
+        self.browser.give('#files', paths)
+        self.browser.answer('Repair other.bin from game.bin')
+        self.sees_swapped()
+
+    def test_where_nothing_is_to_be_repaired_the_other_image_may_be(self) -> None:
+        self.pair(with_faults(), with_faults((40, 9)))
+        self.press('Repair from it')
+        self.press('Repair other.bin from game.bin')
+        self.sees_swapped()
+
     def test_a_sector_whose_data_and_edc_are_others_is_named(self) -> None:
         self.pair(with_faults((40, 9), (40, 2048), (60, 9)), with_faults())
         self.browser.wait('#second-body .say.warn', 'look at block 40 first')
@@ -204,7 +225,7 @@ class Second(unittest.TestCase):
             self.browser.give('#files', [file])
             self.browser.wait('#sheet', f'{words} than game.bin. A repair uses the blocks that both have.')
             buttons = self.browser.run('return [...document.querySelectorAll("#sheet button")].map(it => it.innerText)')
-            self.assertEqual(buttons, ['Repair game.bin from it', 'Open it instead', 'Cancel'])
+            self.assertEqual(buttons, ['Repair game.bin from it', f'Repair {file.name} from game.bin', 'Open it instead', 'Cancel'])
             self.browser.answer('Cancel')
         self.browser.give('#files', files[1:2])
         self.browser.answer('Open it instead')

@@ -8,12 +8,12 @@ import { blocksIn, blocksText } from '../../core/sectors/runs.js';
 import { SECTOR_SIZE } from '../../core/sectors/sector.js';
 import { findingOf } from '../../core/sectors/survey.js';
 import { MARK, sha1Of } from '../app/index.js';
-import { fileReader, readImage } from '../open/index.js';
+import { fileReader, readImage, swapImages } from '../open/index.js';
 import { failureOfSaving, givingAll, patchedName, saveImage } from '../save/index.js';
 import * as texts from '../texts/index.js';
 import { say, told } from '../texts/index.js';
 import { askBeforeLeaving, button, element, fill, hashParts, jobBar, messageOf, nameOf, notice } from '../ui/index.js';
-import { runAt, tableCard, tallyOf, term } from '../ui/index.js';
+import { refuseWhileSaving, runAt, tableCard, tallyOf, term } from '../ui/index.js';
 import { repairMarks } from './marks.js';
 import { PairJob } from './pair_job.js';
 import { writeScript } from './script.js';
@@ -107,13 +107,25 @@ export class SecondRepair extends PairJob {
             [damaged, texts.cannotBeRepaired, damaged > 0 ? 'bad-ink' : ''], [different, texts.intactButDifferent, '']]);
         const save = button('main', () => void this.save(pieces), texts.saveRepaired);
         const script = button('', () => void this.script(pieces), texts.writeRepairAsScript);
-        const none = taken === 0 && notice('plain', texts.repairsNothing, damaged === 0 ? texts.noneDamagedHere : texts.noneSoundThere);
+        const none = taken === 0 && this.noneWords(damaged);
         const warning = different > 0 && notice('warn', told(texts.soundInBoth, { n: different }), texts.perhapsAnotherRelease);
         const doubt = repair.doubtful.length > 0 && notice('warn', told(texts.otherDataHere, { n: blocksIn(repair.doubtful) }),
             told(texts.lookAtThemFirst, { blocks: blocksText(repair.doubtful, MOST_RUNS_NAMED) }));
         const tail = repair.tails[0] && notice('warn', texts.tailsDiffer, texts.theyStay);
         return [tally, this.partWords(repair), none, doubt, warning, tail, element('p', { class: 'small quiet' }, texts.whatRepairDoes),
             taken > 0 && element('div', { class: 'row' }, save, script), this.place];
+    }
+
+    /**
+     * That nothing can be repaired here: perhaps the damaged image is the second one.
+     * @param {number} damaged how many sectors are not repaired
+     */
+    noneWords(damaged) {
+        const { app, app: { image, second } } = this;
+        if (image === null || second === null) return null;
+        const label = element('span', {}, ...say(texts.repairOtherFrom, { name: nameOf(second.name), other: nameOf(image.name) }));
+        return notice('plain', texts.repairsNothing, damaged === 0 ? texts.noneDamagedHere : texts.noneSoundThere,
+            element('div', { class: 'row' }, button('', () => !refuseWhileSaving(app, [second.name]) && swapImages(app, second), label)));
     }
 
     /**

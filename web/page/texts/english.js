@@ -194,6 +194,7 @@ export const notOpenedYet = 'Not opened.';
 
 // what a second image is for
 export const repairItFrom = 'Repair {name} from it';
+export const repairOtherFrom = 'Repair {name} from {other}';
 export const whatToDoWith = 'What do you want to do with {name}?';
 export const compareIt = 'Compare';
 export const openItInstead = 'Open it instead';
