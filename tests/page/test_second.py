@@ -130,7 +130,14 @@ class Second(unittest.TestCase):
         other = b''.join(sector(block, b'%d other' % block) for block in range(SECTORS - 30)) + AUDIO
         self.pair(with_faults((40, 9)), other)
         self.browser.wait('#second-body .say.bad', 'not dumps of the same disc')
+        self.browser.wait('#second-body .say.bad', f'30 of {SECTORS} sectors are the same in both. {SECTORS - 31} sectors are sound in both and differ')
         self.assertFalse(self.browser.run(f'return Boolean({BUTTON})', 'Save repaired image'))
+
+    def test_an_image_of_which_most_is_the_same_may_be_another_release(self) -> None:
+        second = with_faults()[:-40 * SECTOR_SIZE] + b''.join(sector(block, b'%d other' % block) for block in range(SECTORS - 40, SECTORS - 30)) + AUDIO
+        self.pair(with_faults((40, 9)), second)
+        said = f'{SECTORS - 11} of {SECTORS} sectors are the same in both: it may be another release. 10 sectors are sound in both and differ'
+        self.browser.wait('#second-body .say.bad', said)
 
     def sees_what_differs(self, first: bytes, second: bytes, block: int) -> None:
         """Opens the sector of a row, in which the bytes that differ are marked and those of the second image stand."""

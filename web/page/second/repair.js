@@ -249,14 +249,16 @@ export class SecondRepair extends PairJob {
  * @param {Repair} repair that is refused
  * @param {Shift} shift
  */
-function refusedRepair({ different: [different] }, shift) {
+function refusedRepair({ different: [different], same: [n], parts: [{ from, to }] }, shift) {
     if (shift !== null) {
         const by = Math.abs(shift.by);
         const why = told(shift.by > 0 ? texts.missingBefore : texts.tooManyBefore, { n: by });
         return notice('bad', told(texts.secondShifted,
             { sectors: told(texts.countOfSectors, { n: by }), block: String(shift.first) }), told(texts.addressesSaySo, { why }));
     }
-    return notice('bad', texts.notTheSameDisc, told(texts.tooManyDiffer, { sectors: told(texts.soundAndDiffer, { n: different }) }));
+    const same = told(2 * n > to - from ? texts.mostAreSame : texts.someAreSame, { n, all: to - from });
+    return notice('bad', texts.notTheSameDisc, `${same} `,
+        told(texts.tooManyDiffer, { sectors: told(texts.soundAndDiffer, { n: different }) }));
 }
 
 /**

@@ -853,6 +853,8 @@ export const addressesSaySo = 'Its addresses say so: {why}. Nothing is taken.';
 export const missingBefore = '{n} sector before it is missing|{n} sectors before it are missing';
 export const tooManyBefore = '{n} sector before it is too many|{n} sectors before it are too many';
 export const notTheSameDisc = 'These are not dumps of the same disc.';
+export const mostAreSame = '{n} of {all} sectors are the same in both: it may be another release.';
+export const someAreSame = '{n} of {all} sectors are the same in both.';
 export const tooManyDiffer = '{sectors}: more than one in a hundred. Nothing is taken.';
 export const soundAndDiffer = '{n} sector is sound in both and differs|{n} sectors are sound in both and differ';
 
