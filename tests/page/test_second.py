@@ -78,6 +78,7 @@ class Second(unittest.TestCase):
         self.press('Save repaired image')
         saved = self.browser.downloaded('game (repaired).bin')
         self.browser.wait('#second-body .say', 'Keep this page open')
+        self.browser.wait('#second-body .say.good', '3 sectors repaired. 1 is still damaged: block 60.')
         self.assertTrue(self.browser.asks_before_leaving())
         due = bytearray(first)
         for block in (40, 80, 100):

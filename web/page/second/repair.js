@@ -175,8 +175,10 @@ export class SecondRepair extends PairJob {
      */
     savedWords({ name, streamed, file }, size) {
         const { app } = this;
-        const said = streamed ? notice('good', say(texts.fileSaved, { name: nameOf(name) }), texts.othersAsBefore)
-            : notice('good', say(texts.browserIsSaving, { name: nameOf(name) }), told(texts.keepPageOpen, { size: Math.ceil(size / 1e6) }));
+        const what = element('p', {}, this.doneWords());
+        const said = streamed ? notice('good', say(texts.fileSaved, { name: nameOf(name) }), what, texts.othersAsBefore)
+            : notice('good', say(texts.browserIsSaving, { name: nameOf(name) }), what,
+                told(texts.keepPageOpen, { size: Math.ceil(size / 1e6) }));
         if (file === null) return [said];
         const sum = element('dd', { id: 'repaired-sha1' }, '…');
         const progress = (/** @type {number} */ done) => {
@@ -189,6 +191,16 @@ export class SecondRepair extends PairJob {
             app.open([file], 'look');
         }, texts.openNewImage);
         return [said, element('dl', { class: 'hashes' }, element('dt', {}, 'SHA-1'), sum), element('div', { class: 'row' }, open)];
+    }
+
+    /** What was repaired, and what is still damaged. */
+    doneWords() {
+        const runs = this.unrepaired();
+        const left = blocksIn(runs);
+        const still = left === 0 ? texts.noneStillDamaged
+            : told(texts.stillDamaged, { n: left, blocks: blocksText(runs, MOST_RUNS_NAMED) });
+        const taken = this.found === null ? 0 : blocksIn(this.found.repair.taken);
+        return `${told(texts.sectorsRepaired, { n: taken })} ${still}`;
     }
 
     /** @param {Piece[]} pieces */

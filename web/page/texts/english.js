@@ -875,6 +875,9 @@ export const theBlocks = 'blocks {blocks}';
 export const someOfBlocks = '{n} of these blocks';
 
 // saving the repaired image
+export const sectorsRepaired = '{n} sector repaired.|{n} sectors repaired.';
+export const stillDamaged = '{n} is still damaged: {blocks}.|{n} are still damaged: {blocks}.';
+export const noneStillDamaged = 'None is damaged any more.';
 export const othersAsBefore = 'All sectors that were not repaired are as before.';
 export const keepPageOpen = '{size} MB. Keep this page open until the download is complete.';
 
