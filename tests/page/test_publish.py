@@ -252,6 +252,7 @@ class Player(PageTest):
         self.browser.wait('#player .step.now', 'Open Starlit (English).bin in your emulator.')
         self.assertIn('if you have a .cue of the old image, it starts the old game', self.browser.text('#player .step.now'))
         self.assertNotIn('Save a cue sheet', self.browser.text('#player'))
+        self.assertTrue(self.browser.run('return document.activeElement.matches(".step:last-child")'))
 
     def test_a_cue_sheet_and_its_image_may_be_chosen_one_after_the_other(self) -> None:
         image = discs.written(mine=discs.game())['mine']

@@ -95,6 +95,7 @@ class Second(unittest.TestCase):
         """The one that was the second is repaired from the one that was open."""
         self.browser.wait('#disc-line .name', 'other.bin')
         self.browser.wait('#second-title', 'game.bin')
+        self.browser.wait('.tally', 'can be repaired')
         waited(lambda: self.tally() == [1, 0, 0], 'another image is repaired')
 
     def test_two_images_are_taken_the_other_way_round_if_the_second_is_to_be_repaired(self) -> None:
