@@ -156,6 +156,7 @@ test('sound sectors that differ are counted, and above a hundredth of all the im
     other.set(CHANGES.bytes(sectorAt(image, 299), diceOf(9)), RAW * 299);
     const many = await merged([image, image, other], { step: 100 });
     assert.deepEqual([many.different, many.refused, many.sectors], [[0, 4], true, 300]);
+    assert.deepEqual([few.same, many.same], [[300, 297], [300, 296]]);
 });
 
 test('a shifted dump is refused', async () => {

@@ -51,7 +51,8 @@ class Access(States):
     def test_the_focus_stays_in_a_sheet_while_it_asks(self) -> None:
         self.to_second_asked()
         self.assertEqual(self.has_focus(), 'Repair Hoshizora Tantei (Japan).bin from it')
-        self.assertEqual(self.browser.tab_stops(8), ['Compare', 'Open it instead', 'Cancel'])
+        swap = 'Repair Hoshizora Tantei (Japan) (Alt).bin from Hoshizora Tantei (Japan).bin'
+        self.assertEqual(self.browser.tab_stops(8), [swap, 'Compare', 'Open it instead', 'Cancel'])
 
     def test_the_focus_goes_back_to_the_word_when_its_note_closes(self) -> None:
         self.begin(discs.game(), discs.script())

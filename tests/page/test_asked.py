@@ -45,7 +45,7 @@ class Asked(PageTest):
         files = self.begin(discs.game() * 60, discs.game() * 60)
         self.browser.run(WATCHED)
         self.browser.drop('#main', [files['other']])
-        self.assertEqual(self.buttons(), ['Repair game.bin from it', 'Compare', 'Open it instead', 'Cancel'])
+        self.assertEqual(self.buttons(), ['Repair game.bin from it', 'Repair other.bin from game.bin', 'Compare', 'Open it instead', 'Cancel'])
         self.assertEqual(self.browser.text('#sheet h2'), 'What do you want to do with other.bin?')
         self.assertLess(self.browser.run('return bytes'), 2_000_000)
         self.assertEqual(self.browser.run('return pieces'), 0)

@@ -7,7 +7,7 @@ from typing import Any
 
 import common
 import discs
-from pages import GATE, PICKER, PageTest, applied, patcher
+from pages import GATE, PICKER, UNSEEN, PageTest, applied, patcher
 
 CUE = 'FILE "game.bin" BINARY\n  TRACK 01 MODE1/2352\n    INDEX 01 00:00:00\n'
 HOSTILE = '<img src=x onerror=alert(1)>'
@@ -227,6 +227,55 @@ class Player(PageTest):
         self.press('Save the cue sheet')
         saved = self.browser.downloaded('mine.cue')
         self.assertEqual(common.waited(saved.read_text, 'the cue sheet is empty'), sheet.read_text())
+
+    def saves_sheet(self, label: str, file: str) -> None:
+        """Patches the image, and saves a cue sheet that names the new one."""
+        self.press('Patch and save')
+        self.press(label)
+        saved = self.browser.downloaded('Starlit (English).cue')
+        sheet = f'FILE "{file}" BINARY\n  TRACK 01 MODE1/2352\n    INDEX 01 00:00:00\n'
+        common.waited(lambda: saved.read_text() == sheet, f'another cue sheet: {saved.read_text()}')
+        saved.unlink()
+        self.browser.wait('#player .step.now', 'Saved. Now open Starlit (English).cue in your emulator.')
+
+    def test_without_a_cue_sheet_one_is_made_for_a_disc_of_one_track(self) -> None:
+        self.play(discs.game())
+        self.saves_sheet('Save a cue sheet', 'Starlit (English).bin')
+        self.assertIn('if you have a .cue of the old image, it starts the old game', self.browser.text('#player .step.now'))
+
+    def test_of_a_disc_with_music_no_cue_sheet_is_made_up(self) -> None:
+        music = bytes(range(1, 253)) * 28 * 20
+        files = discs.written(mine=discs.game() + music, script=discs.script())
+        self.open_patcher(patcher(discs.game() + music, applied(files['mine'], files['script'])[2], discs.script()))
+        self.browser.drop('#player', [files['mine']])
+        self.press('Patch and save')
+        self.browser.wait('#player .step.now', 'Open Starlit (English).bin in your emulator.')
+        self.assertIn('if you have a .cue of the old image, it starts the old game', self.browser.text('#player .step.now'))
+        self.assertNotIn('Save a cue sheet', self.browser.text('#player'))
+        self.assertTrue(self.browser.run('return document.activeElement.matches(".step:last-child")'))
+
+    def test_a_cue_sheet_and_its_image_may_be_chosen_one_after_the_other(self) -> None:
+        image = discs.written(mine=discs.game())['mine']
+        sheet = image.with_suffix('.cue')
+        sheet.write_text('FILE "mine.bin" BINARY\n  TRACK 01 MODE1/2352\n    INDEX 01 00:00:00\n')
+        for first, then, said in ((sheet, image, '.say.bad'), (image, sheet, '#verdict')):
+            self.open_patcher(patcher(discs.game(), result(), discs.script()))
+            self.browser.drop('#player', [first])
+            self.browser.wait(said)
+            self.browser.run('document.querySelector(arguments[0]).remove()', said)
+            self.browser.drop('#player', [then])
+            self.browser.wait('#verdict', 'This is the right disc.')
+            self.saves_sheet('Save the cue sheet', 'Starlit (English).bin')
+
+    def test_on_a_phone_the_last_step_comes_into_view(self) -> None:
+        self.browser.size(360, 640)
+        try:
+            self.play(discs.game())
+            self.press('Patch and save')
+            self.browser.wait('#saved')
+            common.waited(lambda: self.browser.run(UNSEEN, '#player .step:last-child') <= 0, 'the last step is out of the window')
+        finally:
+            self.browser.size(1280)
 
     def test_what_else_the_cue_sheet_names_is_to_be_copied(self) -> None:
         self.open_patcher(patcher(discs.game(), result(), discs.script()))

@@ -78,6 +78,7 @@ class Second(unittest.TestCase):
         self.press('Save repaired image')
         saved = self.browser.downloaded('game (repaired).bin')
         self.browser.wait('#second-body .say', '0.5 MB. Keep this page open')
+        self.browser.wait('#second-body .say.good', '3 sectors repaired. 1 is still damaged: block 60.')
         self.assertTrue(self.browser.asks_before_leaving())
         due = bytearray(first)
         for block in (40, 80, 100):
@@ -89,6 +90,28 @@ class Second(unittest.TestCase):
         self.browser.wait('[aria-label="Cannot be repaired: 1"]', '60')
         self.press('Open the new image')
         self.browser.wait('#disc-line .name', 'game (repaired).bin')
+
+    def sees_swapped(self) -> None:
+        """The one that was the second is repaired from the one that was open."""
+        self.browser.wait('#disc-line .name', 'other.bin')
+        self.browser.wait('#second-title', 'game.bin')
+        self.browser.wait('.tally', 'can be repaired')
+        waited(lambda: self.tally() == [1, 0, 0], 'another image is repaired')
+
+    def test_two_images_are_taken_the_other_way_round_if_the_second_is_to_be_repaired(self) -> None:
+        place = folder('both')
+        paths = place / 'game.bin', place / 'other.bin'
+        for path, data in zip(paths, (with_faults(), with_faults((40, 9)))):
+            path.write_bytes(data)
+        self.browser.give('#files', paths)
+        self.browser.answer('Repair other.bin from game.bin')
+        self.sees_swapped()
+
+    def test_where_nothing_is_to_be_repaired_the_other_image_may_be(self) -> None:
+        self.pair(with_faults(), with_faults((40, 9)))
+        self.press('Repair from it')
+        self.press('Repair other.bin from game.bin')
+        self.sees_swapped()
 
     def test_a_sector_whose_data_and_edc_are_others_is_named(self) -> None:
         self.pair(with_faults((40, 9), (40, 2048), (60, 9)), with_faults())
@@ -109,7 +132,14 @@ class Second(unittest.TestCase):
         other = b''.join(sector(block, b'%d other' % block) for block in range(SECTORS - 30)) + AUDIO
         self.pair(with_faults((40, 9)), other)
         self.browser.wait('#second-body .say.bad', 'not dumps of the same disc')
+        self.browser.wait('#second-body .say.bad', f'30 of {SECTORS} sectors are the same in both. {SECTORS - 31} sectors are sound in both and differ')
         self.assertFalse(self.browser.run(f'return Boolean({BUTTON})', 'Save repaired image'))
+
+    def test_an_image_of_which_most_is_the_same_may_be_another_release(self) -> None:
+        second = with_faults()[:-40 * SECTOR_SIZE] + b''.join(sector(block, b'%d other' % block) for block in range(SECTORS - 40, SECTORS - 30)) + AUDIO
+        self.pair(with_faults((40, 9)), second)
+        said = f'{SECTORS - 11} of {SECTORS} sectors are the same in both: it may be another release. 10 sectors are sound in both and differ'
+        self.browser.wait('#second-body .say.bad', said)
 
     def sees_what_differs(self, first: bytes, second: bytes, block: int) -> None:
         """Opens the sector of a row, in which the bytes that differ are marked and those of the second image stand."""
@@ -139,12 +169,32 @@ class Second(unittest.TestCase):
         self.press('Save the script')
         script = self.browser.downloaded('other (changes).txt')
         self.browser.wait('#second-body .say.good', 'The script has 3 patches.')
+        self.browser.wait('#second-body .say.good', 'Saved: other (changes).txt')
         out = path.parent / 'new.bin'
         self.assertEqual(run_program('apply', path, script, out)[0], 0)
         self.assertEqual(out.read_bytes(), bytes(second))
         self.press('Open in Script')
         self.browser.wait('#panel-script .say.good', 'other (changes).txt: 3 changes, all fit game.bin.')
+        self.assertNotIn('not saved', self.browser.text('#panel-script'))
         script.unlink()
+
+    def test_a_comparison_names_the_file_of_each_block(self) -> None:
+        first = with_faults() + AUDIO * 14
+        root = int.from_bytes(first[16 * SECTOR_SIZE + 16 + 158:][:4], 'little')
+        due = {16: 'volume descriptor', root: 'in a directory', discs.first_block(): '/DATA/MSG00.DAT'}
+        due.update((SECTORS + block, 'in no file') for block in range(14 * 30))
+        second = bytearray(first)
+        for block in due:
+            second[block * SECTOR_SIZE + 2000] ^= 1
+        self.pair(first, bytes(second))
+        named = """return [...document.querySelectorAll('[aria-label="Bytes that differ, by field"] tbody tr')].map(it => it.lastChild.innerText)"""
+        waited(lambda: self.browser.run(named) == list(due.values())[:400], f'other files are named: {self.browser.run(named)[:9]}')
+        self.press('Save the list')
+        saved = self.browser.downloaded('other (differences).txt')
+        self.assertEqual(saved.read_text(), ''.join(f'{block}\t0\t1\t0\t0\t{file}\n' for block, file in due.items()))
+        saved.unlink()
+        self.press(str(root))
+        self.browser.wait('#sector-title', f'block {root}')
 
     def test_damage_of_the_second_is_named_and_left_out_only_if_asked(self) -> None:
         first = with_faults()
@@ -184,7 +234,7 @@ class Second(unittest.TestCase):
             self.browser.give('#files', [file])
             self.browser.wait('#sheet', f'{words} than game.bin. A repair uses the blocks that both have.')
             buttons = self.browser.run('return [...document.querySelectorAll("#sheet button")].map(it => it.innerText)')
-            self.assertEqual(buttons, ['Repair game.bin from it', 'Open it instead', 'Cancel'])
+            self.assertEqual(buttons, ['Repair game.bin from it', f'Repair {file.name} from game.bin', 'Open it instead', 'Cancel'])
             self.browser.answer('Cancel')
         self.browser.give('#files', files[1:2])
         self.browser.answer('Open it instead')

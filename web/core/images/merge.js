@@ -21,9 +21,10 @@ import { tailsDiffer } from './compare.js';
  * What is found in blocks: those whose sectors are taken, by runs that come of one other image each; of these the `doubtful` ones, whose
  * EDC and data are others in the damaged sector; those that are repaired by no image, `elsewhere` if one has a sound sector there with
  * the address of another block; the taken ones in which other images are sound too and differ; and of each other image
- * those in which it is sound and differs from a sound sector, and how many these are; and the `others`, which are Mode 1 in no image.
+ * those in which it is sound and differs from a sound sector, how many these are, and how many are the `same` bytes; and the `others`,
+ * which are Mode 1 in no image.
  * @typedef {{ taken: RunOf[], doubtful: RunOf[], damaged: (Run & { elsewhere: boolean })[], disputed: Run[], differing: Run[][],
- *     different: number[], others: Run[] }} Found
+ *     different: number[], same: number[], others: Run[] }} Found
  */
 /** @typedef {Found & { sectors: Uint8Array, end: number }} Merged with the sectors that are taken, and the block after the range */
 /**
@@ -46,10 +47,12 @@ const MOST_DIFFERENT = 100;
  */
 export function mergeRange(calls, [old, ...others], first, { shift }) {
     const records = calls.survey(old, first);
-    const otherRecords = others.map(other => differingRecords(calls, old, other));
+    const places = others.map(other => differingSectors(old, other));
+    const otherRecords = others.map((other, i) => recordsAt(calls, other, places[i]));
     const numbers = others.map((_, other) => other);
     const found = nothingFound(others.length);
     const [sectors, count] = [/** @type {Uint8Array[]} */ ([]), sectorCount(old.length)];
+    found.same = places.map(({ length }) => count - length);
     for (let i = 0; i < count; i++) {
         const [block, at] = [first + i, i * RECORD_SIZE];
         const sound = numbers.filter(other => isSound(otherRecords[other], at));
@@ -132,18 +135,18 @@ function isHome(calls, address, block) {
  */
 function nothingFound(others) {
     const differing = Array.from({ length: others }, () => []);
-    return { taken: [], doubtful: [], damaged: [], disputed: [], differing, different: new Array(others).fill(0), others: [] };
+    const [different, same] = [0, 0].map(none => new Array(others).fill(none));
+    return { taken: [], doubtful: [], damaged: [], disputed: [], differing, different, same, others: [] };
 }
 
 /**
  * The records of the sectors of another image that differ, with those of a sector without sync field for the others.
  * @param {Calls} calls
- * @param {Uint8Array} old
  * @param {Uint8Array} other
+ * @param {number[]} places of those that differ
  */
-function differingRecords(calls, old, other) {
-    const records = new Uint8Array(RECORD_SIZE * sectorCount(old.length));
-    const places = differingSectors(old, other);
+function recordsAt(calls, other, places) {
+    const records = new Uint8Array(RECORD_SIZE * sectorCount(other.length));
     const found = calls.survey(sectorsAt(other, places), 0);
     places.forEach((place, i) => records.set(found.subarray(RECORD_SIZE * i, RECORD_SIZE * (i + 1)), RECORD_SIZE * place));
     return records;
@@ -214,7 +217,7 @@ function assertCommon(old, other, { from, to }) {
  * @param {Merged} answer
  * @param {number[]} present the numbers of the other images that the range has
  */
-function addAnswer(found, { taken, doubtful, damaged, disputed, differing, different, others }, present) {
+function addAnswer(found, { taken, doubtful, damaged, disputed, differing, different, same, others }, present) {
     for (const run of taken) addToRuns(found.taken, { ...run, other: present[run.other] });
     for (const run of doubtful) addToRuns(found.doubtful, { ...run, other: present[run.other] });
     for (const run of damaged) addToRuns(found.damaged, run);
@@ -222,6 +225,7 @@ function addAnswer(found, { taken, doubtful, damaged, disputed, differing, diffe
     for (const run of others) addToRuns(found.others, run);
     differing.forEach((runs, i) => runs.forEach(run => addToRuns(found.differing[present[i]], run)));
     different.forEach((count, i) => { found.different[present[i]] += count; });
+    same.forEach((count, i) => { found.same[present[i]] += count; });
 }
 
 /**

@@ -15,9 +15,10 @@ import { walked } from './walk.js';
  */
 /**
  * The files by their blocks, with the best names that there are; what could not be read, in lines for a person; all that the trees of
- * names have, some of it several times; and whether UDF names the files too.
- * @typedef {{ files: FileEntry[], faults: string[], entries: FileEntry[], udf: boolean }} VolumeFiles
+ * names have, some of it several times; whether UDF names the files too; and which blocks are the volume's own, each with what it is.
+ * @typedef {{ files: FileEntry[], faults: string[], entries: FileEntry[], udf: boolean, own: Map<number, OwnBlock> }} VolumeFiles
  */
+/** @typedef {'descriptor' | 'directory'} OwnBlock */
 /** @typedef {{ path: string, size: number, extents: FileEntry[] }} WholeFile a file, with its extents in the order of its bytes */
 
 const FIRST_DESCRIPTOR = 16;
@@ -109,10 +110,10 @@ export class VolumeReader {
  */
 export async function filesOf(reader, base) {
     const volume = new VolumeReader(reader, base);
-    const { primary, joliet, udf } = await descriptorsOf(volume);
-    const { first, own } = await foundRoot(volume, rootOf(primary).extent);
+    const { primary, joliet, udf, count } = await descriptorsOf(volume);
+    const { first, own: self } = await foundRoot(volume, rootOf(primary).extent);
     volume.first = first;
-    const skip = await sharingSkip(volume, own);
+    const skip = await sharingSkip(volume, self);
     const number = numberIn(primary);
     const trees = [{ root: rootOf(primary), tree: { joliet: false, skip, number } }];
     const other = joliet && recordAt(joliet, ROOT_RECORD);
@@ -124,7 +125,19 @@ export async function filesOf(reader, base) {
     files.sort((a, b) => a.block - b.block || Number(a.path > b.path) - Number(a.path < b.path));
     const faults = new Set(found.flatMap(it => it.faults));
     if (joliet && !other) faults.add("Joliet's volume descriptor has no root directory");
-    return { files, faults: [...faults], entries: found.flatMap(it => it.files), udf };
+    const own = ownBlocks(volume, count, found.flatMap(it => [...it.met]));
+    return { files, faults: [...faults], entries: found.flatMap(it => it.files), udf, own };
+}
+
+/**
+ * @param {VolumeReader} volume
+ * @param {number} descriptors how many there are
+ * @param {number[]} directories their sectors, as the volume counts
+ */
+function ownBlocks(volume, descriptors, directories) {
+    const own = new Map(directories.map(extent => [volume.blockOf(extent), /** @type {OwnBlock} */ ('directory')]));
+    for (let i = 0; i < descriptors; i++) own.set(volume.base + FIRST_DESCRIPTOR + i, 'descriptor');
+    return own;
 }
 
 /**
@@ -196,17 +209,18 @@ export function filesAt(files, block, offset) {
 }
 
 /**
- * The descriptors of a volume: the primary one, and Joliet's, if there is one.
+ * The descriptors of a volume: the primary one, and Joliet's, if there is one; and how many sectors have descriptors.
  * @param {VolumeReader} volume
  */
 async function descriptorsOf(volume) {
     let [primary, joliet] = [new Uint8Array(0), /** @type {Uint8Array | null} */ (null)];
-    let [ended, udf] = [false, false];
-    const count = volume.available(FIRST_DESCRIPTOR, MOST_DESCRIPTORS);
-    for (let i = 0; i < count; i++) {
+    let [ended, udf, count] = [false, false, 0];
+    const most = volume.available(FIRST_DESCRIPTOR, MOST_DESCRIPTORS);
+    for (let i = 0; i < most; i++) {
         const user = await volume.user(FIRST_DESCRIPTOR + i, 1);
         const standard = String.fromCharCode(...user.subarray(1, 6));
         if (!STANDARDS.includes(standard)) break;
+        count += 1;
         udf = udf || standard.startsWith('NSR');
         ended = ended || standard !== 'CD001' || user[0] === LAST_DESCRIPTOR;
         if (ended) continue;
@@ -218,7 +232,7 @@ async function descriptorsOf(volume) {
     }
     const size = primary[128] + 256 * primary[129];
     if (size !== USER_SIZE) throw volumeFault(`the volume has logical blocks of ${size} bytes, not of ${USER_SIZE}`);
-    return { primary, joliet, udf };
+    return { primary, joliet, udf, count };
 }
 
 /** @param {Uint8Array} descriptor */

@@ -4,7 +4,7 @@ import { USER_SIZE } from '../sectors/sector.js';
 import { SEVERAL_EXTENTS, entriesOfDirectory } from './records.js';
 
 /** @typedef {import('./files.js').FileEntry} FileEntry */
-/** @typedef {{ files: FileEntry[], faults: string[] }} TreeFiles */
+/** @typedef {{ files: FileEntry[], faults: string[], met: Set<number> }} TreeFiles `met` are the sectors of its directories */
 /** @typedef {import('./files.js').VolumeReader} VolumeReader */
 /** @typedef {import('./records.js').RecordPlace} RecordPlace */
 /** @typedef {{ path: string, extent: number, size: number, depth: number }} Directory */
@@ -32,10 +32,10 @@ class Walk {
         this.volume = volume;
         this.tree = tree;
         /** @type {TreeFiles} */
-        this.found = { files: [], faults: [] };
+        this.found = { files: [], faults: [], met: new Set() };
         this.faults = 0;
         /** The sectors of directories that were read. */
-        this.met = new Set();
+        this.met = this.found.met;
         this.most = Math.max(volume.sectors, FEWEST_ENTRIES);
         this.entries = 0;
         this.characters = 0;

@@ -2,4 +2,5 @@
 
 export { fileOf, fileReader, isSameFile } from './file_reader.js';
 export { imageOfTrack, mountOpening } from './open.js';
+export { swapImages } from './second_sheet.js';
 export { changeBase, readImage } from './survey_image.js';

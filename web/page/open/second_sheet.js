@@ -26,8 +26,20 @@ export async function takeSecond(app, second, aim) {
     const answer = aim === 'repair' && words.length === 0 ? 'repair' : await askFor(app, image, second, words);
     if (answer === '' || app.image !== image || refuseWhileSaving(app, [second.name])) return;
     if (answer === 'instead') readImage(app, second);
+    else if (answer === 'swap') swapImages(app, second);
     else app.setSecond(second, answer);
     app.showPanel('disc');
+}
+
+/**
+ * Makes a second image the open one, which is repaired from the one that was open.
+ * @param {App} app
+ * @param {Image} second
+ */
+export function swapImages(app, second) {
+    const { image } = app;
+    readImage(app, second);
+    app.setSecond(image, 'repair');
 }
 
 /**
@@ -37,12 +49,13 @@ export async function takeSecond(app, second, aim) {
  * @param {Child[]} words
  */
 function askFor({ survey }, image, second, words) {
-    /** @type {[PairJob | 'instead', Child[]][]} */
-    const jobs = [['repair', say(texts.repairItFrom, { name: nameOf(image.name) })], ['compare', [texts.compareIt]],
-        ['instead', [texts.openItInstead]]];
+    /** @type {[PairJob | 'swap' | 'instead', Child[]][]} */
+    const jobs = [['repair', say(texts.repairItFrom, { name: nameOf(image.name) })],
+        ['swap', say(texts.repairOtherFrom, { name: nameOf(second.name), other: nameOf(image.name) })],
+        ['compare', [texts.compareIt]], ['instead', [texts.openItInstead]]];
     const isDamaged = survey !== null && survey.marks.damaged() > 0;
     const { from, to } = commonPart(image, second);
-    const isPossible = { repair: from < to, compare: isSameRange(image, second), instead: true };
+    const isPossible = { repair: from < to, swap: from < to, compare: isSameRange(image, second), instead: true };
     const possible = jobs.filter(([job]) => isPossible[job]);
     const main = isPossible.repair && isDamaged ? 'repair' : isPossible.compare ? 'compare' : 'instead';
     return asked(say(texts.whatToDoWith, { name: nameOf(second.name) }), words, possible, main);

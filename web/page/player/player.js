@@ -1,17 +1,14 @@
 // The page of a patcher, for players: three steps with one button each.
 
-import { readBytes } from '../../core/bytes.js';
-import { openDisc } from '../../core/disc/disc.js';
-import { natureOf } from '../../core/disc/file_type.js';
+import { isOneTrack, sheetOfOneTrack } from '../../core/disc/one_track.js';
 import { RESULT } from '../../core/module/records.js';
-import { textOfFile } from '../../core/texts/encodings.js';
-import { fileReader } from '../open/index.js';
 import { failureOfSaving, saveWork, sheetNaming } from '../save/index.js';
 import * as texts from '../texts/index.js';
 import { say, told } from '../texts/index.js';
 import { askBeforeLeaving, button, clearNotices, element, fill, hashParts, icon, isCancelled } from '../ui/index.js';
-import { jobBar, megabytes, messageParts, nameOf, notice, refuseWhileSaving } from '../ui/index.js';
-import { playWords } from './play_words.js';
+import { jobBar, megabytes, nameOf, notice, refuseWhileSaving } from '../ui/index.js';
+import { ChosenDisc } from './chosen_disc.js';
+import { playWords, wordsWithoutSheet } from './play_words.js';
 import { VERDICTS, reasonForPlayer, reasonsOf } from './reason.js';
 import { authorsWords, moreOf } from './trust_note.js';
 import { imageOfSize, judgeImage } from './verdict.js';
@@ -41,6 +38,9 @@ export class Player {
         this.image = /** @type {DiscImage | null} */ (null);
         this.files = /** @type {File[]} */ ([]);
         this.sheet = '';
+        this.chosen = new ChosenDisc(app);
+        /** Whether the image looks like a whole disc of one track. */
+        this.oneTrack = false;
         this.leaving = false;
         this.saving = false;
         this.number = 0;
@@ -99,29 +99,15 @@ export class Player {
         this.stop();
         const number = ++this.number;
         try {
-            const disc = await openDisc(this.app.calls, files.map(file => ({ name: file.name, reader: fileReader(file) })));
-            const sheet = files.find(file => file.name === disc.sheet);
-            const text = sheet ? textOfFile(await readBytes(fileReader(sheet), 0, sheet.size)) : '';
+            const opened = await this.chosen.open(files);
             if (number !== this.number) return;
-            Object.assign(this, { sheet: text, files, image: imageOfSize(disc, this.data.image.size) });
+            const { sheet, disc } = opened;
+            Object.assign(this, { sheet, files: opened.files, image: imageOfSize(disc, this.data.image.size) });
             if (this.image) await this.judge(this.image);
         } catch (error) {
-            const fault = isCancelled(error) ? null : await this.faultOf(error, files);
+            const fault = isCancelled(error) ? null : await this.chosen.faultOf(error, files);
             if (number === this.number) this.start(fault);
         }
-    }
-
-    /**
-     * Why files are no image to patch.
-     * @param {unknown} error
-     * @param {File[]} files
-     */
-    async faultOf(error, files) {
-        const names = files.map(file => file.name);
-        const kinds = await Promise.all(files.map(file => natureOf(this.app.calls, fileReader(file)).then(({ kind }) => kind, () => '')));
-        const iso = names[kinds.indexOf('iso')];
-        return iso === undefined ? notice('bad', texts.notOpenedYet, ...messageParts(error, names))
-            : notice('bad', say(texts.isoOfPartSectors, { name: nameOf(iso) }), texts.needsFullDump);
     }
 
     /** @param {DiscImage} image */
@@ -133,6 +119,7 @@ export class Player {
             const judged = await judgeImage(this.app, this.data, image, { signal, progress: bar.at });
             if (signal.aborted) return;
             this.base = judged.work.base;
+            this.oneTrack = this.sheet === '' && await isOneTrack(this.app.calls, image);
             this.judged(image, judged);
         });
     }
@@ -154,7 +141,7 @@ export class Player {
         const first = this.step('1', 'done', texts.yourDisc, name, said, reasonForPlayer(judged, image.reader.size, this.data.image.size),
             this.details(image, judged));
         if (verdict === 'patched') return this.show(first, this.step('2', 'done', texts.stepPatched, texts.nothingLeftToDo),
-            this.playStep(image.name, this.sheetFor(image.name)));
+            this.playStep(image.name));
         const patch = button('main big', () => this.patch(image, judged, first), texts.patchAndSave);
         const space = megabytes(image.reader.size);
         this.show(first, this.step('2', 'now', texts.patchIt,
@@ -276,7 +263,14 @@ export class Player {
         const said = element('p', { class: `verdict ${tone}-ink`, role: 'status', id: 'saved' },
             icon(tone === 'good' ? 'tick' : 'warn'), element('span', {}, ...head));
         const rest = [same, wait, left, unknown].map(text => text && element('p', {}, text));
-        this.show(first, this.step('2', 'done', texts.stepPatched, said, ...rest), this.playStep(name, this.sheetFor(name)));
+        const third = this.playStep(name);
+        this.show(first, this.step('2', 'done', texts.stepPatched, said, ...rest), third);
+        // Without a control of its own the step itself has the focus, which else went back to the first one.
+        if (!third.querySelector('.btn') && this.steps.contains(document.activeElement)) {
+            third.tabIndex = -1;
+            third.focus({ preventScroll: true });
+        }
+        third.scrollIntoView({ block: 'nearest', behavior: matchMedia('(prefers-reduced-motion)').matches ? 'auto' : 'smooth' });
     }
 
     /**
@@ -288,11 +282,10 @@ export class Player {
         return sheetNaming(this.sheet, [[this.image ? this.image.name : '', name]]) || sheetNaming(cue, [[own, name]]);
     }
 
-    /**
-     * @param {string} name of the image to play
-     * @param {string} sheet
-     */
-    playStep(name, sheet) {
-        return this.step('3', 'now', texts.stepPlay, ...playWords(name, sheet));
+    /** @param {string} name of the image to play */
+    playStep(name) {
+        const sheet = this.sheetFor(name);
+        const words = sheet !== '' ? playWords(name, sheet) : wordsWithoutSheet(name, this.oneTrack ? sheetOfOneTrack(name) : '');
+        return this.step('3', 'now', texts.stepPlay, ...words);
     }
 }

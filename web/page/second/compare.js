@@ -1,36 +1,54 @@
 // Compare with a second image: where both differ, and the script from one to the other.
 
 import { FIELD_COUNT, SECOND_STATE, tailsDiffer } from '../../core/images/compare.js';
-import { patchedName } from '../save/index.js';
+import { downloadText, patchedName } from '../save/index.js';
 import * as texts from '../texts/index.js';
 import { told } from '../texts/index.js';
 import { button, element, fill, nameOf, notice, tableCard, tallyOf, term } from '../ui/index.js';
 import { addDiffering, compareMarks } from './marks.js';
 import { PairJob } from './pair_job.js';
 import { writeScript } from './script.js';
+import { fileSayer } from './where.js';
 
+/** @typedef {import('../app/state.js').App} App */
 /** @typedef {import('../../core/images/compare.js').Differing} Differing */
 /** @typedef {import('./marks.js').PairMarks} PairMarks */
 /** @typedef {{ block: number, fields: number[], state: number }} FieldRow */
 
-/** What was found: the first rows, how many sectors differ only in their codes, and whether the bytes after the last sector differ. */
-/** @typedef {{ rows: FieldRow[], onlyCodes: number, tail: boolean }} Rows */
+/** What was found: which sectors differ, how many of them only in their codes, and whether the bytes after the last sector differ. */
+/** @typedef {{ differing: Differing[], onlyCodes: number, tail: boolean }} Found */
 
 const MOST_ROWS = 400;
 
 export class SecondCompare extends PairJob {
+    /**
+     * @param {App} app
+     * @param {() => void} changed
+     */
+    constructor(app, changed) {
+        super(app, changed);
+        this.found = /** @type {Found | null} */ (null);
+        app.on('files', () => this.drawTable());
+    }
+
+    forget() {
+        this.found = null;
+        super.forget();
+    }
+
     async begin() {
         const { crew, image, second, survey } = this.app;
         if (this.begun || image === null || second === null || survey === null) return;
         const marks = compareMarks(survey.marks);
-        /** @type {Rows} */
-        const found = { rows: [], onlyCodes: 0, tail: false };
+        /** @type {Found} */
+        const found = { differing: [], onlyCodes: 0, tail: false };
         await this.once(async watch => {
             const how = { base: image.base, ...watch };
-            await crew.share('differ', [image.reader, second.reader], {}, how, answer => addRows(marks, found, answer));
+            await crew.share('differ', [image.reader, second.reader], {}, how, answer => addFound(marks, found, answer));
             found.tail = await tailsDiffer(image.reader, second.reader);
         }, async () => {
             this.marks = marks;
+            this.found = found;
             this.draw(marks, found);
             this.changed();
         });
@@ -38,9 +56,9 @@ export class SecondCompare extends PairJob {
 
     /**
      * @param {PairMarks} marks
-     * @param {Rows} found
+     * @param {Found} found
      */
-    draw(marks, { rows, onlyCodes, tail }) {
+    draw(marks, { onlyCodes, tail }) {
         const [differ, damaged, others] = [0, 1, 2].map(which => marks.count(which));
         const all = differ + damaged + others;
         const tally = tallyOf([[all, all === 1 ? texts.sectorDiffers : texts.sectorsDiffer, ''],
@@ -50,7 +68,7 @@ export class SecondCompare extends PairJob {
         const same = notice('good', tail ? texts.bothSameSectors : texts.bothSameBytes);
         const other = tail && notice('warn', texts.tailsDiffer, texts.noScriptChangesThem);
         fill(this.body, tally, other, all === 0 ? same : write, this.place);
-        if (all > 0) this.drawTable(rows, all);
+        this.drawTable();
     }
 
     /** @param {import('./script.js').Then} then what becomes of the script */
@@ -62,37 +80,62 @@ export class SecondCompare extends PairJob {
         }
     }
 
-    /**
-     * @param {FieldRow[]} rows
-     * @param {number} all how many blocks differ
-     */
-    drawTable(rows, all) {
+    /** Lists what differs, again as soon as the files are known. */
+    drawTable() {
+        const { found, app: { files, second } } = this;
+        if (found === null || second === null || found.differing.length === 0) return;
         const names = [texts.columnHeader, texts.columnUserData, 'EDC', texts.columnParity];
         const head = element('tr', {}, element('th', { class: 'n' }, term('block', texts.columnBlock)), ...names.map(name =>
-            element('th', { class: 'n' }, name === 'EDC' ? term('edc', name) : name)));
+            element('th', { class: 'n' }, name === 'EDC' ? term('edc', name) : name)), element('th', {}, texts.columnFile));
+        const fileOf = fileSayer(files);
+        const rows = [...rowsOf(found.differing, MOST_ROWS)];
         const body = rows.map(({ block, fields, state }) => element('tr', {},
             element('td', { class: 'n', 'data-l': texts.blockLabel },
                 button('slim bare tiny', () => this.app.goTo(block, -1, true), String(block)),
                 state === SECOND_STATE.DAMAGED && element('span', { class: 'tag bad' }, texts.damagedInSecond)),
-            ...fields.map((count, i) => element('td', { class: 'n', 'data-l': names[i] }, count))));
-        const text = rows.map(({ block, fields }) => `${block}\t${fields.join('\t')}\n`).join('');
-        const left = all - rows.length;
+            ...fields.map((count, i) => element('td', { class: 'n', 'data-l': names[i] }, count)),
+            element('td', { class: 'mono small wide' }, fileOf(block))));
+        const left = found.differing.reduce((count, { blocks }) => count + blocks.length, -rows.length);
         const foot = left > 0 ? told(texts.moreBlocksWithoutRow, { n: left }) : texts.userDataWithoutEdc;
-        fill(this.table, tableCard(texts.bytesThatDiffer, head, body, text, foot));
+        const save = button('slim bare', () => {
+            downloadText(listOf(rowsOf(found.differing), fileSayer(files)), patchedName(second.name, 'differences', '.txt'));
+        }, texts.saveTheList);
+        fill(this.table, tableCard(texts.bytesThatDiffer, head, body, listOf(rows, fileSayer(files)), foot, save));
+    }
+}
+
+/**
+ * The rows as text.
+ * @param {Iterable<FieldRow>} rows
+ * @param {(block: number) => string} fileOf
+ */
+function listOf(rows, fileOf) {
+    return Array.from(rows, ({ block, fields }) => `${block}\t${fields.join('\t')}\t${fileOf(block)}\n`).join('');
+}
+
+/**
+ * @param {Differing[]} differing
+ * @param {number} [most] rows
+ * @returns {Iterable<FieldRow>}
+ */
+function* rowsOf(differing, most = Infinity) {
+    let left = most;
+    for (const { blocks, fields, states } of differing) {
+        for (let i = 0; i < blocks.length && left > 0; i++, left--) {
+            const [sync, header, user, edc, zeros, parity] = fields.subarray(i * FIELD_COUNT, (i + 1) * FIELD_COUNT);
+            yield { block: blocks[i], fields: [sync + header, user, edc, zeros + parity], state: states[i] };
+        }
     }
 }
 
 /**
  * @param {PairMarks} marks
- * @param {Rows} found
+ * @param {Found} found
  * @param {Differing} answer
  */
-function addRows(marks, found, answer) {
+function addFound(marks, found, answer) {
+    if (answer.blocks.length === 0) return;
     addDiffering(marks, answer);
-    answer.blocks.forEach((block, i) => {
-        const [sync, header, user, edc, zeros, parity] = answer.fields.subarray(i * FIELD_COUNT, (i + 1) * FIELD_COUNT);
-        const fields = [sync + header, user, edc, zeros + parity];
-        found.onlyCodes += Number(fields[0] + fields[1] === 0);
-        if (found.rows.length < MOST_ROWS) found.rows.push({ block, fields, state: answer.states[i] });
-    });
+    found.differing.push(answer);
+    for (const { fields } of rowsOf([answer])) found.onlyCodes += Number(fields[0] + fields[1] === 0);
 }

@@ -3,22 +3,22 @@
 import { readBytes } from '../../core/bytes.js';
 import { shiftOf } from '../../core/images/common_part.js';
 import { mergeImages } from '../../core/images/merge.js';
-import { filesAt } from '../../core/iso/files.js';
 import { pieceReader } from '../../core/piece_reader.js';
 import { blocksIn, blocksText } from '../../core/sectors/runs.js';
 import { SECTOR_SIZE } from '../../core/sectors/sector.js';
 import { findingOf } from '../../core/sectors/survey.js';
 import { MARK, sha1Of } from '../app/index.js';
-import { fileReader, readImage } from '../open/index.js';
+import { fileReader, readImage, swapImages } from '../open/index.js';
 import { failureOfSaving, givingAll, patchedName, saveImage } from '../save/index.js';
 import * as texts from '../texts/index.js';
 import { say, told } from '../texts/index.js';
 import { askBeforeLeaving, button, element, fill, hashParts, jobBar, megabytes, messageOf, nameOf, notice } from '../ui/index.js';
-import { runAt, shownName, tableCard, tallyOf, term } from '../ui/index.js';
+import { refuseWhileSaving, runAt, tableCard, tallyOf, term } from '../ui/index.js';
 import { repairMarks } from './marks.js';
 import { PairJob } from './pair_job.js';
 import { writeScript } from './script.js';
 import { sectorOfSecond } from './sector.js';
+import { fileSayer } from './where.js';
 
 /** @typedef {import('../app/state.js').App} App */
 /** @typedef {import('../../core/images/merge.js').Repair} Repair */
@@ -107,13 +107,25 @@ export class SecondRepair extends PairJob {
             [damaged, texts.cannotBeRepaired, damaged > 0 ? 'bad-ink' : ''], [different, texts.intactButDifferent, '']]);
         const save = button('main', () => void this.save(pieces), texts.saveRepaired);
         const script = button('', () => void this.script(pieces), texts.writeRepairAsScript);
-        const none = taken === 0 && notice('plain', texts.repairsNothing, damaged === 0 ? texts.noneDamagedHere : texts.noneSoundThere);
+        const none = taken === 0 && this.noneWords(damaged);
         const warning = different > 0 && notice('warn', told(texts.soundInBoth, { n: different }), texts.perhapsAnotherRelease);
         const doubt = repair.doubtful.length > 0 && notice('warn', told(texts.otherDataHere, { n: blocksIn(repair.doubtful) }),
             told(texts.lookAtThemFirst, { blocks: blocksText(repair.doubtful, MOST_RUNS_NAMED) }));
         const tail = repair.tails[0] && notice('warn', texts.tailsDiffer, texts.theyStay);
         return [tally, this.partWords(repair), none, doubt, warning, tail, element('p', { class: 'small quiet' }, texts.whatRepairDoes),
             taken > 0 && element('div', { class: 'row' }, save, script), this.place];
+    }
+
+    /**
+     * That nothing can be repaired here: perhaps the damaged image is the second one.
+     * @param {number} damaged how many sectors are not repaired
+     */
+    noneWords(damaged) {
+        const { app, app: { image, second } } = this;
+        if (image === null || second === null) return null;
+        const label = element('span', {}, ...say(texts.repairOtherFrom, { name: nameOf(second.name), other: nameOf(image.name) }));
+        return notice('plain', texts.repairsNothing, damaged === 0 ? texts.noneDamagedHere : texts.noneSoundThere,
+            element('div', { class: 'row' }, button('', () => !refuseWhileSaving(app, [second.name]) && swapImages(app, second), label)));
     }
 
     /**
@@ -163,8 +175,10 @@ export class SecondRepair extends PairJob {
      */
     savedWords({ name, streamed, file }, size) {
         const { app } = this;
-        const said = streamed ? notice('good', say(texts.fileSaved, { name: nameOf(name) }), texts.othersAsBefore)
-            : notice('good', say(texts.browserIsSaving, { name: nameOf(name) }), told(texts.keepPageOpen, { size: megabytes(size) }));
+        const what = element('p', {}, this.doneWords());
+        const said = streamed ? notice('good', say(texts.fileSaved, { name: nameOf(name) }), what, texts.othersAsBefore)
+            : notice('good', say(texts.browserIsSaving, { name: nameOf(name) }), what,
+                told(texts.keepPageOpen, { size: megabytes(size) }));
         if (file === null) return [said];
         const sum = element('dd', { id: 'repaired-sha1' }, '…');
         const progress = (/** @type {number} */ done) => {
@@ -177,6 +191,16 @@ export class SecondRepair extends PairJob {
             app.open([file], 'look');
         }, texts.openNewImage);
         return [said, element('dl', { class: 'hashes' }, element('dt', {}, 'SHA-1'), sum), element('div', { class: 'row' }, open)];
+    }
+
+    /** What was repaired, and what is still damaged. */
+    doneWords() {
+        const runs = this.unrepaired();
+        const left = blocksIn(runs);
+        const still = left === 0 ? texts.noneStillDamaged
+            : told(texts.stillDamaged, { n: left, blocks: blocksText(runs, MOST_RUNS_NAMED) });
+        const taken = this.found === null ? 0 : blocksIn(this.found.repair.taken);
+        return `${told(texts.sectorsRepaired, { n: taken })} ${still}`;
     }
 
     /** @param {Piece[]} pieces */
@@ -220,15 +244,14 @@ export class SecondRepair extends PairJob {
         const { calls, image, second, files } = this.app;
         if (image === null || second === null) return [];
         const rows = [];
+        const fileOf = fileSayer(files);
         for (const block of blocks) {
             const old = await readBytes(image.reader, (block - image.base) * SECTOR_SIZE, SECTOR_SIZE);
             const other = await sectorOfSecond(this.app, block);
             const said = [old, other].map(sector => sector === null ? texts.notThere
                 : findingOf(calls, block, calls.survey(sector, block)) || texts.notOfMode1);
-            const [file] = files === null ? [] : filesAt(files.files, block, 0);
             const same = other !== null && old.every((it, i) => it === other[i]);
-            const where = file ? shownName(file.path) : files === null ? '–' : texts.inNoFile;
-            rows.push({ block, here: said[0], there: said[1], file: where, same });
+            rows.push({ block, here: said[0], there: said[1], file: fileOf(block), same });
         }
         return rows;
     }
@@ -238,14 +261,16 @@ export class SecondRepair extends PairJob {
  * @param {Repair} repair that is refused
  * @param {Shift} shift
  */
-function refusedRepair({ different: [different] }, shift) {
+function refusedRepair({ different: [different], same: [n], parts: [{ from, to }] }, shift) {
     if (shift !== null) {
         const by = Math.abs(shift.by);
         const why = told(shift.by > 0 ? texts.missingBefore : texts.tooManyBefore, { n: by });
         return notice('bad', told(texts.secondShifted,
             { sectors: told(texts.countOfSectors, { n: by }), block: String(shift.first) }), told(texts.addressesSaySo, { why }));
     }
-    return notice('bad', texts.notTheSameDisc, told(texts.tooManyDiffer, { sectors: told(texts.soundAndDiffer, { n: different }) }));
+    const same = told(2 * n > to - from ? texts.mostAreSame : texts.someAreSame, { n, all: to - from });
+    return notice('bad', texts.notTheSameDisc, `${same} `,
+        told(texts.tooManyDiffer, { sectors: told(texts.soundAndDiffer, { n: different }) }));
 }
 
 /**

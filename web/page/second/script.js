@@ -26,6 +26,9 @@ import { button, element, fill, isCancelled, jobBar, nameOf, notice, runAt, sent
 const LONGEST_SHOWN = 1 << 24;
 const MOST_LEFT_NAMED = 8;
 
+/** The script that was saved last, and the name of its file. */
+const last = { blob: new Blob(), name: '' };
+
 /**
  * Writes the script, and says in a place how it went.
  * @param {App} app
@@ -60,8 +63,9 @@ async function writeScriptAt(app, place, wanted, then, skipDamaged) {
         });
         const again = () => void writeScript(app, place, wanted, then, true);
         if (compared.script === null) return show(refusedScript(compared, again));
-        const does = doesWith(app, compared.script, name);
-        show(written(compared.script, compared.left, wanted, then === '' ? does : {}));
+        const said = element('p');
+        const does = doesWith(app, compared.script, name, said);
+        show(written(compared.script, compared.left, wanted, then === '' ? does : {}, said));
         if (then !== '' && app.second === second) does[then]?.();
     } catch (error) {
         const rest = texts.noScriptWritten;
@@ -75,13 +79,19 @@ async function writeScriptAt(app, place, wanted, then, skipDamaged) {
  * @param {App} app
  * @param {Script} script
  * @param {string} name
+ * @param {HTMLElement} said where it says that it was saved
  * @returns {{ open?: () => void, save?: () => void }}
  */
-function doesWith(app, { pieces, size, long }, name) {
+function doesWith(app, { pieces, size, long }, name, said) {
     const blob = new Blob(pieces);
-    const save = () => download(blob, name);
+    const save = () => {
+        download(blob, name);
+        Object.assign(last, { blob, name });
+        fill(said, ...say(texts.fileSaved, { name: nameOf(name) }));
+    };
     const open = async () => {
-        app.setScript(await blob.text(), name, false);
+        const text = await blob.text();
+        app.setScript(text, name, last.name === name && last.blob.size === size && await last.blob.text() === text);
         app.checkScript();
     };
     return size <= LONGEST_SHOWN && !long ? { open, save } : { save };
@@ -92,13 +102,14 @@ function doesWith(app, { pieces, size, long }, name) {
  * @param {Left[]} left what the script does not say
  * @param {Wanted} wanted
  * @param {{ open?: () => void, save?: () => void }} does what buttons do with it
+ * @param {HTMLElement} said
  */
-function written({ size, patches, long }, left, { image, goal }, { open, save }) {
+function written({ size, patches, long }, left, { image, goal }, { open, save }, said) {
     const it = { image: nameOf(image.name), goal };
     const but = blocksIn(left) === 1 ? texts.givesButForOne : texts.givesButForSome;
     const gives = left.length === 0 ? say(texts.givesExactly, it) : say(but, { ...it, blocks: blocksText(left, MOST_LEFT_NAMED) });
     return notice(left.length === 0 ? 'good' : 'warn', told(texts.scriptHasPatches, { n: patches }),
-        told(texts.scriptHasBytes, { n: size }), ' ', ...gives, long && ` ${texts.appliedWithLong}`, element('div', { class: 'row' },
+        told(texts.scriptHasBytes, { n: size }), ' ', ...gives, long && ` ${texts.appliedWithLong}`, said, element('div', { class: 'row' },
             open !== undefined && button('main', open, texts.openInScript), save !== undefined && button('', save, texts.saveTheScript)));
 }
 

@@ -1,6 +1,6 @@
 // What the page says in English, by key: a translation is another file like this one. What stands in braces is put there by the page, in
-// any order. A text in several forms, with | between them, takes that for the number {n}: those of the language's counts, in the order zero,
-// one, two, few, many, other.
+// any order. A text in several forms, with | between them, takes that for the number {n}: those of the language's counts, in the order
+// zero, one, two, few, many, other.
 
 export const LANGUAGE = 'en-GB';
 
@@ -205,6 +205,7 @@ export const notOpenedYet = 'Not opened.';
 
 // what a second image is for
 export const repairItFrom = 'Repair {name} from it';
+export const repairOtherFrom = 'Repair {name} from {other}';
 export const whatToDoWith = 'What do you want to do with {name}?';
 export const compareIt = 'Compare';
 export const openItInstead = 'Open it instead';
@@ -491,6 +492,8 @@ export const keysOfOthers = '`arrows` move · `Ctrl`+`C` copies';
 // the chosen byte
 export const fileAt = 'file {name} at {position}';
 export const inNoFile = 'in no file';
+export const inDirectory = 'in a directory';
+export const volumeDescriptor = 'volume descriptor';
 export const bytesSelected = '{n} bytes selected, from {place} on';
 export const copyAsHex = 'Copy as hex';
 export const copyAsText = 'Copy as text';
@@ -867,6 +870,8 @@ export const addressesSaySo = 'Its addresses say so: {why}. Nothing is taken.';
 export const missingBefore = '{n} sector before it is missing|{n} sectors before it are missing';
 export const tooManyBefore = '{n} sector before it is too many|{n} sectors before it are too many';
 export const notTheSameDisc = 'These are not dumps of the same disc.';
+export const mostAreSame = '{n} of {all} sectors are the same in both: it may be another release.';
+export const someAreSame = '{n} of {all} sectors are the same in both.';
 export const tooManyDiffer = '{sectors}: more than one in a hundred. Nothing is taken.';
 export const soundAndDiffer = '{n} sector is sound in both and differs|{n} sectors are sound in both and differ';
 
@@ -887,6 +892,9 @@ export const theBlocks = 'blocks {blocks}';
 export const someOfBlocks = '{n} of these blocks';
 
 // saving the repaired image
+export const sectorsRepaired = '{n} sector repaired.|{n} sectors repaired.';
+export const stillDamaged = '{n} is still damaged: {blocks}.|{n} are still damaged: {blocks}.';
+export const noneStillDamaged = 'None is damaged any more.';
 export const othersAsBefore = 'All sectors that were not repaired are as before.';
 export const keepPageOpen = '{size} MB. Keep this page open until the download is complete.';
 
@@ -900,6 +908,7 @@ export const noScriptChangesThem = 'No script changes them.';
 export const saveTheScript = 'Save the script…';
 export const openInScript = 'Open in Script';
 export const bytesThatDiffer = 'Bytes that differ, by field';
+export const saveTheList = 'Save the list…';
 export const columnHeader = 'header';
 export const columnUserData = 'user data';
 export const columnParity = 'parity';
@@ -1087,6 +1096,11 @@ export const nothingShowedFit = 'Nothing has shown whether the patch fits this d
 // its third step
 export const stepPlay = 'Play';
 export const openInEmulator = 'Open {name} in your emulator.';
+export const oldSheetStartsOld = 'No cue sheet was chosen here: if you have a .cue of the old image, it starts the old game.';
+export const saveOneSheetBeside = 'Your emulator opens a cue sheet. Save one beside {name}.';
+export const sheetOfOneTrack = 'It is for a disc of one track. If yours has music tracks, choose its .cue and all .bin files in step 1, ' +
+    'and patch again.';
+export const sheetSaved = 'Saved. Now open {name} in your emulator.';
 export const saveSheetBeside = 'Your emulator opens a cue sheet. Save this one beside {name}.';
 export const copySheetFiles = 'Copy there too, since the cue sheet names it: {files}.|\
 Copy there too, since the cue sheet names them: {files}.';

@@ -19,13 +19,14 @@ export function tallyOf(counts) {
  * @param {HTMLElement[]} rows
  * @param {string} text
  * @param {string} foot
+ * @param {import('./fill.js').Child} [more] beside the button that copies
  */
-export function tableCard(title, head, rows, text, foot) {
+export function tableCard(title, head, rows, text, foot, more = null) {
     const table = element('table', {}, element('thead', {}, head), element('tbody', {}, ...rows));
     const part = element('div', { class: 'scroll fit' }, table);
     oneStop(part, 'tbody button');
     return element('section', { class: 'card', 'aria-label': title },
         element('header', {}, element('h2', {}, title),
-            copyButton('slim bare', () => text, texts.copy, told(texts.theRowsOf, { title }))), part,
+            copyButton('slim bare', () => text, texts.copy, told(texts.theRowsOf, { title })), more), part,
         element('p', { class: 'foot' }, element('span', {}, foot)));
 }

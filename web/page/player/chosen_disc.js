@@ -1,0 +1,67 @@
+// The disc of what a player chose, in one choice or in two: a cue sheet waits for the files that it names, and the other way round.
+
+import { readBytes } from '../../core/bytes.js';
+import { openDisc } from '../../core/disc/disc.js';
+import { natureOf } from '../../core/disc/file_type.js';
+import { textOfFile } from '../../core/texts/encodings.js';
+import { fileReader } from '../open/index.js';
+import * as texts from '../texts/index.js';
+import { say } from '../texts/index.js';
+import { messageParts, nameOf, notice } from '../ui/index.js';
+
+/** @typedef {import('../app/state.js').App} App */
+
+export class ChosenDisc {
+    /** @param {App} app */
+    constructor(app) {
+        this.app = app;
+        /** The files of the last choice, unless they were a cue sheet and all that it names. */
+        this.before = /** @type {File[]} */ ([]);
+    }
+
+    /**
+     * Opens files, together with those of the choice before if there was a cue sheet in just one of the two. Throws as openDisc.
+     * @param {File[]} files
+     */
+    async open(files) {
+        const { before } = this;
+        this.before = files;
+        const [own, other] = await Promise.all([files, before].map(some => this.hasSheet(some)));
+        const together = [...before.filter(({ name }) => files.every(file => file.name !== name)), ...files];
+        const opened = own === other ? await this.opened(files) : await this.opened(together).catch(() => this.opened(files));
+        if (opened.disc.sheet !== null) this.before = [];
+        const sheet = opened.files.find(file => file.name === opened.disc.sheet);
+        return { ...opened, sheet: sheet ? textOfFile(await readBytes(fileReader(sheet), 0, sheet.size)) : '' };
+    }
+
+    /** @param {File[]} files */
+    async opened(files) {
+        return { disc: await openDisc(this.app.calls, files.map(file => ({ name: file.name, reader: fileReader(file) }))), files };
+    }
+
+    /**
+     * What each file is, '' if it can't be read.
+     * @param {File[]} files
+     */
+    kinds(files) {
+        return Promise.all(files.map(file => natureOf(this.app.calls, fileReader(file)).then(({ kind }) => kind, () => '')));
+    }
+
+    /** @param {File[]} files */
+    async hasSheet(files) {
+        return (await this.kinds(files)).includes('cue');
+    }
+
+    /**
+     * Why files are no image to patch.
+     * @param {unknown} error
+     * @param {File[]} files
+     */
+    async faultOf(error, files) {
+        const names = files.map(file => file.name);
+        const kinds = await this.kinds(files);
+        const iso = names[kinds.indexOf('iso')];
+        return iso === undefined ? notice('bad', texts.notOpenedYet, ...messageParts(error, names))
+            : notice('bad', say(texts.isoOfPartSectors, { name: nameOf(iso) }), texts.needsFullDump);
+    }
+}

@@ -1,0 +1,33 @@
+// In which file of the open image a block lies, as the tables of two images say it.
+
+import { filesAt } from '../../core/iso/files.js';
+import { USER_SIZE } from '../../core/sectors/sector.js';
+import * as texts from '../texts/index.js';
+import { shownName } from '../ui/index.js';
+
+/** @typedef {import('../../core/iso/files.js').VolumeFiles} VolumeFiles */
+
+const OWN = { descriptor: texts.volumeDescriptor, directory: texts.inDirectory };
+
+/**
+ * Says of blocks in which file each lies. It looks through the files again only if a block lies elsewhere than the one before.
+ * @param {VolumeFiles | null} volume null if its files are not known
+ * @returns {(block: number) => string}
+ */
+export function fileSayer(volume) {
+    if (volume === null) return () => '–';
+    const { files, own } = volume;
+    let [from, end, name] = [0, 0, ''];
+    return block => {
+        if (block < from || block >= end) {
+            const [file] = filesAt(files, block, 0);
+            const next = files.find(it => it.block > block);
+            from = block;
+            end = file ? file.block + Math.ceil(file.size / USER_SIZE) : next ? next.block : Infinity;
+            name = file ? shownName(file.path) : '';
+        }
+        if (name !== '') return name;
+        const kind = own.get(block);
+        return kind ? OWN[kind] : texts.inNoFile;
+    };
+}
