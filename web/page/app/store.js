@@ -252,6 +252,13 @@ export class Store {
         return number;
     }
 
+    /** @param {string[]} lines that set bytes, each in place of those that set the same ones. Returns how many are new, and how many not */
+    mergeLines(lines) {
+        const merged = this.script.merge(lines);
+        this.tell('script', { back: null });
+        return merged;
+    }
+
     /**
      * Puts a line in place of another one.
      * @param {number} number
@@ -260,6 +267,7 @@ export class Store {
      */
     replaceLine(number, line, typed = '') {
         this.script.edit(number - 1, 1, [line], typed);
+        if (typed === '') this.script.made.add(line);
         this.tell('script', { back: null });
     }
 
