@@ -124,8 +124,9 @@ export class ScriptLines extends ScriptModel {
      * Adds lines at the end, after a head line if no line says anything yet. Returns the number of the last of them, 0 if it is not shown.
      * @param {string[]} texts
      * @param {Typed} typed
+     * @param {number} [before] the line before which they are put in, if not at the end
      */
-    add(texts, typed) {
+    add(texts, typed, before = 0) {
         const come = this.head < 0 ? [HEAD, ...texts] : texts;
         if (typed === '') for (const text of texts) this.made.add(text);
         const size = come.reduce((sum, text) => sum + text.length + 1, 1);
@@ -135,8 +136,9 @@ export class ScriptLines extends ScriptModel {
             this.setLong(`${text}${text.endsWith('\n') ? '' : '\n'}${come.join('\n')}\n`, this.name);
             return 0;
         }
-        this.edit(last, 0, last < this.lines.length ? come : [...come, ''], typed);
-        return last + come.length;
+        const at = before > 0 ? before - 1 : last;
+        this.edit(at, 0, at < this.lines.length ? come : [...come, ''], typed);
+        return at + come.length;
     }
 
     /**

@@ -242,12 +242,13 @@ export class Store {
     }
 
     /**
-     * Adds lines at the end of the script. Returns the number of the last of them, 0 if it is not shown.
+     * Adds lines at the end of the script, or before one of its lines. Returns the number of the last of them, 0 if it is not shown.
      * @param {string[]} lines
      * @param {'' | 'bytes'} [typed] bytes of a sector if they are
+     * @param {number} [before]
      */
-    addLines(lines, typed = '') {
-        const number = this.script.add(lines, typed);
+    addLines(lines, typed = '', before = 0) {
+        const number = this.script.add(lines, typed, before);
         this.tell('script', { back: null });
         return number;
     }

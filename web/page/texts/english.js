@@ -448,6 +448,8 @@ export const hasNoSoundCopy = '{name} has no sound copy of it.';
 export const repairFrom = 'Repair from {name}';
 export const addToScript = 'Add {verb} to the script';
 export const isInScript = '{verb} is in the script';
+export const rebuildsNow = 'Line {line} is {patch} now.';
+export const rebuildsBeforeChange = 'Line {line} is {patch} now, before the change.';
 export const rebuildHidesDamage =
     '{verb} makes the sector valid with the bytes as they are. If these are wrong, it hides the damage for good.';
 
@@ -749,6 +751,8 @@ export const countDoesNotFit = '{n} does not fit|{n} do not fit';
 
 // the log; what its buttons are for is only heard
 export const logOfCheck = 'Log';
+export const whatTrialPrints = 'What {command} prints (a trial: nothing is saved)';
+export const whatIsPrinted = 'What {command} prints';
 export const whichLog = ' the log';
 export const logFile = 'log.txt';
 export const logIsPrinted = 'The same text as {command} prints, in the order of application: by block, then by line.';
