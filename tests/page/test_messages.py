@@ -108,6 +108,7 @@ class Messages(PageTest):
         self.browser.wait('[aria-label="Cannot be repaired: 1"]')
         self.copies('[aria-label="Cannot be repaired: 1"] [data-copies]', 'Copy', f'{discs.first_block() + 1}\t')
         self.open_files(place / 'english.txt')
+        self.press('What cdpatch check prints')
         self.browser.wait('#panel-script .log', 'applied')
         self.copies('[aria-label=Log] [data-copies]', 'Copy', 'line 4: applied')
         self.browser.click('#tab-text')

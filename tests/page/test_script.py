@@ -71,7 +71,11 @@ class Script(PageTest):
         self.assertEqual([it.split(':')[0] for it in words], ['fits'] * 6 + ['does not fit'] * 2)
         shown = self.browser.text('#panel-script .two')
         for word in ('applied', 'status'):
-            self.assertNotIn(word, shown.split('Log')[0])
+            self.assertNotIn(word, shown)
+        self.press('What cdpatch check prints (a trial: nothing is saved)')
+        self.browser.wait('pre.log', 'refused 2')
+        self.press('Check again')
+        self.browser.wait('pre.log', 'refused 2')
         self.press('Go to line')
         self.browser.wait('.explain', f'It does not fit: old bytes differ at block {discs.first_block()} offset 600.')
 
@@ -85,6 +89,7 @@ class Script(PageTest):
         self.assertEqual(saved.read_bytes(), out)
         self.browser.wait('#panel-script .side', 'without 3 of 8 changes')
         self.assertEqual(self.browser.run('return document.querySelector("pre.log").textContent'), text)
+        self.assertEqual(self.browser.text('#panel-script summary'), 'What cdpatch apply prints')
         self.browser.wait('#saved-sha1', common.sha1(out))
         self.assertEqual(self.browser.text('#saved-crc32'), f'{zlib.crc32(out):08x}')
         one_line = 'return document.querySelector("#saved-sha1").offsetHeight === document.querySelector("#saved-crc32").offsetHeight'

@@ -14,7 +14,8 @@ import { fitWords } from './fit_words.js';
 /** @typedef {import('../ui/fill.js').Child} Child */
 /**
  * What the card asks of the panel: the lines; to draw them anew; and to go to a line.
- * @typedef {{ lines: ScriptLines, redraw: () => void, goTo: (line: number) => void, log: (text: Uint8Array | null) => void }} CheckOwner
+ * @typedef {{ lines: ScriptLines, redraw: () => void, goTo: (line: number) => void,
+ *     log: (text: Uint8Array | null, verb?: string) => void }} CheckOwner
  */
 
 const MOST_NAMED = 12;
@@ -197,13 +198,14 @@ export class CheckCard {
     /**
      * @param {Patched} patched
      * @param {number} seconds
+     * @param {'check' | 'apply'} [verb] of the program that prints the same
      */
-    take(patched, seconds) {
+    take(patched, seconds, verb = 'check') {
         this.patched = patched;
         this.seconds = seconds;
         this.failure = null;
         this.owner.lines.setOutcomes(patched.outcomes);
-        this.owner.log(patched.text);
+        this.owner.log(patched.text, verb);
         this.owner.redraw();
         const { head, rest } = this.fit(patched);
         announce(`${element('p', {}, ...head, ' ', ...rest).textContent}`.trim());
@@ -216,7 +218,7 @@ export class CheckCard {
         if (image === null || !this.isFree()) return;
         const work = { reader: image.reader, base: image.base, script: lines.text(), carry: this.carry.checked };
         const made = await this.saving.save(image, work);
-        if (made && this.app.image === image && work.script === lines.text()) this.take(made, this.seconds);
+        if (made && this.app.image === image && work.script === lines.text()) this.take(made, this.seconds, 'apply');
         this.draw();
     }
 }

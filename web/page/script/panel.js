@@ -48,7 +48,7 @@ class ScriptPanel {
                 this.explain();
             },
             goTo: line => this.goTo(line),
-            log: text => this.showLog(text),
+            log: (text, verb) => this.showLog(text, verb),
         });
         this.strip = element('div', { class: 'explain', 'aria-live': 'off' });
         this.unshown = element('div');
@@ -242,19 +242,25 @@ class ScriptPanel {
         this.app.open(files);
     }
 
-    /** @param {Uint8Array | null} bytes */
-    showLog(bytes) {
+    /**
+     * Shows what the program prints, to who asks for it: it says “applied” of a trial too.
+     * @param {Uint8Array | null} bytes
+     * @param {string} verb
+     */
+    showLog(bytes, verb = 'check') {
         this.log.hidden = bytes === null;
         if (bytes === null) return;
         const text = new TextDecoder().decode(bytes);
         const shown = text.length > MOST_LOG ? `${text.slice(0, text.lastIndexOf('\n', MOST_LOG))}\n…\n` : text;
-        const command = element('span', { class: 'mono' }, 'cdpatch check');
-        fill(this.log, element('header', {}, element('h2', {}, texts.logOfCheck),
-            copyButton('slim bare', () => text, texts.copy, texts.whichLog),
-            button('slim bare', () => downloadText(text, texts.logFile), texts.saveReport,
-                element('span', { class: 'hide' }, texts.whichLog))),
-        element('div', { class: 'pad stack tight' }, element('pre', { class: 'log', tabindex: 0, 'aria-label': texts.logOfCheck }, shown),
-            element('p', { class: 'small quiet' }, ...say(texts.logIsPrinted, { command }))));
+        const command = () => ({ command: element('span', { class: 'mono' }, `cdpatch ${verb}`) });
+        const open = this.log.querySelector('details[open]') !== null;
+        fill(this.log, element('details', { class: 'pad', open },
+            element('summary', {}, ...say(verb === 'check' ? texts.whatTrialPrints : texts.whatIsPrinted, command())),
+            element('div', { class: 'stack tight' }, element('pre', { class: 'log', tabindex: 0, 'aria-label': texts.logOfCheck }, shown),
+                element('div', { class: 'row' }, copyButton('slim bare', () => text, texts.copy, texts.whichLog),
+                    button('slim bare', () => downloadText(text, texts.logFile), texts.saveReport,
+                        element('span', { class: 'hide' }, texts.whichLog))),
+                element('p', { class: 'small quiet' }, ...say(texts.logIsPrinted, command())))));
     }
 }
 
