@@ -744,8 +744,10 @@ export const changesStandThere = 'It holds what the change of {script} writes.|I
 export const anotherRelease = 'Another release, another disc, or another base?';
 export const someChangesFit =
     '{script}: {fitting} of {all} changes fit {image}, {n} does not.|{script}: {fitting} of {all} changes fit {image}, {n} do not.';
-export const thatOneLeftOut = 'That one would be left out.';
-export const thoseLeftOut = 'Those would be left out.';
+export const repairOrCarry = 'Repair the image first, or tick “Patch damaged sectors too”.';
+export const anotherTrack = 'Only Mode 1 sectors are patched. Another track, or another disc?';
+export const anotherTrackOrBase = 'Another track, or another base?';
+export const savedWithout = 'A new image can be saved without it.|A new image can be saved without them.';
 export const countFits = '{n} fits|{n} fit';
 export const countDoesNotFit = '{n} does not fit|{n} do not fit';
 
