@@ -85,6 +85,9 @@ class TextsTable(PageTest):
         self.assertEqual(self.browser.run(stops), 1)
         self.press('3')
         self.browser.wait(f'[aria-label="The bytes around block {block} offset {offset}"]')
+        block, offset = rows[3].split('\t')[:2]
+        self.browser.click('[aria-label="2 rows do not fit"] tbody tr:nth-child(2) td:nth-child(4)')
+        self.browser.wait(f'[aria-label="The bytes around block {block} offset {offset}"]')
 
     def test_a_table_that_is_none_adds_nothing(self) -> None:
         image = self.begin(told())

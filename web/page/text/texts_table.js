@@ -208,10 +208,12 @@ export class TextsTable {
      */
     leftRow(image, row, why) {
         const { number, block, offset, text, fresh } = row;
-        const open = element('button', { type: 'button', class: 'fold', click: () => void this.showPlace(image, row) }, number);
+        const open = element('button', { type: 'button', class: 'fold' }, number);
         const place = element('td', { class: 'nowrap', 'data-l': texts.placeLabel }, block < 0 ? '–' : `${block}, ${offset}`);
-        return element('tr', {}, element('td', {}, open), place, element('td', { class: 'mono small wide' }, shownText(text), ' → ',
-            shownText(fresh)), element('td', { class: 'wide' }, shownText(why)));
+        // A press on the button comes up to the row.
+        return element('tr', { click: () => void this.showPlace(image, row) }, element('td', {}, open), place,
+            element('td', { class: 'mono small wide' }, shownText(text), ' → ', shownText(fresh)),
+            element('td', { class: 'wide' }, shownText(why)));
     }
 
     /**
