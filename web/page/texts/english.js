@@ -954,8 +954,8 @@ The old bytes come from the game ({n} bytes). Check whether you may publish them
 export const saveAsPatcher = 'Save as a patcher…';
 export const seeAsPlayer = 'See it as a player';
 export const patcherIsOneFile = 'One .html file with this page, your script and what you wrote here. It holds no image.';
-export const noLicenceChosen = 'No licence has been chosen for cdpatch yet.';
-export const noCopiesPassedOn = 'Until its owner has chosen one, nobody may pass copies of this page on.';
+export const noLicenceYet = 'The publisher of this copy of cdpatch, which the patcher contains, has not given a licence yet: try it, but ' +
+    'do not publish it before there is a release with a licence.';
 export const scriptSavedElsewhere = 'The script itself can be saved under Script.';
 export const calculatingResultSha1 = 'Calculating the SHA-1 of the result';
 export const calculatingForPlayers = 'Calculating the SHA-1 of the patched image, so that players can compare theirs.';
