@@ -344,7 +344,7 @@ class Player(PageTest):
         self.press('Open this in the full cdpatch')
         self.browser.wait('#disc-line .name', 'mine.bin')
         self.browser.click('#tab-script')
-        self.browser.wait('#panel-script header .tag', '6 patches, version 1')
+        self.browser.wait('#panel-script header .tag', '6 changes, version 1')
         self.browser.click('#tab-publish')
         fields = 'return ["title", "author", "note", "name"].map(it => document.querySelector(`#patcher-${it}`).value)'
         self.assertEqual(self.browser.run(fields), ['Starlit Detective in English', 'Team Comet', 'All menus.\nChapter 1.', 'Starlit (English).bin'])

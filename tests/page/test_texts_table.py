@@ -80,7 +80,7 @@ class TextsTable(PageTest):
         (number, place, _, why), other = self.browser.run(cells)
         block, offset = rows[2].split('\t')[:2]
         self.assertEqual((number, place, other[0]), ('3', f'{block}, {offset}', '4'))
-        self.assertIn('more than the', why)
+        self.assertIn('and there is room for', why)
         stops = "return document.querySelectorAll('[aria-label=\"2 rows do not fit\"] tbody [tabindex=\"0\"]').length"
         self.assertEqual(self.browser.run(stops), 1)
         self.press('3')

@@ -76,6 +76,7 @@ class ScriptPanel {
         app.on('image', () => {
             this.check.forget();
             this.drawHead();
+            this.drawSide();
         });
         for (const name of /** @type {const} */ (['files', 'encoding'])) app.on(name, () => this.explain());
         app.on('panel', () => {
@@ -149,7 +150,7 @@ class ScriptPanel {
         const count = byId('count-script');
         count.hidden = !fault && lines.patches === 0;
         count.className = `count${fault ? ' bad' : ''}`;
-        const [before, n, after] = say(fault ? texts.faultsOfScript : texts.patchesOfScript, { n: lines.faults || lines.patches });
+        const [before, n, after] = say(fault ? texts.faultsOfScript : texts.changesOfScript, { n: lines.faults || lines.patches });
         fill(count, before, n, element('span', { class: fault ? 'long' : 'hide' }, after));
     }
 
@@ -158,8 +159,8 @@ class ScriptPanel {
         const { faults, long, patches, version } = this.lines;
         if (faults > 0) return told(texts.faultsOfScript, { n: faults });
         if (long) return told(texts.charactersOfScript, { n: long.text.length });
-        const words = told(texts.patchesOfScript, { n: patches });
-        return version ? told(texts.patchesAndVersion, { patches: words, version: String(version) }) : words;
+        const words = told(texts.changesOfScript, { n: patches });
+        return version ? told(texts.changesAndVersion, { changes: words, version: String(version) }) : words;
     }
 
     drawSide() {
@@ -170,13 +171,18 @@ class ScriptPanel {
         return fill(this.side, this.check.card, this.log);
     }
 
+    /** What is next while there is no change: with an image open, its patch. */
     emptyCard() {
         const { app } = this;
-        return element('section', { class: 'card pad stack' }, element('h2', {}, texts.noPatchesYet),
-            element('p', {}, texts.scriptIsList),
-            element('div', { class: 'stack tight start' }, button('', () => app.showPanel('text'), texts.findAndReplaceText),
-                button('', () => app.showPanel('disc'), texts.changeBytesOfSector),
-                button('', () => this.opening.click(), texts.openAScript)));
+        const open = (/** @type {string} */ looks, /** @type {string} */ words) => button(looks, () => this.opening.click(), words);
+        const own = [button('', () => app.showPanel('text'), texts.findAndReplaceText),
+            button('', () => app.showPanel('disc'), texts.changeBytesOfSector)];
+        const hasImage = app.image !== null;
+        const next = hasImage && [element('p', {}, texts.nowOpenPatch),
+            element('div', { class: 'row next' }, open('main', texts.openThePatch))];
+        return element('section', { class: 'card pad stack' }, element('h2', {}, texts.noChangesYet), ...next || [],
+            element('p', {}, hasImage ? texts.orMakeChanges : texts.scriptIsList),
+            element('div', { class: 'stack tight start' }, ...own, !hasImage && open('', texts.openAScript)));
     }
 
     explain() {

@@ -541,7 +541,7 @@ export const columnContext = 'Context';
 export const offsetLabel = 'offset';
 export const hitNumber = 'hit {number}';
 export const inScriptLine = 'in the script, line {line}';
-export const overBlockBorder = 'over a border of blocks';
+export const overBlockBorder = 'goes on in the next block';
 export const showMoreHits = 'Show {n} more';
 
 // replacing a hit
@@ -618,8 +618,8 @@ export const scriptCard = 'Script';
 export const newScript = 'New script';
 export const faultsOfScript = '{n} fault|{n} faults';
 export const charactersOfScript = '{n} character|{n} characters';
-export const patchesOfScript = '{n} patch|{n} patches';
-export const patchesAndVersion = '{patches}, version {version}';
+export const changesOfScript = '{n} change|{n} changes';
+export const changesAndVersion = '{changes}, version {version}';
 export const scriptNotSaved = 'not saved';
 export const scriptToOpen = 'A script to open';
 export const saveScript = 'Save script…';
@@ -630,7 +630,7 @@ export const bringItBack = 'Bring it back';
 export const linesNotShown = 'This script is too long: its lines are not shown.';
 
 // the script that takes it back
-export const undoScript = 'Undo script…';
+export const undoScript = 'Save a script that takes it back…';
 export const makingUndo = 'Making the undo script';
 export const makingFile = 'Making {name}';
 export const undoFile = '{script} (undo).txt';
@@ -651,7 +651,7 @@ export const blockWord = 'block';
 export const lineMeans = 'Line {line}:';
 export const emptyLine = 'an empty line.';
 export const commentLine = 'a comment. It changes nothing.';
-export const headMeans = 'the version of the script. Then one patch a line, for example {example}';
+export const headMeans = 'the version of the script. Then one change a line, for example {example}';
 export const exampleMeans = 'which writes 5 bytes at [offset] 26 of [block] 4711, if the old ones are there.';
 export const atOffset = 'at [offset] {offset} of [block] {block}';
 export const overBorder = '{place}, over the border to block {last}';
@@ -703,7 +703,10 @@ export const wrongReleaseOrPlace = 'Another release of the game, or a wrong bloc
 export const showThePlace = 'Show the place';
 
 // while there is none
-export const noPatchesYet = 'No patches yet';
+export const noChangesYet = 'No changes yet';
+export const nowOpenPatch = 'Now open the patch: its script (a text file), or its patcher (a page, .html).';
+export const openThePatch = 'Open the patch…';
+export const orMakeChanges = 'Or make your own changes. A script is their list, which you rarely type:';
 export const scriptIsList = 'A script is the list of your changes. You rarely type it:';
 export const findAndReplaceText = 'Find and replace a text';
 export const changeBytesOfSector = 'Change bytes of a sector';
@@ -826,7 +829,7 @@ export const beginAgain = 'Begin again';
 export const nothingFoundOut = 'Nothing was found out.';
 
 // the map of both images
-export const nothingToDo = 'nothing to do';
+export const nothingToDo = 'no repair needed';
 export const canBeRepaired = 'can be repaired';
 export const cannotBeRepaired = 'cannot be repaired';
 export const sameInBoth = 'same in both';
@@ -901,7 +904,7 @@ export const userDataWithoutEdc = 'If the user data differ and the EDC does not,
 export const writingScript = 'Writing the script';
 export const theSecondImage = 'the second image';
 export const theRepairedImage = 'the repaired image';
-export const scriptHasPatches = 'The script has {n} patch.|The script has {n} patches.';
+export const scriptHasPatches = 'The script has {n} change.|The script has {n} changes.';
 export const scriptHasBytes = '{n} bytes.';
 export const givesExactly = 'Verified: applied to {image} it gives exactly {goal}.';
 export const givesButForOne = 'Verified: applied to {image} it gives {goal}, but for {blocks}, which it leaves as it is.';
