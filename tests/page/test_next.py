@@ -70,7 +70,7 @@ class Next(PageTest):
                 self.assertNotIn(words, shown)
         self.open_script(files['some'])
         self.browser.wait(f'{SAID}.warn', '1 of 3 places holds other bytes. 1 of 3 places is damaged. Repair the image first')
-        self.browser.wait(f'{SAID}.warn', 'A new image can be saved without them.')
+        self.browser.wait(f'{SAID}.warn', 'A new image can be saved without those changes.')
         self.browser.wait(f'{SAID}.warn .btn', 'Apply and save')
 
     def test_an_image_that_holds_all_that_the_script_writes_is_called_patched(self) -> None:

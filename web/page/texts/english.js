@@ -750,7 +750,7 @@ export const someChangesFit =
 export const repairOrCarry = 'Repair the image first, or tick “Patch damaged sectors too”.';
 export const anotherTrack = 'Only Mode 1 sectors are patched. Another track, or another disc?';
 export const anotherTrackOrBase = 'Another track, or another base?';
-export const savedWithout = 'A new image can be saved without it.|A new image can be saved without them.';
+export const savedWithout = 'A new image can be saved without that change.|A new image can be saved without those changes.';
 export const countFits = '{n} fits|{n} fit';
 export const countDoesNotFit = '{n} does not fit|{n} do not fit';
 
