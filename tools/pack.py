@@ -134,7 +134,7 @@ def page(parts: Path, made: list[str]) -> str:
     style = esbuild('web/page/style.css', *EVERY, at=parts)
     policy = POLICY.format(script='{script}', style=hash_of(style))
     # By this the page makes its own text again. The hash of its script can't stand in the script.
-    own = {'html': pieces, 'policy': policy.split('{script}'), 'made': made,
+    own = {'html': pieces, 'policy': policy.split('{script}'), 'made': made, 'licensed': (TOOLS.parent / 'LICENSE').is_file(),
            'style': {'size': len(style.encode()), 'sha1': hashlib.sha1(style.encode()).hexdigest()}}
     (parts / 'own.gz').write_bytes(packed(json.dumps(own, ensure_ascii=False).encode()))
     script = esbuild('web/page/main.js', *EVERY, *PAGE, '--inject:tools/joined_page.js', at=parts)

@@ -32,7 +32,7 @@ test('a hit in the middle of a character is marked, and replaced only at its pla
     assert.deepEqual([each.status, each.out, each.errors],
         [0, `cdpatch 1\n${['2 101', '4 0', '4 502'].map(place => `set ${place} 7878 was 6B7A\n`).join('')}`, '']);
     const long = await run(['replace', 'image', 'kz', 'xxx', '--all', '--encoding', 'CP932'], { cwd: room });
-    assert.deepEqual([long.status, long.out, long.errors], [2, '', 'cdscript: the new text has 3 bytes in CP932, 1 more than the 2 that are there\n']);
+    assert.deepEqual([long.status, long.out, long.errors], [2, '', 'cdscript: the new text has 3 bytes in CP932, and there is room for 2: 1 too many\n']);
     const many = await run(['replace', 'image', 'kz', 'xx', '--encoding', 'CP932'], { cwd: room });
     const dots = count => '.'.repeat(count);
     assert.deepEqual(many.errors.split('\n').slice(0, 3), [`cdscript: it stands at block 2 offset 101, ${INSIDE}: ${dots(23)}kz${dots(24)}`,

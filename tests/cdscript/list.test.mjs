@@ -46,11 +46,11 @@ test('a new text may take the room of the filling after the old one, and no byte
     assert.equal(done.out, 'cdpatch 1\nset 2 100 616263646566 was 834183430000\nset 5 300 4142434445464748 was 4142434420202020\n');
     const long = await listed(room, HEAD, [row('5\t300', 99, 'ABCD', 'ABCDEFGHI'), row('2\t100', 5, 'アイ', 'abcdef'), row('4\t50', 4, 'アイ', 'ウエ')]);
     assert.deepEqual([long.status, long.out, long.errors.split('\n')], [2, '', [
-        'cdscript: row 2: the new text has 9 bytes in CP932, 1 more than the 8 that are there',
-        'cdscript: row 3: the new text has 6 bytes in CP932, 1 more than the 5 that are there',
+        'cdscript: row 2: the new text has 9 bytes in CP932, and there is room for 8: 1 too many',
+        'cdscript: row 3: the new text has 6 bytes in CP932, and there is room for 5: 1 too many',
         'cdscript: rows that do not fit: 2, so no script is written; --partial leaves them out', '']]);
     const without = await listed(room, 'block\toffset\ttext\tnew', ['5\t300\tABCD\tABCDE']);
-    assert.equal(without.errors.split('\n')[0], 'cdscript: row 2: the new text has 5 bytes in CP932, 1 more than the 4 that are there');
+    assert.equal(without.errors.split('\n')[0], 'cdscript: row 2: the new text has 5 bytes in CP932, and there is room for 4: 1 too many');
 }));
 
 test('a 00 after a text stays, since it ends it', () => inDirectory(async room => {
@@ -60,7 +60,7 @@ test('a 00 after a text stays, since it ends it', () => inDirectory(async room =
     const done = await listed(room, head, [row('2\t100', 'CP932', 'ABC', 'ABCde'), row('3\t100', 'UTF-16LE', '王様', 'abcd')]);
     assert.equal(done.out, 'cdpatch 1\nset 2 100 4142436465 was 4142430000\nset 3 100 6100620063006400 was 8B73D86900000000\n');
     const long = await listed(room, head, [row('2\t100', 'CP932', 'ABC', 'ABCdef'), row('3\t100', 'UTF-16LE', '王様', 'abcde')]);
-    assert.deepEqual([long.status, long.errors.match(/more than the \d/g)], [2, ['more than the 5', 'more than the 8']]);
+    assert.deepEqual([long.status, long.errors.match(/room for \d/g)], [2, ['room for 5', 'room for 8']]);
 }));
 
 test('all rows that do not fit are named, and left out only if that is asked for', () => inDirectory(async room => {

@@ -113,7 +113,7 @@ test('a text is replaced at its place, filled up', { skip }, () => inDirectory(a
         due.copy(user, block * 2048 + offset);
         sameFile(userOf(applied(room, 'disc.bin', 'script')), user, 'the user data');
     }
-    await refuses(room, ['replace', 'disc.bin', '村人', '村人たち'], 'the new text has 12 bytes in UTF-8, 6 more than the 6 that are there');
+    await refuses(room, ['replace', 'disc.bin', '村人', '村人たち'], 'the new text has 12 bytes in UTF-8, and there is room for 6: 6 too many');
     await refuses(room, ['replace', 'disc.bin', '16', '1', 'CD002', 'CD003'], 'old bytes differ at block 16 offset 5');
     await refuses(room, ['replace', 'disc.bin', 'ABSENT TEXT', 'X'], 'the text is not found');
 }));

@@ -5,6 +5,7 @@ import { test } from 'node:test';
 import { calls, core, decoded, diceOf, newCalls } from './common.mjs';
 
 const { ScriptModel, lastBlockOf, writersIn } = await core('script/model.js');
+const { firstLinesOf } = await core('script/block_lines.js');
 const { faultyWord, lacksDigit, wordsOf } = await core('script/line_words.js');
 const { isMeantAsScript, isScript } = await core('script/script_start.js');
 const { CONTENT, VERB } = await core('module/records.js');
@@ -161,4 +162,10 @@ test('a text is a script by its first line that says something, or meant as one'
     for (const text of ['', '# a\n', 'cdpatch', 'rebuild', 'Set 5 0 41', 'x\ncdpatch 1', 'setting 1', 'cdpatches 1']) {
         assert.deepEqual(read(text), [false, false], text);
     }
+});
+
+test('the first lines that rebuild a block, and that write in it otherwise', () => {
+    const model = modelOf('cdpatch 2\nset 4 2047 4142\nfill 5 0 1 00\nrebuild 5\nrebuild 5\naddress 6 00:02:06\nrebuild 7\nset 6 9 41');
+    const found = [4, 5, 6, 7, 8].map(block => Object.values(firstLinesOf(model, block)));
+    assert.deepEqual(found, [[0, 2], [4, 2], [0, 6], [7, 0], [0, 0]]);
 });

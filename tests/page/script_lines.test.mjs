@@ -182,3 +182,28 @@ test('line ends of Windows are line ends, and a text ends as it did', () => {
     lines.edit(1, 1, ['rebuild 2']);
     assert.equal(lines.text(), 'cdpatch 1\nrebuild 2\n');
 });
+
+test('lines that come a second time take the place of those that set the same bytes, and nothing else gives way', () => {
+    const lines = linesOf('cdpatch 1\n# mine\nset 9 4 41 was 20\n');
+    const come = ['set 5 0 414141 was 202020', 'set 5 10 4242 was 2020', 'set 7 2047 4343 was 2020'];
+    assert.deepEqual(lines.merge(come), { added: 3, replaced: 0, same: 0 });
+    lines.add(['set 5 11 5A was 42'], 'bytes');
+    lines.add(['fill 7 2040 20 00', 'set 5 2 5A5A was 4120'], 'bytes');
+    const before = lines.text();
+    assert.deepEqual(lines.merge(['set 5 0 4445 was 2020', 'set 5 10 4646 was 2020', come[2], 'set 8 5 47 was 20']), { added: 1, replaced: 2, same: 1 });
+    assert.equal(lines.text(), ['cdpatch 1', '# mine', 'set 9 4 41 was 20', 'set 5 0 4445 was 2020', 'set 5 10 4646 was 2020', come[2],
+        'fill 7 2040 20 00', 'set 5 2 5A5A was 4120', 'set 8 5 47 was 20', ''].join('\n'));
+    lines.undo();
+    assert.equal(lines.text(), before);
+});
+
+test('what an import or a replacement made gives way where it is met in part, and what was typed does not', () => {
+    const lines = linesOf('cdpatch 1\n');
+    lines.add(['set 5 0 414141 was 202020'], '');
+    lines.add(['set 6 0 414141 was 202020'], 'bytes');
+    assert.deepEqual(lines.merge(['set 5 2 4242 was 2020', 'set 6 2 4242 was 2020']), { added: 1, replaced: 1, same: 0 });
+    assert.equal(lines.text(), 'cdpatch 1\nset 5 2 4242 was 2020\nset 6 0 414141 was 202020\nset 6 2 4242 was 2020\n');
+    lines.noteSaved();
+    assert.deepEqual(lines.merge(['set 5 2 4242 was 2020']), { added: 0, replaced: 0, same: 1 });
+    assert.ok(lines.isSaved());
+});

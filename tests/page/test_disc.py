@@ -434,6 +434,19 @@ class Disc(unittest.TestCase):
         browser.click('#findings [data-tab=text]')
         self.assertEqual(browser.text('#findings pre').rstrip('\n'), run_program('audit', path)[1].rstrip('\n'))
 
+    def test_all_of_a_row_does_what_its_button_does(self) -> None:
+        browser = self.opened(file_of(scratched()))
+        browser.click('#findings tbody tr:nth-child(1) td:nth-child(4)')
+        browser.wait('#findings tr.sub')
+        browser.click('#findings tr.sub td:nth-child(3)')
+        browser.wait('#sector-title', f"block {browser.text('#findings tr.sub .fold')}")
+        for tab in ('runs', 'files'):
+            browser.click(f'#findings [data-tab={tab}]')
+            browser.click('#findings tbody tr:last-child td:last-child')
+            if tab == 'runs':
+                browser.wait('#sector-title', f"block {browser.text('#findings tbody tr:last-child .fold').partition('–')[0]}")
+        browser.wait('#findings tbody tr:last-child[aria-selected=true]')
+
     # ---- a sector
 
     def test_a_sector_is_shown_in_hex_and_in_an_encoding(self) -> None:

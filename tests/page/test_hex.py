@@ -2,7 +2,7 @@
 
 import chromium
 import discs
-from common import SECTOR_SIZE, waited
+from common import SECTOR_SIZE, damaged, waited
 from pages import PageTest
 from selenium.webdriver.common.action_chains import ActionChains
 from selenium.webdriver.common.keys import Keys
@@ -50,6 +50,20 @@ class Hex(PageTest):
         self.assertEqual(self.selected(), [2, 3, 4])
         browser.press('a', held=Keys.CONTROL)
         self.assertEqual(self.selected(), [*range(2048)])
+
+    def test_a_rebuild_comes_before_the_changes_of_its_sector(self) -> None:
+        browser = self.sector_of(60, damaged(discs.game(), 60, 1000))
+        browser.press('c', '0')
+        waited(lambda: browser.text('#count-script').startswith('1'), 'no line in the script')
+        self.press('Add rebuild to the script')
+        browser.wait('#panel-disc .say.bad', 'Line 2 is rebuild 60 now, before the change.')
+        self.assertEqual(browser.text('#announced'), 'Line 2 is rebuild 60 now, before the change.')
+        self.assertTrue(self.is_off('rebuild is in the script'))
+        self.assertEqual(self.focused().split(': ')[1], 'rebuild is in the script')
+        browser.click('#tab-script')
+        self.assertEqual(self.script_text(), 'cdpatch 1\nrebuild 60\nset 60 1000 C0 was 55\n')
+        self.press('Check')
+        browser.wait('#panel-script .say.good', '2 changes, all fit')
 
     def copied(self) -> str:
         """What Ctrl+C copies."""

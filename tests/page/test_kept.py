@@ -239,7 +239,7 @@ class Kept(PageTest):
         self.open_image(files['game'])
         self.open_script(files['english'])
         self.browser.run(GATE)
-        self.press('Undo script')
+        self.press('Save a script that takes it back')
         self.browser.wait('#panel-script .progress')
         self.browser.run('held = 0')
         self.open_script(files['other'])

@@ -53,6 +53,26 @@ class Next(PageTest):
             self.browser.wait(SAID, said)
             self.assertIn(said, self.browser.text('#announced'))
 
+    def test_why_no_change_fits_is_said_and_nothing_is_offered_to_be_saved(self) -> None:
+        audio = common.SYNC[::-1] * 196
+        files = discs.written(game=common.damaged(discs.game(), 60) + audio, hurt='cdpatch 1\nset 60 0 41 was 00\n', far='cdpatch 1\nset 9999 0 41\n',
+                              sound=f'cdpatch 1\nset {len(discs.game()) // 2352} 0 41\n', other='cdpatch 1\nset 61 0 4141 was 9F9F\n',
+                              some='cdpatch 1\nset 60 0 41\nset 61 0 42\nset 61 1 4343 was 9F9F\n')
+        self.open_image(files['game'])
+        for name, why in (('hurt', '1 of 1 place is damaged. Repair the image first, or tick “Patch damaged sectors too”.'),
+                          ('far', '1 of 1 place is not in this image. Another track, or another base?'),
+                          ('sound', '1 of 1 place holds no data here. Only Mode 1 sectors are patched.'),
+                          ('other', '1 of 1 place holds other bytes. Another release, another disc, or another base?')):
+            self.open_script(files[name])
+            self.browser.wait(f'{SAID}.bad', why)
+            shown = self.browser.text('#panel-script .side')
+            for words in ('Apply and save', 'Saves a new image', *([] if name == 'other' else ['Another release'])):
+                self.assertNotIn(words, shown)
+        self.open_script(files['some'])
+        self.browser.wait(f'{SAID}.warn', '1 of 3 places holds other bytes. 1 of 3 places is damaged. Repair the image first')
+        self.browser.wait(f'{SAID}.warn', 'A new image can be saved without those changes.')
+        self.browser.wait(f'{SAID}.warn .btn', 'Apply and save')
+
     def test_an_image_that_holds_all_that_the_script_writes_is_called_patched(self) -> None:
         files = self.files()
         patched = discs.written(patched=applied(files['game'], files['english'])[2])['patched']

@@ -149,7 +149,9 @@ class Publish(PageTest):
 
     def test_no_licence_is_said_beside_the_button(self) -> None:
         self.publish()
-        self.assertIn('No licence has been chosen for cdpatch yet.', self.browser.text('#no-licence'))
+        said = '' if (common.TOP / 'LICENSE').exists() else 'The publisher of this copy of cdpatch, which the patcher contains, has not given a licence yet: ' \
+            'try it, but do not publish it before there is a release with a licence.'
+        self.assertEqual(self.browser.text('#no-licence'), said)
         self.assertIn('The old bytes come from the game (32 bytes).', self.browser.text('#panel-publish'))
 
     def test_an_author_sees_it_as_a_player_and_goes_back(self) -> None:
@@ -391,7 +393,7 @@ class Player(PageTest):
         self.press('Open this in the full cdpatch')
         self.browser.wait('#disc-line .name', 'mine.bin')
         self.browser.click('#tab-script')
-        self.browser.wait('#panel-script header .tag', '6 patches, version 1')
+        self.browser.wait('#panel-script header .tag', '6 changes, version 1')
         self.browser.click('#tab-publish')
         fields = 'return ["title", "author", "note", "name"].map(it => document.querySelector(`#patcher-${it}`).value)'
         self.assertEqual(self.browser.run(fields), ['Starlit Detective in English', 'Team Comet', 'All menus.\nChapter 1.', 'Starlit (English).bin'])

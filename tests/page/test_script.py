@@ -71,7 +71,11 @@ class Script(PageTest):
         self.assertEqual([it.split(':')[0] for it in words], ['fits'] * 6 + ['does not fit'] * 2)
         shown = self.browser.text('#panel-script .two')
         for word in ('applied', 'status'):
-            self.assertNotIn(word, shown.split('Log')[0])
+            self.assertNotIn(word, shown)
+        self.press('What cdpatch check prints (a trial: nothing is saved)')
+        self.browser.wait('pre.log', 'refused 2')
+        self.press('Check again')
+        self.browser.wait('pre.log', 'refused 2')
         self.press('Go to line')
         self.browser.wait('.explain', f'It does not fit: old bytes differ at block {discs.first_block()} offset 600.')
 
@@ -85,6 +89,7 @@ class Script(PageTest):
         self.assertEqual(saved.read_bytes(), out)
         self.browser.wait('#panel-script .side', 'without 3 of 8 changes')
         self.assertEqual(self.browser.run('return document.querySelector("pre.log").textContent'), text)
+        self.assertEqual(self.browser.text('#panel-script summary'), 'What cdpatch apply prints')
         self.browser.wait('#saved-sha1', common.sha1(out))
         self.assertEqual(self.browser.text('#saved-crc32'), f'{zlib.crc32(out):08x}')
         one_line = 'return document.querySelector("#saved-sha1").offsetHeight === document.querySelector("#saved-crc32").offsetHeight'
@@ -192,7 +197,7 @@ class Script(PageTest):
     def test_a_line_that_needs_version_2_mends_the_head_line(self) -> None:
         self.open_script(discs.written(old='# mine\ncdpatch 1\nrebuild 1\naddress 7 00:02:07\n')['old'])
         self.press('Make it cdpatch 2')
-        self.browser.wait('#panel-script header .tag:not(.bad)', '2 patches, version 2')
+        self.browser.wait('#panel-script header .tag:not(.bad)', '2 changes, version 2')
         self.assertEqual(self.script_text(), '# mine\ncdpatch 2\nrebuild 1\naddress 7 00:02:07\n')
 
     def test_keys_edit_lines_and_undo_takes_back(self) -> None:
@@ -281,7 +286,7 @@ class Script(PageTest):
     def test_only_visible_lines_of_65535_are_drawn(self) -> None:
         script = 'cdpatch 1\n' + ''.join(f'set {i} 0 {"4A" * (4096 if i == 9 else 8)}\n' for i in range(65535))
         self.open_script(discs.written(large=script)['large'])
-        self.browser.wait('#panel-script header .tag', '65,535 patches')
+        self.browser.wait('#panel-script header .tag', '65,535 changes')
         self.assertLess(len(self.rows()), 80)
         self.browser.click('.editor textarea')
         self.browser.press(Keys.END, held=Keys.CONTROL)
@@ -296,7 +301,7 @@ class Script(PageTest):
         files = discs.written(game=discs.game(), large='cdpatch 1\n' + ''.join(f'set {i % 180} {i % 2048} 4A was 4B\n' for i in range(65535)))
         self.open_image(files['game'])
         self.open_script(files['large'])
-        self.browser.wait('#panel-script header .tag', '65,535 patches')
+        self.browser.wait('#panel-script header .tag', '65,535 changes')
         self.press('Check')
         self.browser.wait('.tally', 'not fit')
         self.browser.click('.editor textarea')
@@ -313,7 +318,7 @@ class Script(PageTest):
             self.assertLess(counts['texts'], 300, digits)
             self.assertLess(counts['elements'], 1000, digits)
             self.assertEqual(counts['sectors'], 0, digits)
-        self.browser.wait('#panel-script header .tag', '65,535 patches')
+        self.browser.wait('#panel-script header .tag', '65,535 changes')
 
     def test_a_key_reads_no_sector_that_is_not_shown(self) -> None:
         files = discs.written(game=discs.game(), english=discs.script())
@@ -336,7 +341,7 @@ class Script(PageTest):
         files = discs.written(game=discs.game(), english=discs.script())
         self.open_image(files['game'])
         self.open_script(files['english'])
-        self.press('Undo script')
+        self.press('Save a script that takes it back')
         undo = self.browser.downloaded('english (undo).txt')
         _, _, patched = applied(files['game'], files['english'])
         self.assertNotEqual(patched, discs.game())
@@ -379,7 +384,7 @@ class Script(PageTest):
                 globalThis.posted += Number(given[0].job === 'lines');
                 return postMessage.apply(this, given);
             }''')
-        self.press('Undo script')
+        self.press('Save a script that takes it back')
         self.browser.downloaded('english (undo).txt')
         self.assertEqual(self.browser.run('return posted'), 1)
 
@@ -388,7 +393,7 @@ class Script(PageTest):
         self.open_image(files['game'])
         self.open_script(files['english'])
         self.browser.click('#panel-script input[type=checkbox]')
-        self.press('Undo script')
+        self.press('Save a script that takes it back')
         self.browser.wait('#panel-script .said .say', 'Apply it with carry, as this script.')
         undo = self.browser.downloaded('english (undo).txt')
         _, _, patched = applied(files['game'], files['english'], '--carry')
@@ -400,7 +405,7 @@ class Script(PageTest):
         self.open_image(files['game'])
         self.open_script(files['english'])
         self.browser.run(GATE)
-        self.press('Undo script')
+        self.press('Save a script that takes it back')
         self.browser.wait('#panel-script .progress')
         self.press('Cancel')
         self.browser.run('openGate()')
@@ -410,10 +415,10 @@ class Script(PageTest):
     def test_the_undo_script_can_be_made_of_an_image_that_is_opened_later(self) -> None:
         files = discs.written(game=discs.game(), english=discs.script())
         self.open_script(files['english'])
-        self.assertTrue(self.is_off('Undo script'))
+        self.assertTrue(self.is_off('Save a script that takes it back'))
         self.open_image(files['game'])
         self.browser.click('#tab-script')
-        self.assertFalse(self.is_off('Undo script'))
+        self.assertFalse(self.is_off('Save a script that takes it back'))
 
     def test_a_file_that_shrinks_saves_nothing(self) -> None:
         files = discs.written(game=discs.game(), english=discs.script())
@@ -438,7 +443,7 @@ class Script(PageTest):
     def test_a_script_of_its_head_line_alone_is_shown(self) -> None:
         self.open_files(discs.written(head='cdpatch 1\n')['head'])
         self.browser.wait('#panel-script header h2', 'head.txt')
-        self.browser.wait('#panel-script h2', 'No patches yet')
+        self.browser.wait('#panel-script h2', 'No changes yet')
 
 
 class Streaming(PageTest):

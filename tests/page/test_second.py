@@ -168,7 +168,7 @@ class Second(unittest.TestCase):
         self.browser.wait('[aria-label="Bytes that differ, by field"]', '70')
         self.press('Save the script')
         script = self.browser.downloaded('other (changes).txt')
-        self.browser.wait('#second-body .say.good', 'The script has 3 patches.')
+        self.browser.wait('#second-body .say.good', 'The script has 3 changes.')
         self.browser.wait('#second-body .say.good', 'Saved: other (changes).txt')
         out = path.parent / 'new.bin'
         self.assertEqual(run_program('apply', path, script, out)[0], 0)

@@ -96,7 +96,8 @@ class Start(PageTest):
         self.browser.run(ASKED)
         self.press('Play a patch')
         self.open_files(discs.written(game=discs.game())['game'])
-        self.browser.wait('#panel-script', 'Open a script')
+        self.browser.wait('#panel-script .side', 'Now open the patch: its script (a text file), or its patcher (a page, .html).')
+        self.browser.wait('#panel-script .side .btn.main', 'Open the patch…')
 
     def test_what_is_dropped_after_a_cancelled_picker_is_for_the_same_job(self) -> None:
         self.browser.run(ASKED)

@@ -46,7 +46,7 @@ class Text(PageTest):
         self.assertEqual(len(self.hits()), 5)
         common.waited(lambda: 'もう一度スタートに戻りますか？' in self.row(3), self.row(3))
         self.assertIn('/DATA/MSG00.DAT', self.row(3))
-        self.assertIn('over a border of blocks', self.row(4))
+        self.assertIn('goes on in the next block', self.row(4))
 
     def test_hits_are_copied_as_a_table_with_file_and_text(self) -> None:
         self.find('スタート')

@@ -5,6 +5,7 @@ from pathlib import Path
 import common
 import discs
 from pages import GATE, PageTest, applied
+from selenium.webdriver.common.keys import Keys
 from states import SENTENCES, dat_of, told, with_new
 
 
@@ -50,6 +51,24 @@ class TextsTable(PageTest):
         self.press('Apply and save')
         self.assertEqual(self.browser.downloaded('game (patched).bin').read_bytes(), applied(image, discs.written(script=written)['script'])[2])
 
+    def test_a_corrected_table_takes_the_place_of_the_first_one(self) -> None:
+        image = self.begin(told())
+        self.give(self.table(image, {2: 'The game starts.', 3: 'Save?'}))
+        self.browser.wait('#panel-text .say.good', '2 lines added to the script.')
+        self.press('Open Script')
+        self.browser.click('.editor textarea')
+        self.browser.press(Keys.HOME, held=Keys.CONTROL)
+        self.browser.press('# mine', Keys.ENTER)
+        self.browser.click('#tab-text')
+        corrected = self.table(image, {2: 'The game begins.', 3: 'Save?', 5: 'The end.'})
+        self.give(corrected)
+        self.browser.wait('#panel-text .say.good', '1 line added to the script. 1 line took the place of another one. 1 line is in the script already.')
+        self.press('Open Script')
+        head, *lines = common.cdscript_prints('replace', image, '--list', corrected).splitlines()
+        self.assertEqual(self.script_text().splitlines(), ['# mine', head, *lines])
+        self.press('Check')
+        self.browser.wait('#panel-script .say.good', '3 changes, all fit')
+
     def test_rows_that_do_not_fit_are_a_list_to_walk(self) -> None:
         image = self.begin(told())
         rows = self.printed(image).splitlines()
@@ -61,10 +80,13 @@ class TextsTable(PageTest):
         (number, place, _, why), other = self.browser.run(cells)
         block, offset = rows[2].split('\t')[:2]
         self.assertEqual((number, place, other[0]), ('3', f'{block}, {offset}', '4'))
-        self.assertIn('more than the', why)
+        self.assertIn('and there is room for', why)
         stops = "return document.querySelectorAll('[aria-label=\"2 rows do not fit\"] tbody [tabindex=\"0\"]').length"
         self.assertEqual(self.browser.run(stops), 1)
         self.press('3')
+        self.browser.wait(f'[aria-label="The bytes around block {block} offset {offset}"]')
+        block, offset = rows[3].split('\t')[:2]
+        self.browser.click('[aria-label="2 rows do not fit"] tbody tr:nth-child(2) td:nth-child(4)')
         self.browser.wait(f'[aria-label="The bytes around block {block} offset {offset}"]')
 
     def test_a_table_that_is_none_adds_nothing(self) -> None:

@@ -191,7 +191,7 @@ class Sayings(PageTest):
                 else:
                     self.browser.wait('.editor', 'A script begins with the line')
                 self.press(mends[name])
-                self.browser.wait('#panel-script header .tag:not(.bad)', '1 patch, version')
+                self.browser.wait('#panel-script header .tag:not(.bad)', '1 change, version')
                 if name in ('mark', 'utf16'):
                     saved = self.browser.downloaded(path.name)
                     self.assertEqual(common.waited(saved.read_bytes, 'the script is empty'), whole.encode())

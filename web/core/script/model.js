@@ -28,8 +28,11 @@ export function lastBlockOf({ block, offset, size }) {
 /** A patch meets no block further from its first one: the longest, from the last byte of that on. */
 const BLOCKS_AFTER = lastBlockOf({ block: 0, offset: USER_SIZE - 1, size: PATCH_SIZE });
 
-/** @param {{ block: number, offset: number }} place */
-function userPlace({ block, offset }) {
+/**
+ * The place of a user byte among those from block 0 on.
+ * @param {{ block: number, offset: number }} place
+ */
+export function userPlace({ block, offset }) {
     return block * USER_SIZE + offset;
 }
 
@@ -37,7 +40,7 @@ function userPlace({ block, offset }) {
  * @param {ScriptLine} a
  * @param {ScriptLine} b
  */
-function byNumber(a, b) {
+export function byNumber(a, b) {
     return a.number - b.number;
 }
 
@@ -202,18 +205,21 @@ export class ScriptModel {
     }
 
     /**
+     * The lines that write a byte of a range, in any order.
+     * @param {UserRange} range
+     */
+    linesWriting(range) {
+        const [from, to] = [userPlace(range), userPlace(range) + range.size];
+        return this.linesNear(range.block, lastBlockOf(range)).filter(({ patch }) =>
+            patch !== null && patch.size > 0 && userPlace(patch) < to && userPlace(patch) + patch.size > from);
+    }
+
+    /**
      * The number of the last line that writes a byte of a range, or 0.
      * @param {UserRange} range
      */
     lineAt(range) {
-        const [from, to] = [userPlace(range), userPlace(range) + range.size];
-        let last = 0;
-        for (const { number, patch } of this.linesNear(range.block, lastBlockOf(range))) {
-            if (patch === null || patch.size === 0) continue;
-            const start = userPlace(patch);
-            if (start < to && start + patch.size > from) last = Math.max(last, number);
-        }
-        return last;
+        return this.linesWriting(range).reduce((last, { number }) => Math.max(last, number), 0);
     }
 
     /**

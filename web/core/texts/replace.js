@@ -19,7 +19,7 @@ import { bytesBefore, contextOf } from './context.js';
  */
 export function assertHasRoom({ name }, fresh, room) {
     const more = fresh.length - room;
-    if (more > 0) throw new Fault(`the new text has ${fresh.length} bytes in ${name}, ${more} more than the ${room} that are there`);
+    if (more > 0) throw new Fault(`the new text has ${fresh.length} bytes in ${name}, and there is room for ${room}: ${more} too many`);
 }
 
 /**

@@ -35,10 +35,11 @@ export async function inflatedText(text) {
 
 /**
  * What the joined page knows of itself: the HTML before its policy, between that and its style, between that and its script, and after
- * it; its policy before the hash of its script and after it; its style; and the names and versions of what made it.
- * @type {{ html: string[], policy: string[], style: { size: number, sha1: string }, made: string[] }}
+ * it; its policy before the hash of its script and after it; its style; the names and versions of what made it; and whether its sources
+ * have a licence.
+ * @type {{ html: string[], policy: string[], style: { size: number, sha1: string }, made: string[], licensed: boolean }}
  */
-export const OWN = { html: [], policy: [], style: { size: 0, sha1: '' }, made: [] };
+export const OWN = { html: [], policy: [], style: { size: 0, sha1: '' }, made: [], licensed: false };
 
 /**
  * The module and the workers of the joined page.

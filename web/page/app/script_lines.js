@@ -3,11 +3,13 @@
 import { RESULT, isFault } from '../../core/module/records.js';
 import { afterColon, linesOfText, wordsOn } from '../../core/script/line_words.js';
 import { countOld, oldBytesOf } from '../../core/script/long_script.js';
+import { mergedLines } from '../../core/script/merge_lines.js';
 import { ScriptModel } from '../../core/script/model.js';
 import { lineDoesNotFit, lineFits, told } from '../texts/index.js';
 import { MOST_LINES, MOST_SHOWN, isLong } from './script_long.js';
 
 /** @typedef {import('../../core/module/calls.js').Calls} Calls */
+/** @typedef {import('../../core/script/merge_lines.js').Merged} Merged */
 /** @typedef {import('../../core/script/patches.js').Outcome} Outcome */
 /**
  * An edit: from a line on, which lines went and which came, and the script's names before and after it. One that was typed joins to the
@@ -38,6 +40,8 @@ export class ScriptLines extends ScriptModel {
         this.done = [];
         /** @type {Edit[]} */
         this.undone = [];
+        /** @type {Set<string>} the lines that an import or a replacement made, and nobody typed */
+        this.made = new Set();
         /** The name of its file, or ''. */
         this.name = '';
         this.long = /** @type {LongScript | null} */ (null);
@@ -80,7 +84,7 @@ export class ScriptLines extends ScriptModel {
     /** Begins anew, with nothing to take back. */
     clear() {
         this.replace(`${HEAD}\n`, '');
-        Object.assign(this, { done: [], undone: [] });
+        Object.assign(this, { done: [], undone: [], made: new Set() });
     }
 
     /**
@@ -120,9 +124,11 @@ export class ScriptLines extends ScriptModel {
      * Adds lines at the end, after a head line if no line says anything yet. Returns the number of the last of them, 0 if it is not shown.
      * @param {string[]} texts
      * @param {Typed} typed
+     * @param {number} [before] the line before which they are put in, if not at the end
      */
-    add(texts, typed) {
+    add(texts, typed, before = 0) {
         const come = this.head < 0 ? [HEAD, ...texts] : texts;
+        if (typed === '') for (const text of texts) this.made.add(text);
         const size = come.reduce((sum, text) => sum + text.length + 1, 1);
         const last = this.lines.length - Number(this.lines[this.lines.length - 1].text === '');
         if (this.long || this.size + size > MOST_SHOWN || last + come.length >= MOST_LINES) {
@@ -130,8 +136,25 @@ export class ScriptLines extends ScriptModel {
             this.setLong(`${text}${text.endsWith('\n') ? '' : '\n'}${come.join('\n')}\n`, this.name);
             return 0;
         }
-        this.edit(last, 0, last < this.lines.length ? come : [...come, ''], typed);
-        return last + come.length;
+        const at = before > 0 ? before - 1 : last;
+        this.edit(at, 0, at < this.lines.length ? come : [...come, ''], typed);
+        return at + come.length;
+    }
+
+    /**
+     * Puts lines in that set bytes, in place of those that set the same ones; all at the end if the others are not shown.
+     * @param {string[]} texts
+     * @returns {Merged}
+     */
+    merge(texts) {
+        if (this.long || this.head < 0) {
+            this.add(texts, '');
+            return { added: texts.length, replaced: 0, same: 0 };
+        }
+        const { lines, counts } = mergedLines(this, texts, ({ text }) => this.made.has(text));
+        for (const text of texts) this.made.add(text);
+        this.take(lines.join('\n'), this.name);
+        return counts;
     }
 
     /** Whether this text is in a file, or nothing was written yet. */

@@ -242,14 +242,22 @@ export class Store {
     }
 
     /**
-     * Adds lines at the end of the script. Returns the number of the last of them, 0 if it is not shown.
+     * Adds lines at the end of the script, or before one of its lines. Returns the number of the last of them, 0 if it is not shown.
      * @param {string[]} lines
      * @param {'' | 'bytes'} [typed] bytes of a sector if they are
+     * @param {number} [before]
      */
-    addLines(lines, typed = '') {
-        const number = this.script.add(lines, typed);
+    addLines(lines, typed = '', before = 0) {
+        const number = this.script.add(lines, typed, before);
         this.tell('script', { back: null });
         return number;
+    }
+
+    /** @param {string[]} lines that set bytes, each in place of those that set the same ones. Returns how many are new, and how many not */
+    mergeLines(lines) {
+        const merged = this.script.merge(lines);
+        this.tell('script', { back: null });
+        return merged;
     }
 
     /**
@@ -260,6 +268,7 @@ export class Store {
      */
     replaceLine(number, line, typed = '') {
         this.script.edit(number - 1, 1, [line], typed);
+        if (typed === '') this.script.made.add(line);
         this.tell('script', { back: null });
     }
 

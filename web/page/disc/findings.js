@@ -217,16 +217,19 @@ export class Findings {
         fill(this.foot, choice, element('span', {}, texts.printedToTheByte));
     }
 
-    /** @param {HTMLElement} target */
+    /** @param {HTMLElement} target in a row, all of which does what its button does */
     clicked(target) {
-        const { block, place } = target.dataset;
+        const fold = /** @type {HTMLElement | null | undefined} */ (target.closest('tbody tr')?.querySelector('.fold'));
+        if (!fold) return;
+        if (!fold.contains(target)) return void fold.click();
+        const { block, place } = fold.dataset;
         if (block !== undefined) this.app.goTo(Number(block));
         if (place === undefined) return;
         const first = Number(place);
         if (!this.opened.delete(first)) this.opened.add(first);
         this.draw();
-        const fold = /** @type {HTMLElement | null} */ (this.body.querySelector(`[data-place="${first}"]`));
-        if (fold) fold.focus();
+        const drawn = /** @type {HTMLElement | null} */ (this.body.querySelector(`[data-place="${first}"]`));
+        if (drawn) drawn.focus();
     }
 
     /** Marks the row of the chosen sector. */

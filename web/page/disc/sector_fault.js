@@ -1,13 +1,14 @@
 // What is wrong with a sector, in words: first the program's line, then what it means.
 
 import { RECORD, SECTOR_KIND } from '../../core/module/records.js';
+import { firstLinesOf } from '../../core/script/block_lines.js';
 import { lineText } from '../../core/script/line_list.js';
 import { SECTOR_SIZE, USER_OFFSET, USER_SIZE, addressIn, addressText } from '../../core/sectors/sector.js';
 import { MARK } from '../app/index.js';
 import { repairOf } from '../second/index.js';
 import * as texts from '../texts/index.js';
 import { say, told } from '../texts/index.js';
-import { announce, button, element, fill, isDisabled, nameOf, setDisabled, term } from '../ui/index.js';
+import { announce, button, element, keyed, nameOf, setDisabled, term } from '../ui/index.js';
 import { addressOf } from './sector_text.js';
 
 /** @typedef {import('../app/state.js').App} App */
@@ -33,9 +34,9 @@ export function sectorFault(app, block, sector, found) {
         parity && crossingWords(found, edc),
         record[RECORD.ADDRESS] > 0 && say(texts.headerHasOtherAddress, { address: addressText(addressIn(sector, 0)) }),
     ].flatMap(it => it ? [...it, ' '] : []);
-    return element('div', { class: `say ${edc ? 'bad' : 'warn'} thin` },
+    return keyed(`damage of ${block}`, element('div', { class: `say ${edc ? 'bad' : 'warn'} thin` },
         element('b', {}, ...say(edc ? texts.dataAreDamaged : texts.otherBytesDamaged, { line: mono(line) })),
-        ...sentences, ...remedies(app, block));
+        ...sentences, ...remedies(app, block)));
 }
 
 /** @param {string} text of the program or of a script */
@@ -67,9 +68,13 @@ function crossingWords({ crossings, ...counts }, either) {
 function remedies(app, block) {
     const copies = repairOf(app, block);
     if (copies === 'taken' || copies === 'doubtful') return [soundCopy(app, copies)];
-    const rebuild = button('slim', () => addRebuild(app, block, rebuild), ...say(texts.addToScript, { verb: mono('rebuild') }));
-    return [noCopy(app, copies), element('div', { class: 'row' }, repairButton(app), rebuild),
-        element('p', { class: 'small quiet' }, ...say(texts.rebuildHidesDamage, { verb: mono('rebuild') }))];
+    const said = rebuildWords(app, block);
+    const verb = () => ({ verb: mono('rebuild') });
+    const rebuild = button('slim', () => addRebuild(app, block),
+        element('span', {}, ...say(said === '' ? texts.addToScript : texts.isInScript, verb())));
+    setDisabled(rebuild, said !== '');
+    return [noCopy(app, copies), element('div', { class: 'row' }, repairButton(app), rebuild), said !== '' && element('p', {}, said),
+        element('p', { class: 'small quiet' }, ...say(texts.rebuildHidesDamage, verb()))];
 }
 
 /**
@@ -104,18 +109,30 @@ function repairButton(app) {
 }
 
 /**
- * Adds a line that rebuilds a sector, and says so on its button.
+ * Which line of the script rebuilds a sector before any other writes in it, or ''.
  * @param {App} app
  * @param {number} block
- * @param {HTMLElement} pressed
  */
-function addRebuild(app, block, pressed) {
-    if (isDisabled(pressed)) return;
-    const line = lineText(lines => lines.rebuild(block));
-    app.addLines([line]);
-    setDisabled(pressed, true);
-    fill(pressed, ...say(texts.isInScript, { verb: mono('rebuild') }));
-    announce(told(texts.inTheScript, { line }));
+function rebuildWords({ script }, block) {
+    const { rebuilds, writes } = firstLinesOf(script, block);
+    if (rebuilds === 0 || (writes > 0 && writes < rebuilds)) return '';
+    return told(writes > 0 ? texts.rebuildsBeforeChange : texts.rebuildsNow, { line: String(rebuilds), patch: rebuildLine(block) });
+}
+
+/** @param {number} block */
+function rebuildLine(block) {
+    return lineText(lines => lines.rebuild(block));
+}
+
+/**
+ * Adds a line that rebuilds a sector, before those that write in it: these would be refused.
+ * @param {App} app
+ * @param {number} block
+ */
+function addRebuild(app, block) {
+    if (rebuildWords(app, block) !== '') return;
+    app.addLines([rebuildLine(block)], '', firstLinesOf(app.script, block).writes);
+    announce(rebuildWords(app, block) || told(texts.inTheScript, { line: rebuildLine(block) }));
 }
 
 function soundSector() {

@@ -4,4 +4,5 @@ export { mountPatchers } from './opened_patcher.js';
 export { pageSource, publishedSource } from './own_text.js';
 export { patcherText } from './patcher.js';
 export { isImageName, isPlainSheet, isSeen } from './patcher_head.js';
+export { reasonsOf } from './reason.js';
 export { showPlayer } from './show.js';

@@ -30,12 +30,13 @@ const VERDICT_REASONS = /** @type {const} */ ([
  * Why a patch does not fit.
  * @param {number} patches
  * @param {number[]} refused their results
+ * @param {Record<number, string>} [advices] what to think of each result, if not what players are told
  */
-export function reasonsOf(patches, refused) {
+export function reasonsOf(patches, refused, advices = {}) {
     const places = told(texts.placesOfPatch, { n: patches });
     return VERDICT_REASONS.flatMap(([result, words, advice]) => {
         const count = refused.filter(it => it === result).length;
-        return count === 0 ? [] : [`${told(words, { n: count, places })} ${advice}`];
+        return count === 0 ? [] : [`${told(words, { n: count, places })} ${advices[result] ?? advice}`.trimEnd()];
     });
 }
 

@@ -1,6 +1,6 @@
 // The panel Publish: a copy of this page with the script, for players.
 
-import { sha1Of } from '../app/index.js';
+import { OWN, sha1Of } from '../app/index.js';
 import { isImageName, isPlainSheet, isSeen, patcherText, publishedSource, showPlayer } from '../player/index.js';
 import { download, sheetNaming } from '../save/index.js';
 import { fitWords } from '../script/index.js';
@@ -76,7 +76,7 @@ class PublishPanel {
             element('header', {}, element('h2', {}, texts.beforeYouSave)),
             element('div', { class: 'pad stack' }, this.list, this.state, element('div', { class: 'row' }, this.save, this.see), this.said,
                 element('p', { class: 'small quiet' }, texts.patcherIsOneFile),
-                element('p', { class: 'say warn thin', id: 'no-licence' }, element('b', {}, texts.noLicenceChosen), texts.noCopiesPassedOn),
+                !OWN.licensed && element('p', { class: 'say warn thin', id: 'no-licence' }, texts.noLicenceYet),
                 element('p', { class: 'small quiet' }, texts.scriptSavedElsewhere)));
     }
 

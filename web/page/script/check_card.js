@@ -14,7 +14,8 @@ import { fitWords } from './fit_words.js';
 /** @typedef {import('../ui/fill.js').Child} Child */
 /**
  * What the card asks of the panel: the lines; to draw them anew; and to go to a line.
- * @typedef {{ lines: ScriptLines, redraw: () => void, goTo: (line: number) => void, log: (text: Uint8Array | null) => void }} CheckOwner
+ * @typedef {{ lines: ScriptLines, redraw: () => void, goTo: (line: number) => void,
+ *     log: (text: Uint8Array | null, verb?: string) => void }} CheckOwner
  */
 
 const MOST_NAMED = 12;
@@ -118,7 +119,8 @@ export class CheckCard {
         const first = lines.nextWrong(lines.lines.length - 1, 1);
         const { tone, head, rest } = this.fit(this.patched);
         if (this.already) return [notice(tone, head, ...rest)];
-        return [notice(tone, head, ...rest, element('div', { class: 'row' }, apply)),
+        const saves = applied > 0 || refused === 0;
+        return [notice(tone, head, ...rest, saves && element('div', { class: 'row' }, apply)),
             refused > 0 && element('div', { class: 'tally' }, applied > 0 && tally('good-ink', say(texts.countFits, { n: applied })),
                 tally('bad-ink', say(texts.countDoesNotFit, { n: refused }))),
             first >= 0 && element('div', { class: 'row next' },
@@ -131,9 +133,9 @@ export class CheckCard {
      */
     footnote(ready) {
         if (!ready) return [texts.fixErrors];
-        if (this.already) return [];
         const outcomes = this.patched ? this.patched.outcomes : [];
         const applied = outcomes.filter(it => it.result === RESULT.OK).length;
+        if (this.already || (applied === 0 && outcomes.length > 0)) return [];
         const name = this.app.image ? this.app.image.name : '';
         const saves = applied === outcomes.length ? texts.savesNewImage : told(texts.savesWhatFits, { n: applied });
         return [`${saves} `, ...say(texts.staysAsItIs, { name: element('b', {}, nameOf(name)) })];
@@ -150,8 +152,9 @@ export class CheckCard {
      * @param {Patched} patched
      */
     fit({ outcomes }) {
-        const fitting = outcomes.filter(it => it.result === RESULT.OK).length;
-        return fitWords(this.owner.lines.name, this.app.image ? this.app.image.name : '', fitting, outcomes.length, this.already);
+        const refused = outcomes.flatMap(({ result }) => result === RESULT.OK ? [] : result);
+        const [all, image] = [outcomes.length, this.app.image ? this.app.image.name : ''];
+        return fitWords(this.owner.lines.name, image, all - refused.length, all, this.already, refused);
     }
 
     /** Checks the script on the image. */
@@ -197,13 +200,14 @@ export class CheckCard {
     /**
      * @param {Patched} patched
      * @param {number} seconds
+     * @param {'check' | 'apply'} [verb] of the program that prints the same
      */
-    take(patched, seconds) {
+    take(patched, seconds, verb = 'check') {
         this.patched = patched;
         this.seconds = seconds;
         this.failure = null;
         this.owner.lines.setOutcomes(patched.outcomes);
-        this.owner.log(patched.text);
+        this.owner.log(patched.text, verb);
         this.owner.redraw();
         const { head, rest } = this.fit(patched);
         announce(`${element('p', {}, ...head, ' ', ...rest).textContent}`.trim());
@@ -216,7 +220,7 @@ export class CheckCard {
         if (image === null || !this.isFree()) return;
         const work = { reader: image.reader, base: image.base, script: lines.text(), carry: this.carry.checked };
         const made = await this.saving.save(image, work);
-        if (made && this.app.image === image && work.script === lines.text()) this.take(made, this.seconds);
+        if (made && this.app.image === image && work.script === lines.text()) this.take(made, this.seconds, 'apply');
         this.draw();
     }
 }

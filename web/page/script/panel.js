@@ -48,7 +48,7 @@ class ScriptPanel {
                 this.explain();
             },
             goTo: line => this.goTo(line),
-            log: text => this.showLog(text),
+            log: (text, verb) => this.showLog(text, verb),
         });
         this.strip = element('div', { class: 'explain', 'aria-live': 'off' });
         this.unshown = element('div');
@@ -76,6 +76,7 @@ class ScriptPanel {
         app.on('image', () => {
             this.check.forget();
             this.drawHead();
+            this.drawSide();
         });
         for (const name of /** @type {const} */ (['files', 'encoding'])) app.on(name, () => this.explain());
         app.on('panel', () => {
@@ -149,7 +150,7 @@ class ScriptPanel {
         const count = byId('count-script');
         count.hidden = !fault && lines.patches === 0;
         count.className = `count${fault ? ' bad' : ''}`;
-        const [before, n, after] = say(fault ? texts.faultsOfScript : texts.patchesOfScript, { n: lines.faults || lines.patches });
+        const [before, n, after] = say(fault ? texts.faultsOfScript : texts.changesOfScript, { n: lines.faults || lines.patches });
         fill(count, before, n, element('span', { class: fault ? 'long' : 'hide' }, after));
     }
 
@@ -158,8 +159,8 @@ class ScriptPanel {
         const { faults, long, patches, version } = this.lines;
         if (faults > 0) return told(texts.faultsOfScript, { n: faults });
         if (long) return told(texts.charactersOfScript, { n: long.text.length });
-        const words = told(texts.patchesOfScript, { n: patches });
-        return version ? told(texts.patchesAndVersion, { patches: words, version: this.lines.versionName() }) : words;
+        const words = told(texts.changesOfScript, { n: patches });
+        return version ? told(texts.changesAndVersion, { changes: words, version: this.lines.versionName() }) : words;
     }
 
     drawSide() {
@@ -170,13 +171,18 @@ class ScriptPanel {
         return fill(this.side, this.check.card, this.log);
     }
 
+    /** What is next while there is no change: with an image open, its patch. */
     emptyCard() {
         const { app } = this;
-        return element('section', { class: 'card pad stack' }, element('h2', {}, texts.noPatchesYet),
-            element('p', {}, texts.scriptIsList),
-            element('div', { class: 'stack tight start' }, button('', () => app.showPanel('text'), texts.findAndReplaceText),
-                button('', () => app.showPanel('disc'), texts.changeBytesOfSector),
-                button('', () => this.opening.click(), texts.openAScript)));
+        const open = (/** @type {string} */ looks, /** @type {string} */ words) => button(looks, () => this.opening.click(), words);
+        const own = [button('', () => app.showPanel('text'), texts.findAndReplaceText),
+            button('', () => app.showPanel('disc'), texts.changeBytesOfSector)];
+        const hasImage = app.image !== null;
+        const next = hasImage && [element('p', {}, texts.nowOpenPatch),
+            element('div', { class: 'row next' }, open('main', texts.openThePatch))];
+        return element('section', { class: 'card pad stack' }, element('h2', {}, texts.noChangesYet), ...next || [],
+            element('p', {}, hasImage ? texts.orMakeChanges : texts.scriptIsList),
+            element('div', { class: 'stack tight start' }, ...own, !hasImage && open('', texts.openAScript)));
     }
 
     explain() {
@@ -242,19 +248,25 @@ class ScriptPanel {
         this.app.open(files);
     }
 
-    /** @param {Uint8Array | null} bytes */
-    showLog(bytes) {
+    /**
+     * Shows what the program prints, to who asks for it: it says “applied” of a trial too.
+     * @param {Uint8Array | null} bytes
+     * @param {string} verb
+     */
+    showLog(bytes, verb = 'check') {
         this.log.hidden = bytes === null;
         if (bytes === null) return;
         const text = new TextDecoder().decode(bytes);
         const shown = text.length > MOST_LOG ? `${text.slice(0, text.lastIndexOf('\n', MOST_LOG))}\n…\n` : text;
-        const command = element('span', { class: 'mono' }, 'cdpatch check');
-        fill(this.log, element('header', {}, element('h2', {}, texts.logOfCheck),
-            copyButton('slim bare', () => text, texts.copy, texts.whichLog),
-            button('slim bare', () => downloadText(text, texts.logFile), texts.saveReport,
-                element('span', { class: 'hide' }, texts.whichLog))),
-        element('div', { class: 'pad stack tight' }, element('pre', { class: 'log', tabindex: 0, 'aria-label': texts.logOfCheck }, shown),
-            element('p', { class: 'small quiet' }, ...say(texts.logIsPrinted, { command }))));
+        const command = () => ({ command: element('span', { class: 'mono' }, `cdpatch ${verb}`) });
+        const open = this.log.querySelector('details[open]') !== null;
+        fill(this.log, element('details', { class: 'pad', open },
+            element('summary', {}, ...say(verb === 'check' ? texts.whatTrialPrints : texts.whatIsPrinted, command())),
+            element('div', { class: 'stack tight' }, element('pre', { class: 'log', tabindex: 0, 'aria-label': texts.logOfCheck }, shown),
+                element('div', { class: 'row' }, copyButton('slim bare', () => text, texts.copy, texts.whichLog),
+                    button('slim bare', () => downloadText(text, texts.logFile), texts.saveReport,
+                        element('span', { class: 'hide' }, texts.whichLog))),
+                element('p', { class: 'small quiet' }, ...say(texts.logIsPrinted, command())))));
     }
 }
 

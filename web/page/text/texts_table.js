@@ -37,6 +37,15 @@ async function inFileOrder(part) {
     return { part: { ...part, order: fileOrder(part, files) }, files };
 }
 
+/**
+ * What became of the lines of a table: of each only what there is.
+ * @param {import('../../core/script/merge_lines.js').Merged} merged
+ */
+function mergedWords({ added, replaced, same }) {
+    return [added > 0 && told(texts.linesAdded, { n: added }), replaced > 0 && told(texts.linesReplaced, { n: replaced }),
+        same > 0 && told(texts.linesAsBefore, { n: same })].flatMap(words => words || []);
+}
+
 /** The buttons, what they say, and the rows that do not fit. */
 export class TextsTable {
     /** @param {App} app */
@@ -152,21 +161,21 @@ export class TextsTable {
             if (script.patches > 0) await assertFits(app.calls, image, script);
             if (script.long) throw new Fault(texts.scriptLongerThanTaken);
             if (app.image !== image) return null;
-            if (script.patches > 0) {
-                app.addLines(new TextDecoder().decode(joinedBytes(script.pieces.slice(1))).trimEnd().split('\n'));
-            }
+            const merged = script.patches === 0 ? { added: 0, replaced: 0, same: 0 }
+                : app.mergeLines(new TextDecoder().decode(joinedBytes(script.pieces.slice(1))).trimEnd().split('\n'));
             this.showLeft(image, rows, left);
-            return this.madeNotice(rows.length - left.length, left.length, script.patches);
+            return this.madeNotice(rows.length - left.length, left.length, merged);
         });
     }
 
     /**
      * @param {number} fit
      * @param {number} left
-     * @param {number} lines
+     * @param {import('../../core/script/merge_lines.js').Merged} merged
      */
-    madeNotice(fit, left, lines) {
-        const added = lines === 0 ? texts.nothingAdded : told(texts.linesAdded, { n: lines });
+    madeNotice(fit, left, merged) {
+        const lines = merged.added + merged.replaced + merged.same;
+        const added = mergedWords(merged).join(' ') || texts.nothingAdded;
         const rows = left === 0 ? told(texts.newTextsFit, { n: fit })
             : told(texts.someTextsFit, { n: fit, others: told(texts.othersDoNot, { n: left }) });
         announce(`${added} ${rows}`);
@@ -199,10 +208,12 @@ export class TextsTable {
      */
     leftRow(image, row, why) {
         const { number, block, offset, text, fresh } = row;
-        const open = element('button', { type: 'button', class: 'fold', click: () => void this.showPlace(image, row) }, number);
+        const open = element('button', { type: 'button', class: 'fold' }, number);
         const place = element('td', { class: 'nowrap', 'data-l': texts.placeLabel }, block < 0 ? '–' : `${block}, ${offset}`);
-        return element('tr', {}, element('td', {}, open), place, element('td', { class: 'mono small wide' }, shownText(text), ' → ',
-            shownText(fresh)), element('td', { class: 'wide' }, shownText(why)));
+        // A press on the button comes up to the row.
+        return element('tr', { click: () => void this.showPlace(image, row) }, element('td', {}, open), place,
+            element('td', { class: 'mono small wide' }, shownText(text), ' → ', shownText(fresh)),
+            element('td', { class: 'wide' }, shownText(why)));
     }
 
     /**

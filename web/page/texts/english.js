@@ -461,6 +461,8 @@ export const hasNoSoundCopy = '{name} has no sound copy of it.';
 export const repairFrom = 'Repair from {name}';
 export const addToScript = 'Add {verb} to the script';
 export const isInScript = '{verb} is in the script';
+export const rebuildsNow = 'Line {line} is {patch} now.';
+export const rebuildsBeforeChange = 'Line {line} is {patch} now, before the change.';
 export const rebuildHidesDamage =
     '{verb} makes the sector valid with the bytes as they are. If these are wrong, it hides the damage for good.';
 
@@ -559,7 +561,7 @@ export const columnContext = 'Context';
 export const offsetLabel = 'offset';
 export const hitNumber = 'hit {number}';
 export const inScriptLine = 'in the script, line {line}';
-export const overBlockBorder = 'over a border of blocks';
+export const overBlockBorder = 'goes on in the next block';
 export const showMoreHits = 'Show {n} more';
 
 // replacing a hit
@@ -613,6 +615,8 @@ export const importTable = 'Import a table…';
 export const tableToImport = 'A table to import';
 export const makingOfRows = 'rows';
 export const scriptLongerThanTaken = 'The script would be longer than cdpatch takes. cdscript replace --list makes it.';
+export const linesReplaced = '{n} line took the place of another one.|{n} lines took the place of others.';
+export const linesAsBefore = '{n} line is in the script already.|{n} lines are in the script already.';
 export const newTextsFit = 'The new text fits.|All {n} new texts fit.';
 export const someTextsFit = '{n} new text fits, {others}.|{n} new texts fit, {others}.';
 export const othersDoNot = '{n} does not|{n} do not';
@@ -634,8 +638,8 @@ export const scriptCard = 'Script';
 export const newScript = 'New script';
 export const faultsOfScript = '{n} fault|{n} faults';
 export const charactersOfScript = '{n} character|{n} characters';
-export const patchesOfScript = '{n} patch|{n} patches';
-export const patchesAndVersion = '{patches}, version {version}';
+export const changesOfScript = '{n} change|{n} changes';
+export const changesAndVersion = '{changes}, version {version}';
 export const scriptNotSaved = 'not saved';
 export const scriptToOpen = 'A script to open';
 export const saveScript = 'Save script…';
@@ -646,7 +650,7 @@ export const bringItBack = 'Bring it back';
 export const linesNotShown = 'This script is too long: its lines are not shown.';
 
 // the script that takes it back
-export const undoScript = 'Undo script…';
+export const undoScript = 'Save a script that takes it back…';
 export const makingUndo = 'Making the undo script';
 export const makingFile = 'Making {name}';
 export const undoFile = '{script} (undo).txt';
@@ -667,7 +671,7 @@ export const blockWord = 'block';
 export const lineMeans = 'Line {line}:';
 export const emptyLine = 'an empty line.';
 export const commentLine = 'a comment. It changes nothing.';
-export const headMeans = 'the version of the script. Then one patch a line, for example {example}';
+export const headMeans = 'the version of the script. Then one change a line, for example {example}';
 export const exampleMeans = 'which writes 5 bytes at [offset] 26 of [block] 4711, if the old ones are there.';
 export const atOffset = 'at [offset] {offset} of [block] {block}';
 export const overBorder = '{place}, over the border to block {last}';
@@ -719,7 +723,10 @@ export const wrongReleaseOrPlace = 'Another release of the game, or a wrong bloc
 export const showThePlace = 'Show the place';
 
 // while there is none
-export const noPatchesYet = 'No patches yet';
+export const noChangesYet = 'No changes yet';
+export const nowOpenPatch = 'Now open the patch: its script (a text file), or its patcher (a page, .html).';
+export const openThePatch = 'Open the patch…';
+export const orMakeChanges = 'Or make your own changes. A script is their list, which you rarely type:';
 export const scriptIsList = 'A script is the list of your changes. You rarely type it:';
 export const findAndReplaceText = 'Find and replace a text';
 export const changeBytesOfSector = 'Change bytes of a sector';
@@ -760,13 +767,17 @@ export const changesStandThere = 'It holds what the change of {script} writes.|I
 export const anotherRelease = 'Another release, another disc, or another base?';
 export const someChangesFit =
     '{script}: {fitting} of {all} changes fit {image}, {n} does not.|{script}: {fitting} of {all} changes fit {image}, {n} do not.';
-export const thatOneLeftOut = 'That one would be left out.';
-export const thoseLeftOut = 'Those would be left out.';
+export const repairOrCarry = 'Repair the image first, or tick “Patch damaged sectors too”.';
+export const anotherTrack = 'Only Mode 1 sectors are patched. Another track, or another disc?';
+export const anotherTrackOrBase = 'Another track, or another base?';
+export const savedWithout = 'A new image can be saved without that change.|A new image can be saved without those changes.';
 export const countFits = '{n} fits|{n} fit';
 export const countDoesNotFit = '{n} does not fit|{n} do not fit';
 
 // the log; what its buttons are for is only heard
 export const logOfCheck = 'Log';
+export const whatTrialPrints = 'What {command} prints (a trial: nothing is saved)';
+export const whatIsPrinted = 'What {command} prints';
 export const whichLog = ' the log';
 export const logFile = 'log.txt';
 export const logIsPrinted = 'The same text as {command} prints, in the order of application: by block, then by line.';
@@ -838,7 +849,7 @@ export const beginAgain = 'Begin again';
 export const nothingFoundOut = 'Nothing was found out.';
 
 // the map of both images
-export const nothingToDo = 'nothing to do';
+export const nothingToDo = 'no repair needed';
 export const canBeRepaired = 'can be repaired';
 export const cannotBeRepaired = 'cannot be repaired';
 export const sameInBoth = 'same in both';
@@ -919,7 +930,7 @@ export const userDataWithoutEdc = 'If the user data differ and the EDC does not,
 export const writingScript = 'Writing the script';
 export const theSecondImage = 'the second image';
 export const theRepairedImage = 'the repaired image';
-export const scriptHasPatches = 'The script has {n} patch.|The script has {n} patches.';
+export const scriptHasPatches = 'The script has {n} change.|The script has {n} changes.';
 export const scriptHasBytes = '{n} bytes.';
 export const givesExactly = 'Verified: applied to {image} it gives exactly {goal}.';
 export const givesButForOne = 'Verified: applied to {image} it gives {goal}, but for {blocks}, which it leaves as it is.';
@@ -972,8 +983,8 @@ The old bytes come from the game ({n} bytes). Check whether you may publish them
 export const saveAsPatcher = 'Save as a patcher…';
 export const seeAsPlayer = 'See it as a player';
 export const patcherIsOneFile = 'One .html file with this page, your script and what you wrote here. It holds no image.';
-export const noLicenceChosen = 'No licence has been chosen for cdpatch yet.';
-export const noCopiesPassedOn = 'Until its owner has chosen one, nobody may pass copies of this page on.';
+export const noLicenceYet = 'The publisher of this copy of cdpatch, which the patcher contains, has not given a licence yet: try it, but ' +
+    'do not publish it before there is a release with a licence.';
 export const scriptSavedElsewhere = 'The script itself can be saved under Script.';
 export const calculatingResultSha1 = 'Calculating the SHA-1 of the result';
 export const calculatingForPlayers = 'Calculating the SHA-1 of the patched image, so that players can compare theirs.';

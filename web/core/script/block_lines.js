@@ -1,0 +1,24 @@
+// What the lines of a script do with one block: a rebuild mends a damaged sector for the changes that come after it.
+
+import { VERB } from '../module/records.js';
+import { USER_SIZE } from '../sectors/sector.js';
+
+/** @typedef {import('./model.js').ScriptLine} ScriptLine */
+/** @typedef {import('./model.js').ScriptModel} ScriptModel */
+
+/** @param {ScriptLine[]} lines whose least number it is, 0 if there are none */
+function firstOf(lines) {
+    return lines.length === 0 ? 0 : Math.min(...lines.map(({ number }) => number));
+}
+
+/**
+ * The number of the first line that rebuilds a block, and of the first one that writes in it otherwise; 0 if there is none.
+ * @param {ScriptModel} script
+ * @param {number} block
+ */
+export function firstLinesOf(script, block) {
+    const own = (/** @type {number} */ verb) => script.linesNear(block, block)
+        .filter(({ patch }) => patch !== null && patch.block === block && patch.verb === verb);
+    return { rebuilds: firstOf(own(VERB.REBUILD)),
+        writes: firstOf([...script.linesWriting({ block, offset: 0, size: USER_SIZE }), ...own(VERB.ADDRESS)]) };
+}
