@@ -38,7 +38,7 @@ Status:
   2  an I/O error, an invalid script, or invalid arguments; OUT may be
      incomplete
 
-cdpatch 1.2.0";
+cdpatch 1.3.0";
 
 /// What `list` does.
 pub(crate) const LIST_ABOUT: &str = "List the kinds of an image's sectors";

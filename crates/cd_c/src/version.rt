@@ -3,12 +3,12 @@
 ghost use Rattle.std.specs.Prelude.{◌≡◌};
 
 /// The version as a number: 10000 times its first number, 100 times its second and its third.
-pub const VERSION: u32 = 10200;
+pub const VERSION: u32 = 10300;
 
 /// The version of the library, [`VERSION`].
 #[unsafe(no_mangle)]
 pub extern "C" fn cdpatch_version() -> u32
-    ensures { result ≡ 10200 }
+    ensures { result ≡ 10300 }
 {
     VERSION
 }
