@@ -34,9 +34,9 @@ extern "C" {
 #endif
 
 /** The version of this header as text. */
-#define CDPATCH_VERSION "1.2.0"
+#define CDPATCH_VERSION "1.3.0"
 /** The same as a number: 10000 times its first number, 100 times its second, and its third. */
-#define CDPATCH_VERSION_NUMBER 10200
+#define CDPATCH_VERSION_NUMBER 10300
 
 /** Sizes in bytes: of a sector, of its user data, of an address, of the most bytes that a patch sets, of the room for a line of text, and of
  * a SHA-1. */
