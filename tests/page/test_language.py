@@ -21,7 +21,7 @@ MARK = '\u0323'
 SKIPPED = 'script, style, #data, .src, .line-out, .hex, .log, .report, .notices, bdi'
 
 # What stands there in whole: names, words of a script, and commands.
-WHOLE = {'cdpatch', 'carry', 'rebuild', 'was', 'cdpatch check', 'cdpatch audit', 'cdpatch list', 'Big5', 'Shift-JIS (CP932)'}
+WHOLE = {'cdpatch', 'carry', 'rebuild', 'was', 'cdpatch check', 'cdpatch apply', 'cdpatch audit', 'cdpatch list', 'Big5', 'Shift-JIS (CP932)'}
 
 # What stands in a text: names, hashes, lines of a script, what is of the browser, and what the tests give.
 WITHIN = [
@@ -37,7 +37,7 @@ CORE = {
     'Calls.outcomeLine': r'(refused: )?old bytes differ at block \d+ offset \d+|no block \d+|block \d+ is damaged',
     'SectorCalls.auditLine': r'edc p=\d+ q=\d+',
     'leftText of script/sector_lines.js, with blocksText of sectors/runs.js': r'is damaged in blocks [\d, ]+ and \d+ more',
-    'assertHasRoom of texts/replace.js': r'the new text has \d+ bytes in CP932, \d+ more than the \d+ that are there',
+    'assertHasRoom of texts/replace.js': r'the new text has \d+ bytes in CP932, and there is room for \d+: \d+ too many',
     'fillsOf of texts/encoding.js': '(wide )?space$',
     'the label of texts/hex.js': 'Bytes in hex',
 }
