@@ -7,7 +7,7 @@ import { sampledSectors } from './file_type.js';
 
 /** @typedef {import('../module/calls.js').Calls} Calls */
 
-const SAMPLES = 64;
+const SAMPLED = 64;
 
 /**
  * Whether an image looks like a whole disc of one track of Mode 1: it begins with block 0, and some sectors all over it are of Mode 1, the
@@ -18,7 +18,7 @@ const SAMPLES = 64;
 export async function isOneTrack(calls, { reader, addressed, tail }) {
     if (addressed !== 0 || tail > 0) return false;
     const isMode1 = (/** @type {Uint8Array} */ sector) => calls.kind(sector) === SECTOR_KIND.MODE1;
-    for await (const { sector } of sampledSectors(reader, SECTOR_SIZE, 1, SAMPLES)) {
+    for await (const { sector } of sampledSectors(reader, SECTOR_SIZE, 1, SAMPLED)) {
         if (!isMode1(sector)) return false;
     }
     return isMode1(await readBytes(reader, reader.size - SECTOR_SIZE, SECTOR_SIZE));
