@@ -4,7 +4,8 @@ import atexit
 import base64
 import functools
 import json
-from collections.abc import Sequence
+import time
+from collections.abc import Callable, Sequence
 from pathlib import Path
 from typing import Any
 
@@ -23,6 +24,9 @@ OWN_SCHEMES = ('blob:', 'data:', 'about:', 'chrome:', 'chrome-error:', 'devtools
 
 # A phone, half a screen, a screen.
 WIDTHS = (360, 900, 1280)
+
+# Seconds in which a page is laid out anew.
+SETTLES = 2
 
 REACHING = ('Network.requestWillBeSent', 'Network.webSocketCreated', 'Network.webTransportCreated', 'Page.frameRequestedNavigation')
 
@@ -67,6 +71,14 @@ MISFITS = '''const [width, done] = arguments, within = '.scroll, .hex, .editor, 
             ...cut.map(it => `cut: ${words(it)}`), ...over]);
     };
     requestAnimationFrame(() => requestAnimationFrame(drawn))'''
+
+
+def settled(measure: Callable[[], Any]) -> Any:
+    """What is wrong with how the page is laid out, as soon as nothing is, or if that lasts: a busy machine takes some frames for it."""
+    ends = time.monotonic() + SETTLES
+    while (wrong := measure()) and time.monotonic() < ends:
+        time.sleep(0.1)
+    return wrong
 
 
 class Chromium:
@@ -217,14 +229,14 @@ class Chromium:
         over = []
         for width in widths:
             self.size(width)
-            over.append(int(self.driver.execute_async_script(drawn)) - width)
+            over.append(settled(lambda: max(0, int(self.driver.execute_async_script(drawn)) - width)))
         self.size(1280)
-        return max(over)
+        return int(max(over))
 
     def misfits(self, width: int) -> list[str]:
         """What does not fit a window of this width."""
         self.size(width)
-        found: list[str] = self.driver.execute_async_script(MISFITS, width)
+        found: list[str] = settled(lambda: self.driver.execute_async_script(MISFITS, width))
         self.size(1280)
         return found
 
