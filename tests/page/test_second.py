@@ -302,6 +302,7 @@ class Second(unittest.TestCase):
         self.browser.wait('#disc-line .lead', 'Mode 1')
         self.browser.give('#files', [place / 'other.bin'])
         self.browser.wait('#sheet', 'It is another part of a disc than game.bin.')
+        self.assertEqual(self.browser.run('return [...document.querySelectorAll("#sheet button")].map(it => it.innerText)'), ['Open it instead', 'Cancel'])
         self.assertEqual(self.browser.run('return document.querySelector("#sheet .main").innerText'), 'Open it instead')
 
     def test_every_control_has_a_name_and_nothing_is_sent(self) -> None:
