@@ -80,8 +80,8 @@ class Access(States):
         browser.run('globalThis.asked = 0; HTMLInputElement.prototype.click = () => { asked += 1; }')
         browser.size(360, 740)
         browser.click('[popovertarget=about]')
+        x, y = browser.run(BESIDE)
         for asked in (0, 1):
-            x, y = browser.run(BESIDE) if asked == 0 else (x, y)
             browser.cdp('Input.dispatchTouchEvent', type='touchStart', touchPoints=[{'x': x, 'y': y}])
             browser.cdp('Input.dispatchTouchEvent', type='touchEnd', touchPoints=[])
             waited(lambda: not browser.run('return document.querySelector(":popover-open") !== null'), 'the note stays')

@@ -6,6 +6,7 @@ import common
 import discs
 from chromium import WIDTHS
 from pages import GATE, UNSEEN, PageTest, applied
+from sector import SYNC
 
 SAID = '#panel-script .say'
 ALL_FIT = 'english.txt: 6 changes, all fit game.bin.'
@@ -54,7 +55,7 @@ class Next(PageTest):
             self.assertIn(said, self.browser.text('#announced'))
 
     def test_why_no_change_fits_is_said_and_nothing_is_offered_to_be_saved(self) -> None:
-        audio = common.SYNC[::-1] * 196
+        audio = SYNC[::-1] * 196
         files = discs.written(game=common.damaged(discs.game(), 60) + audio, hurt='cdpatch 1\nset 60 0 41 was 00\n', far='cdpatch 1\nset 9999 0 41\n',
                               sound=f'cdpatch 1\nset {len(discs.game()) // 2352} 0 41\n', other='cdpatch 1\nset 61 0 4141 was 9F9F\n',
                               some='cdpatch 1\nset 60 0 41\nset 61 0 42\nset 61 1 4343 was 9F9F\n')
