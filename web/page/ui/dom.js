@@ -1,6 +1,5 @@
 // Making parts of the page, and numbers and texts as people read them. Texts go in as texts: nothing here reads markup.
 
-import { counted } from '../texts/index.js';
 import { listen, nodesOf } from './fill.js';
 
 /** @typedef {import('./fill.js').Child} Child */
@@ -117,16 +116,6 @@ export function setDisabled(target, disabled) {
 /** @param {Element} target */
 export function isDisabled(target) {
     return target.getAttribute('aria-disabled') === 'true';
-}
-
-/**
- * A count with its noun: 1 sector, 2 sectors.
- * @param {number} number
- * @param {string} noun
- * @param {string} [plural]
- */
-export function countOf(number, noun, plural = `${noun}s`) {
-    return `${counted(number)} ${number === 1 ? noun : plural}`;
 }
 
 /**

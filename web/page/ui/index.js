@@ -2,7 +2,7 @@
 
 export { counted } from '../texts/index.js';
 export { copyButton } from './copying.js';
-export { announce, askBeforeLeaving, button, byId, countOf, element, hashParts, hexOf, icon, isDisabled, keysIn } from './dom.js';
+export { announce, askBeforeLeaving, button, byId, element, hashParts, hexOf, icon, isDisabled, keysIn } from './dom.js';
 export { lostByClosing, setAttribute, setDisabled, styleValue, term } from './dom.js';
 export { fill, keyed } from './fill.js';
 export { capital, nameOf, namesOf, seen, seenTitle, shownName, shownPaths, shownText, stemOf } from './names.js';
