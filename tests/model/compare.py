@@ -3,6 +3,7 @@ the clients, which are those of worked cases."""
 
 import argparse
 import os
+import pickle
 import shlex
 import sys
 import tempfile
@@ -10,6 +11,7 @@ from collections import Counter
 from functools import partial
 from multiprocessing import Pool
 from pathlib import Path
+from urllib.parse import quote
 
 from cases import harmed, kinds_of, some_case, wanted
 
@@ -21,9 +23,32 @@ FLOOR = 200  # of so many cases, on the whole, each kind must have one
 HARMED = 3
 
 
-def keep(client, number, case, said, directory):
+def worked_out(seed, number):
+    """The kinds of the case of a number; and it, and for one in HARMED it after changes that nobody makes, each with what the model says."""
+    case = some_case(seed, number)
+    cases = [case] + [harmed(seed, number)] * (number % HARMED == 0)
+    return kinds_of(case), [(each, wanted(each)) for each in cases]
+
+
+def known(seed, number):
+    """The same. If MODEL_ANSWERS names a directory, it is left there for the other clients that are asked."""
+    if 'MODEL_ANSWERS' not in os.environ:
+        return worked_out(seed, number)
+    place = Path(os.environ['MODEL_ANSWERS'], quote(seed, safe=''))
+    file = place / str(number)
+    if file.exists():
+        return pickle.loads(file.read_bytes())
+    made = worked_out(seed, number)
+    place.mkdir(parents=True, exist_ok=True)
+    half = place / f'{number}.{os.getpid()}'
+    half.write_bytes(pickle.dumps(made))
+    half.rename(file)
+    return made
+
+
+def keep(client, number, case, due, said, directory):
     """Leaves a case in a directory, with what came and what was due, and how it is repeated."""
-    status, printed, out = wanted(case)
+    status, printed, out = due
     for name, data in ('image', case.image), ('script', case.script), ('printed', said[1]), ('wanted', printed), ('wanted-out', out):
         if data is not None:
             (directory / name).write_bytes(data)
@@ -32,25 +57,24 @@ def keep(client, number, case, said, directory):
     (directory / 'command').write_text(f'{call}\n{again}\n# status {said[0]}, wanted {status}\n')
 
 
-def is_right(client, kept, number, case):
+def is_right(client, kept, number, case, due):
     """Whether the client answers a case as the model; if not, it stays in a directory of `kept`."""
     try:
         said = client.said(case)
     except ValueError as fault:
         said = (-1, str(fault).encode(), None)
-    if said == wanted(case):
+    if said == due:
         return True
     directory = Path(tempfile.mkdtemp(prefix=f'case-{number}-', dir=kept))
-    keep(client, number, case, said, directory)
+    keep(client, number, case, due, said, directory)
     print(f'FAILED: case {number}, left in {directory} with the command that repeats it', flush=True)
     return False
 
 
 def judge(client, seed, kept, number):
     """The kinds of the case of a number, and for it, and for one in HARMED after changes that nobody makes, whether the answer is right."""
-    case = some_case(seed, number)
-    cases = [case] + [harmed(seed, number)] * (number % HARMED == 0)
-    return kinds_of(case), [is_right(client, kept, number, each) for each in cases]
+    kinds, cases = known(seed, number)
+    return kinds, [is_right(client, kept, number, case, due) for case, due in cases]
 
 
 def compared(client, given, kept):

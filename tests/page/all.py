@@ -1,6 +1,6 @@
 """Runs tests: `all.py WORDS..` runs those with one of these in their names, or all, and prints 'ok NAME', 'not ok NAME' or 'skipped NAME'.
-`all.py --part 2/3 WORDS..` runs every third of them, from the second on. One window serves all tests of a run. tests/wrong/versions.py runs one
-test on a wrong page by `fails_on`."""
+`all.py --shared DIRECTORY WORDS..` runs those of them that no other run with this directory has taken. One window serves all tests of a run.
+tests/wrong/versions.py runs one test on a wrong page by `fails_on`."""
 
 import sys
 import time
@@ -72,21 +72,36 @@ def fails_on(test: unittest.TestCase, page: Path) -> bool | None:
     return None if result.skipped else bool(result.failures or result.errors)
 
 
+class Shared(unittest.TestSuite):
+    """Tests that runs side by side take in turn, each by a file in a directory of all runs."""
+
+    def __init__(self, tests: list[unittest.TestCase], taken: Path) -> None:
+        super().__init__(tests)
+        self.taken = taken
+
+    def __iter__(self) -> Iterator[unittest.TestCase]:  # type: ignore[override]
+        for number, test in enumerate(list(super().__iter__())):
+            try:
+                (self.taken / str(number)).touch(exist_ok=False)
+            except FileExistsError:
+                continue
+            yield test  # type: ignore[misc]
+
+
 def all_tests() -> list[unittest.TestCase]:
     sys.path.insert(0, str(HERE))
     return list(tests_of(unittest.defaultTestLoader.discover(str(HERE), 'test_*.py')))
 
 
 def main(words: list[str]) -> int:
-    first, step = 0, 1
-    if words[:1] == ['--part']:
-        first, step = int(words[1].split('/')[0]) - 1, int(words[1].split('/')[1])
-        words = words[2:]
-    chosen = [test for test in all_tests() if not words or any(word in named(test) for word in words)][first::step]
+    taken = None
+    if words[:1] == ['--shared']:
+        taken, words = Path(words[1]), words[2:]
+    chosen = [test for test in all_tests() if not words or any(word in named(test) for word in words)]
     result = Result()
-    unittest.TestSuite(chosen).run(result)
+    (Shared(chosen, taken) if taken else unittest.TestSuite(chosen)).run(result)
     wrong = len(result.failures) + len(result.errors)
-    print(f'{len(chosen)} tests, {wrong} failed')
+    print(f'{result.testsRun} tests, {wrong} failed')
     return int(wrong > 0 or not chosen)
 
 
