@@ -18,7 +18,8 @@ class TestWorker {
         if (message.module) return;
         if (message.job === this.given.stuck || (this.given.slow && this === this.given.workers[0])) return;
         const heard = this.onmessage;
-        if (this.given.stops) setImmediate(() => this.onerror && this.onerror({ message: 'out of memory' }));
+        if (this.given.unread) setImmediate(() => this.onmessageerror && this.onmessageerror({}));
+        else if (this.given.stops) setImmediate(() => this.onerror && this.onerror({ message: 'out of memory' }));
         else setImmediate(() => heard({ data: { number: message.number, answer: message.first } }));
     }
 
@@ -38,6 +39,16 @@ test('a worker that stops ends the job, which says so, and the next job has new 
     given.stops = false;
     await job();
     assert.deepEqual(taken, [0, 1, 2, 3, 4, 5, 6, 7, 8, 9]);
+});
+
+test('a reply that cannot be read ends the job, and the next one has new workers', async () => {
+    const given = { workers: [], unread: true };
+    const crew = crewOf({ module: true, newWorker: () => new TestWorker(given) });
+    const reader = { size: 10 * 2352, read: async (at, length) => new Uint8Array(length) };
+    const job = () => crew.share('survey', [reader], {}, { step: 1 }, () => {});
+    await assert.rejects(job(), { message: /^A worker of this page has stopped/ });
+    given.unread = false;
+    await job();
 });
 
 test('Cancel ends a worker that does not come to its end, and what it has of another job goes to a new one', async () => {

@@ -6,6 +6,7 @@ import { MESSAGES } from '../lib/messages.mjs';
 import { calls, core, page } from './page.mjs';
 
 const { modelInParts } = await core('script/model.js');
+const { ReplacedFiles } = await page('app/replaced_files.js');
 const { ScriptLines } = await page('app/script_lines.js');
 
 function linesOf(text) {
@@ -195,6 +196,23 @@ test('lines that come a second time take the place of those that set the same by
         'fill 7 2040 20 00', 'set 5 2 5A5A was 4120', 'set 8 5 47 was 20', ''].join('\n'));
     lines.undo();
     assert.equal(lines.text(), before);
+});
+
+test('a file that is replaced once more leaves no line of its earlier replacement', () => {
+    const [lines, files] = [linesOf('cdpatch 1\n# mine\n'), new ReplacedFiles()];
+    assert.equal(files.replace(lines, '/A', ['set 5 0 4141 was 2020', 'set 6 0 41 was 20']), 0);
+    assert.equal(files.replace(lines, '/B', ['set 9 0 42 was 20']), 0);
+    lines.add(['set 5 0 5A was 41'], 'bytes');
+    const before = lines.text();
+    assert.equal(files.replace(lines, '/A', ['set 5 1 43 was 20']), 2);
+    const after = 'cdpatch 1\n# mine\nset 9 0 42 was 20\nset 5 0 5A was 41\n';
+    assert.equal(lines.text(), `${after}set 5 1 43 was 20\n`);
+    lines.undo();
+    assert.equal(lines.text(), before);
+    lines.redo();
+    assert.equal(files.replace(lines, '/A', []), 1, 'the file is as on the disc');
+    assert.equal(lines.text(), after);
+    assert.equal(files.replace(lines, '/A', []), 0);
 });
 
 test('what an import or a replacement made gives way where it is met in part, and what was typed does not', () => {

@@ -101,6 +101,20 @@ class Files(PageTest):
         saved = self.browser.downloaded('game (patched).bin').read_bytes()
         self.assertEqual(saved, applied(image, discs.written(script=self.script_of(image, path))['script'])[2])
 
+    def test_a_file_that_is_replaced_once_more_has_the_lines_of_the_last_one_only(self) -> None:
+        image = self.begin(discs.game())
+        self.choose(MESSAGES)
+        self.give(discs.messages()[:1500])
+        self.browser.wait('#findings .say.good', 'gets 1,500')
+        path = self.give(discs.messages().replace(discs.START, b'Start   '))
+        self.browser.wait('#findings .say.good', 'that replaced the file before')
+        self.press('Open Script')
+        self.assertEqual(self.script_text(), self.script_of(image, path))
+        self.browser.click('#tab-disc')
+        self.give(discs.messages())
+        self.browser.wait('#findings .say', 'that replaced the file before')
+        self.assertIn('The new file has the same bytes.', self.browser.text('#findings .say'))
+
     def test_what_cannot_be_replaced_is_said(self) -> None:
         self.begin(discs.scratched())
         self.choose(MESSAGES)

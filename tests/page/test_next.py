@@ -92,23 +92,49 @@ class Next(PageTest):
             self.browser.wait(f'{SAID}.good', ALL_FIT)
             self.assertLessEqual(self.browser.run(UNSEEN, f'{SAID}.good .btn'), 0, width)
             self.press('Apply and save')
-            self.browser.wait('#saved-sha1', 'a')
+            self.wait_for_saved()
             self.assertLessEqual(self.browser.run(UNSEEN, '#panel-script .side .say'), 0, width)
-            self.browser.downloaded('game (patched).bin').unlink()
 
-    def test_after_a_disc_with_a_cue_sheet_was_saved_its_cue_sheet_is_next(self) -> None:
+    def wait_for_saved(self) -> None:
+        """Waits until the image was saved, and its hashes are known."""
+        saved = self.browser.downloaded('game (patched).bin')
+        self.browser.wait('#saved-sha1', common.sha1(saved.read_bytes()))
+        saved.unlink()
+
+    def test_after_a_disc_was_saved_its_cue_sheet_is_next(self) -> None:
         files = self.files()
-        sheet = files['game'].with_suffix('.cue')
-        sheet.write_text('FILE "game.bin" BINARY\n  TRACK 01 MODE1/2352\n    INDEX 01 00:00:00\n')
-        for names, then in (([sheet, files['game']], 'Save a cue sheet…'), ([files['game']], 'Open the new image')):
-            self.setUp()
-            self.browser.drop('#drop', [*names, files['english']])
-            self.browser.wait(f'{SAID}.good', ALL_FIT)
-            self.press('Apply and save')
-            self.browser.downloaded('game (patched).bin').unlink()
-            self.browser.wait('#saved-sha1', 'a')
-            self.assertEqual(self.browser.run("return document.querySelector('#panel-script .side .row .btn').innerText"), then)
-            self.assertEqual('Your emulator opens a cue sheet' in self.browser.text('#panel-script .side'), sheet in names)
+        one_track = 'FILE "{}" BINARY\n  TRACK 01 MODE1/2352\n    INDEX 01 00:00:00\n'
+        songs = 'FILE "song.bin" BINARY\n  TRACK 02 AUDIO\n    INDEX 01 00:00:00\n'
+        sheet, image = files['game'].with_suffix('.cue'), files['game']
+        for names, more in (([image], ''), ([sheet, image], ''), ([sheet, image], songs)):
+            with self.subTest(names=len(names), more=more):
+                sheet.write_text(one_track.format('game.bin') + more)
+                self.setUp()
+                self.browser.drop('#drop', [*names, files['english']])
+                self.browser.wait(f'{SAID}.good', ALL_FIT)
+                self.press('Apply and save')
+                self.wait_for_saved()
+                side = self.browser.text('#panel-script .side')
+                self.assertIn('Your emulator opens a cue sheet', side)
+                self.assertEqual('It is for a disc of one track.' in side, sheet not in names)
+                self.assertEqual('Copy there too, since the cue sheet names it: song.bin.' in side, more != '')
+                self.assertEqual(self.browser.run("return document.querySelector('#panel-script .side .row .btn').innerText"), 'Save a cue sheet…')
+                self.press('Save a cue sheet')
+                saved = self.browser.downloaded('game (patched).cue')
+                common.waited(lambda: saved.read_text() == one_track.format('game (patched).bin') + more, 'another cue sheet')
+                self.assertEqual(self.focused(), 'Check: Save a cue sheet…')
+
+    def test_after_a_disc_that_may_have_more_tracks_was_saved_no_cue_sheet_is_made_up(self) -> None:
+        music = bytes(range(1, 253)) * 28 * 20
+        files = discs.written(game=discs.game() + music, english=discs.script())
+        self.browser.drop('#drop', [files['game'], files['english']])
+        self.browser.wait(f'{SAID}.good', ALL_FIT)
+        self.press('Apply and save')
+        self.wait_for_saved()
+        side = self.browser.text('#panel-script .side')
+        self.assertIn('A .cue of the old image starts the old game.', side)
+        self.assertNotIn('cue sheet', side)
+        self.assertEqual(self.browser.run("return document.querySelector('#panel-script .side .row .btn').innerText"), 'Open the new image')
         self.assertEqual(self.focused(), 'Check: Back to Check')
 
     def test_a_script_is_checked_after_the_check_of_another(self) -> None:

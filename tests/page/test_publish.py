@@ -256,6 +256,24 @@ class Player(PageTest):
         self.assertNotIn('Save a cue sheet', self.browser.text('#player'))
         self.assertTrue(self.browser.run('return document.activeElement.matches(".step:last-child")'))
 
+    def test_a_player_may_choose_his_cue_sheet_after_the_image_was_saved(self) -> None:
+        self.play(discs.game())
+        self.press('Patch and save')
+        self.browser.wait('#player .step.now', 'if you have a .cue of the old image, it starts the old game')
+        place = common.folder('sheets')
+        for name, text in (('other.cue', CUE), ('song.cue', 'REM a song\n'), ('noise.cue', '\0' * 5000)):
+            (place / name).write_text(text)
+            self.browser.give('#player-sheet', [place / name])
+            self.browser.wait('#player .step.now .say.bad', f'This is no cue sheet that names your image: {name}')
+        tracks = 'FILE "{}" BINARY\n  TRACK 01 MODE1/2352\n    INDEX 01 00:00:00\nFILE "song.bin" BINARY\n  TRACK 02 AUDIO\n    INDEX 01 00:00:00\n'
+        (place / 'mine.cue').write_text(tracks.format('MINE.bin'))
+        self.browser.give('#player-sheet', [place / 'mine.cue'])
+        self.browser.wait('#player .step.now', 'Copy there too, since the cue sheet names it: song.bin.')
+        self.assertEqual(self.browser.run('return document.activeElement.innerText'), 'Save the cue sheet…')
+        self.press('Save the cue sheet')
+        saved = self.browser.downloaded('Starlit (English).cue')
+        common.waited(lambda: saved.read_text() == tracks.format('Starlit (English).bin'), 'another cue sheet')
+
     def test_a_cue_sheet_and_its_image_may_be_chosen_one_after_the_other(self) -> None:
         image = discs.written(mine=discs.game())['mine']
         sheet = image.with_suffix('.cue')

@@ -61,4 +61,9 @@ function heard({ data }) {
     else bench.at.work(data);
 }
 
-if (typeof document === 'undefined') self.onmessage = heard;
+/** A message that cannot be read is told to the page as any fault of a worker, so that nothing waits for its answer. */
+function unheard() {
+    throw new Error('a message could not be read');
+}
+
+if (typeof document === 'undefined') Object.assign(self, { onmessage: heard, onmessageerror: unheard });

@@ -1,5 +1,6 @@
 // A script that this core has written, in pieces, and what it asks of who reads it.
 
+import { joinedBytes } from '../bytes.js';
 import { Fault } from '../faults.js';
 import { CONTENT, MOST_SCRIPT_BYTES } from '../module/records.js';
 import { addToRuns } from '../sectors/runs.js';
@@ -27,6 +28,14 @@ function tooManyPatches(calls, patches) {
     const line = new TextEncoder().encode(lineText(lines => lines.rebuild(0)));
     calls.hold(line);
     return calls.readLine(1, 2, patches - 1, 0, line.length) !== CONTENT.PATCH;
+}
+
+/**
+ * The lines of a script that was made, after its head.
+ * @param {Script} script
+ */
+export function linesMade({ pieces, patches }) {
+    return patches === 0 ? [] : new TextDecoder().decode(joinedBytes(pieces.slice(1))).trimEnd().split('\n');
 }
 
 /** The parts of a script, in order, and what they leave. */

@@ -49,7 +49,7 @@ class WorkerHand {
         const had = [...this.held.values()];
         this.held.clear();
         if (this.worker === null) return had;
-        this.worker.onmessage = this.worker.onerror = null;
+        this.worker.onmessage = this.worker.onerror = this.worker.onmessageerror = null;
         this.worker.terminate();
         this.worker = null;
         return had;
@@ -67,6 +67,7 @@ export function startedWorker({ module, newWorker }, heard, failed) {
     worker.onmessage = heard;
     worker.onerror = ({ message }) =>
         failed(new Fault(message ? told(texts.workerStoppedFor, { why: message }) : texts.workerStopped));
+    worker.onmessageerror = () => failed(new Fault(texts.workerStopped));
     worker.postMessage({ module });
     return worker;
 }

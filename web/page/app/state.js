@@ -149,6 +149,17 @@ export class App extends Store {
         this.showPanel('disc');
     }
 
+    /**
+     * Changes the script otherwise than by its panel.
+     * @template Result
+     * @param {(script: import('./script_lines.js').ScriptLines) => Result} change
+     */
+    changeScript(change) {
+        const result = change(this.script);
+        this.tell('script', { back: null });
+        return result;
+    }
+
     /** Shows the script, and has it checked on the open image. */
     checkScript() {
         this.showPanel('script');

@@ -253,13 +253,6 @@ export class Store {
         return number;
     }
 
-    /** @param {string[]} lines that set bytes, each in place of those that set the same ones. Returns how many are new, and how many not */
-    mergeLines(lines) {
-        const merged = this.script.merge(lines);
-        this.tell('script', { back: null });
-        return merged;
-    }
-
     /**
      * Puts a line in place of another one.
      * @param {number} number

@@ -1,13 +1,14 @@
 // The tab Files: the files of the disc by their blocks. The chosen one is saved as a file, or replaced by one.
 
-import { joinedBytes } from '../../core/bytes.js';
 import { Fault } from '../../core/faults.js';
 import { passFile } from '../../core/images/convert.js';
 import { filesLines, wholeFile } from '../../core/iso/files.js';
 import { replaceFile } from '../../core/script/replace_file.js';
+import { linesMade } from '../../core/script/script_writer.js';
 import { leftText } from '../../core/script/sector_lines.js';
 import { blocksIn } from '../../core/sectors/runs.js';
 import { visible } from '../../core/texts/visible.js';
+import { ReplacedFiles } from '../app/index.js';
 import { fileReader } from '../open/index.js';
 import { downloadBytes } from '../save/index.js';
 import * as texts from '../texts/index.js';
@@ -62,6 +63,7 @@ export class FilesList {
         this.known = false;
         this.from = 0;
         this.chosen = /** @type {Listed | null} */ (null);
+        this.replaced = new ReplacedFiles();
         this.filter = element('input', { type: 'text', class: 'slim', id: 'files-filter', autocomplete: 'off', spellcheck: 'false',
             input: () => this.filtered() });
         /** @type {HTMLInputElement} */
@@ -226,20 +228,21 @@ export class FilesList {
     }
 
     /**
-     * Adds the lines that replace a file.
+     * Adds the lines that replace a file, in place of those that did before.
      * @param {Script} script
      * @param {Listed} file
      * @param {number} size the new one
      */
-    added({ pieces, patches, long }, { path, size: before }, size) {
-        const { app } = this;
+    added(script, { path, size: before }, size) {
+        const [{ app }, { patches, long }] = [this, script];
         if (long) throw new Fault(texts.scriptTooLongToReplace);
-        if (patches === 0) return notice('plain', texts.nothingAdded, texts.newFileIsSame);
-        app.addLines(new TextDecoder().decode(joinedBytes(pieces.slice(1))).trimEnd().split('\n'));
+        const gone = app.changeScript(lines => this.replaced.replace(lines, path, linesMade(script)));
+        const earlier = gone > 0 ? told(texts.earlierLinesGone, { n: gone }) : '';
+        if (patches === 0) return notice('plain', earlier || texts.nothingAdded, texts.newFileIsSame);
         const head = told(texts.linesAdded, { n: patches });
         announce(head);
         const length = size === before ? [] : say(texts.fileChangesLength, { name: nameOf(path), before, after: size });
-        return notice('good', head, ...length,
+        return notice('good', head, ...length, earlier && element('p', {}, earlier),
             element('div', { class: 'row' }, button('slim', () => app.showPanel('script'), texts.openScriptPanel)));
     }
 }

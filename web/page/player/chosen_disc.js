@@ -31,7 +31,15 @@ export class ChosenDisc {
         const opened = own === other ? await this.opened(files) : await this.opened(together).catch(() => this.opened(files));
         if (opened.disc.sheet !== null) this.before = [];
         const sheet = opened.files.find(file => file.name === opened.disc.sheet);
-        return { ...opened, sheet: sheet ? textOfFile(await readBytes(fileReader(sheet), 0, sheet.size)) : '' };
+        return { ...opened, sheet: sheet ? await this.sheetText(sheet) : '' };
+    }
+
+    /**
+     * The text of a cue sheet, '' of any other file.
+     * @param {File} file
+     */
+    async sheetText(file) {
+        return await this.hasSheet([file]) ? textOfFile(await readBytes(fileReader(file), 0, file.size)) : '';
     }
 
     /** @param {File[]} files */

@@ -1,13 +1,22 @@
 // How a player plays what was saved.
 
-import { downloadText, otherFiles } from '../save/index.js';
+import { copyWords, downloadText, otherFiles, sheetNaming } from '../save/index.js';
 import * as texts from '../texts/index.js';
 import { say } from '../texts/index.js';
-import { button, element, fill, icon, nameOf, namesOf } from '../ui/index.js';
+import { button, element, fill, icon, nameOf, notice } from '../ui/index.js';
 
 /** @typedef {import('../ui/fill.js').Child} Child */
 
-const MOST_NAMED = 4;
+/**
+ * A cue sheet that names the image to play: the player's, or else the author's, with another name in it; '' if neither names it.
+ * @param {string} name of the image to play
+ * @param {string} sheet the player's
+ * @param {string} image the name that the player's image had
+ * @param {Pick<import('./patcher.js').PatcherData, 'cue' | 'name'>} data the author's sheet and image
+ */
+export function sheetFor(name, sheet, image, { cue, name: own }) {
+    return sheetNaming(sheet, [[image, name]]) || sheetNaming(cue, [[own, name]]);
+}
 
 /**
  * @param {string} name of the image to play
@@ -15,12 +24,7 @@ const MOST_NAMED = 4;
  * @returns {Child[]}
  */
 export function playWords(name, sheet) {
-    const others = otherFiles(sheet, name);
-    const more = others.length - MOST_NAMED;
-    const files = namesOf(others.slice(0, MOST_NAMED));
-    const copied = { n: others.length, files: more > 0 ? say(texts.filesAndMore, { n: more, files }) : files };
-    return [element('p', {}, ...say(texts.saveSheetBeside, { name: element('b', {}, nameOf(name)) })),
-        others.length > 0 && element('p', {}, ...say(texts.copySheetFiles, copied)),
+    return [element('p', {}, ...say(texts.saveSheetBeside, { name: element('b', {}, nameOf(name)) })), copyWords(otherFiles(sheet, name)),
         ...sheetSaver(name, sheet, texts.saveTheCueSheet)];
 }
 
@@ -28,13 +32,32 @@ export function playWords(name, sheet) {
  * If no cue sheet is known: the player's own one, if he has one, is of the image as it was.
  * @param {string} name of the image to play
  * @param {string} sheet of a disc that has one track, or '' if this one may have more
+ * @param {(file: File) => Promise<boolean>} take a cue sheet that the player has; says whether it names the image
  * @returns {Child[]}
  */
-export function wordsWithoutSheet(name, sheet) {
+export function wordsWithoutSheet(name, sheet, take) {
     const image = { name: element('b', {}, nameOf(name)) };
-    if (sheet === '') return [element('p', {}, ...say(texts.openInEmulator, image)), element('p', {}, texts.oldSheetStartsOld)];
-    return [element('p', {}, ...say(texts.saveOneSheetBeside, image)), element('p', {}, texts.oldSheetStartsOld),
-        ...sheetSaver(name, sheet, texts.saveCueSheet), element('p', { class: 'small quiet' }, texts.sheetOfOneTrack)];
+    const own = [element('p', {}, texts.oldSheetStartsOld), ...sheetChooser(take)];
+    if (sheet === '') return [element('p', {}, ...say(texts.openInEmulator, image)), ...own];
+    return [element('p', {}, ...say(texts.saveOneSheetBeside, image)), ...sheetSaver(name, sheet, texts.saveCueSheet),
+        element('p', { class: 'small quiet' }, texts.sheetOfOneTrack), ...own];
+}
+
+/**
+ * The button by which a player chooses the cue sheet that he has.
+ * @param {(file: File) => Promise<boolean>} take
+ * @returns {Child[]}
+ */
+function sheetChooser(take) {
+    const said = element('div', { role: 'status' });
+    /** @type {HTMLInputElement} */
+    const input = element('input', { type: 'file', id: 'player-sheet', class: 'hide', tabindex: -1, 'aria-label': texts.yourCueSheet,
+        change: async () => {
+            const [file] = [...input.files || []];
+            input.value = '';
+            if (file && !await take(file)) fill(said, notice('bad', say(texts.isNoSheetOfImage, { name: nameOf(file.name) })));
+        } });
+    return [button('slim', () => input.click(), texts.chooseYourSheet), input, said];
 }
 
 /**

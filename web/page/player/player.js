@@ -2,13 +2,13 @@
 
 import { isOneTrack, sheetOfOneTrack } from '../../core/disc/one_track.js';
 import { RESULT } from '../../core/module/records.js';
-import { failureOfSaving, saveWork, sheetNaming } from '../save/index.js';
+import { failureOfSaving, saveWork } from '../save/index.js';
 import * as texts from '../texts/index.js';
 import { say, told } from '../texts/index.js';
 import { askBeforeLeaving, button, clearNotices, element, fill, hashParts, icon, isCancelled } from '../ui/index.js';
 import { jobBar, megabytes, nameOf, notice, refuseWhileSaving } from '../ui/index.js';
 import { ChosenDisc } from './chosen_disc.js';
-import { playWords, wordsWithoutSheet } from './play_words.js';
+import { playWords, sheetFor, wordsWithoutSheet } from './play_words.js';
 import { VERDICTS, reasonForPlayer, reasonsOf } from './reason.js';
 import { authorsWords, moreOf } from './trust_note.js';
 import { imageOfSize, judgeImage } from './verdict.js';
@@ -274,18 +274,22 @@ export class Player {
     }
 
     /**
-     * The cue sheet of the open image, or of the author's, with another name in it; '' if there is none.
-     * @param {string} name
+     * @param {string} name of the image to play
+     * @returns {HTMLElement}
      */
-    sheetFor(name) {
-        const { cue, name: own } = this.data;
-        return sheetNaming(this.sheet, [[this.image ? this.image.name : '', name]]) || sheetNaming(cue, [[own, name]]);
-    }
-
-    /** @param {string} name of the image to play */
     playStep(name) {
-        const sheet = this.sheetFor(name);
-        const words = sheet !== '' ? playWords(name, sheet) : wordsWithoutSheet(name, this.oneTrack ? sheetOfOneTrack(name) : '');
-        return this.step('3', 'now', texts.stepPlay, ...words);
+        const sheet = () => sheetFor(name, this.sheet, this.image ? this.image.name : '', this.data);
+        const take = async (/** @type {File} */ file) => {
+            this.sheet = await this.chosen.sheetText(file).catch(() => '');
+            if (sheet() === '') return false;
+            const fresh = this.playStep(name);
+            step.replaceWith(fresh);
+            /** @type {HTMLElement} */ (fresh.querySelector('.btn')).focus();
+            return true;
+        };
+        const words = sheet() !== '' ? playWords(name, sheet())
+            : wordsWithoutSheet(name, this.oneTrack ? sheetOfOneTrack(name) : '', take);
+        const step = this.step('3', 'now', texts.stepPlay, ...words);
+        return step;
     }
 }

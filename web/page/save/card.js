@@ -1,5 +1,6 @@
 // Saving the patched image, as its card says it: progress, what was saved, and what is left after a cancel or a failure.
 
+import { isOneTrack, sheetOfOneTrack } from '../../core/disc/one_track.js';
 import { FAULT, failedBy } from '../../core/faults.js';
 import { RESULT } from '../../core/module/records.js';
 import { sha1Of, sumsOf } from '../app/index.js';
@@ -8,11 +9,12 @@ import * as texts from '../texts/index.js';
 import { counted, say, told } from '../texts/index.js';
 import { askBeforeLeaving, button, element, fill, hashParts, isCancelled, jobBar, messageOf, nameOf, namesOf } from '../ui/index.js';
 import { notice } from '../ui/index.js';
-import { sheetNaming } from './cue_rewrite.js';
+import { otherFiles, sheetNaming } from './cue_rewrite.js';
 import { downloadText } from './files_out.js';
 import { saveWork } from './patch_job.js';
 import { adviceOf } from './refused.js';
 import { patchedName } from './save.js';
+import { copyWords } from './sheet_words.js';
 
 /** @typedef {import('../app/state.js').App} App */
 /** @typedef {import('../app/state.js').Image} Image */
@@ -89,6 +91,7 @@ export class SaveCard {
     async save(image, work) {
         const name = patchedName(image.name);
         this.running = true;
+        const oneTrack = image.sheet === '' ? isOneTrack(this.app.calls, image.part).catch(() => false) : false;
         try {
             const saved = await this.app.runSave((signal, cancel) => {
                 const bar = jobBar(texts.savingImage, cancel, { saves: true });
@@ -98,7 +101,7 @@ export class SaveCard {
                 return saveWork(this.app, { ...work, opened: this.app.openFiles() }, name, '', { signal, progress: bar.at });
             });
             if (saved === null) this.close();
-            else this.showSaved(image, saved);
+            else this.showSaved(image, saved, await oneTrack);
             return saved && saved.made;
         } catch (error) {
             this.leaving = false;
@@ -113,8 +116,9 @@ export class SaveCard {
     /**
      * @param {Image} image
      * @param {Saved} saved
+     * @param {boolean} oneTrack whether the image looks like a whole disc of one track, if it has no cue sheet
      */
-    showSaved(image, saved) {
+    showSaved(image, saved, oneTrack) {
         const { made, name, size, streamed, file } = saved;
         this.saved = saved;
         this.leaving = !streamed;
@@ -126,16 +130,13 @@ export class SaveCard {
         if (streamed) this.sayWhole();
         else fill(this.said, notice(tone, say(texts.browserIsSaving, { name: what() }), texts.keepPageOpenOnly));
         this.app.noteSaved(image, name);
-        const sheet = sheetNaming(image.sheet, image.renamed);
+        const sheet = oneTrack ? sheetOfOneTrack(name) : sheetNaming(image.sheet, image.renamed);
         const sheetName = image.disc.files.length > 1 ? patchedName(image.from) : name.replace(/(\.[^.]*)?$/, '.cue');
-        const others = [...image.renamed.values()].filter(it => it !== name);
-        const next = sheet !== '' && element('p', {}, texts.emulatorOpensSheet);
         fill(this.checked, !streamed && element('p', { class: 'small quiet' }, texts.dropToCheck));
         this.show(streamed ? texts.imageSaved : texts.savingByBrowser, this.said,
             element('dl', { class: 'hashes' }, element('dt', {}, texts.sizeOfSaved), element('dd', {}, counted(size)),
                 ...this.sumsOf(saved)),
-            this.checked, next, sheet !== '' && others.length > 0 && element('p', { class: 'small quiet' },
-                ...say(texts.sheetNamesOthers, { names: namesOf(others) })),
+            this.checked, ...sheetWords(image, name, sheet),
             element('div', { class: 'row' }, sheet !== '' && button('main next', () => downloadText(sheet, sheetName), texts.saveCueSheet),
                 file && button('', () => this.openNew(file), texts.openNewImage),
                 button(sheet === '' ? 'next' : '', () => this.close(), texts.backToCheck)));
@@ -204,6 +205,22 @@ export class SaveCard {
         }
         return true;
     }
+}
+
+/**
+ * What is said of the cue sheet of a saved image: what it is for, and which files it names beside the image.
+ * @param {Image} image
+ * @param {string} name of the saved one
+ * @param {string} sheet that names it, or '' if none can
+ * @returns {Child[]}
+ */
+function sheetWords({ sheet: own, renamed }, name, sheet) {
+    const quiet = (/** @type {Child[]} */ ...said) => element('p', { class: 'small quiet' }, ...said);
+    if (sheet === '') return [own === '' && quiet(texts.oldSheetNamesOld)];
+    const saved = [...renamed.values()].filter(it => it !== name);
+    return [element('p', {}, texts.emulatorOpensSheet), own === '' && quiet(texts.sheetOfOneTrack, ' ', texts.oldSheetNamesOld),
+        saved.length > 0 && quiet(...say(texts.sheetNamesOthers, { names: namesOf(saved) })),
+        copyWords(otherFiles(sheet, name).filter(it => !saved.includes(it)))];
 }
 
 /**

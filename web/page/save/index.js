@@ -7,3 +7,4 @@ export { assertNotTooLong, checkWork, isPatched, saveWork, scriptFor, watched } 
 export { givingAll, saveImage } from './pieces.js';
 export { adviceOf } from './refused.js';
 export { patchedName } from './save.js';
+export { copyWords } from './sheet_words.js';

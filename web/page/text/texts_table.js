@@ -1,10 +1,10 @@
 // All texts of the disc as a table: it is saved for a translator, and from one with new texts lines of the script are made.
 
 import { Fault } from '../../core/faults.js';
-import { joinedBytes } from '../../core/bytes.js';
 import { fileOrder } from '../../core/iso/file_order.js';
 import { filesIfAny } from '../../core/iso/files.js';
 import { assertFits } from '../../core/script/fitting.js';
+import { linesMade } from '../../core/script/script_writer.js';
 import { stretchesOf, tableOfTexts } from '../../core/texts/all_texts.js';
 import { usualBytes } from '../../core/texts/encoding.js';
 import { SEARCHED, encodingOf } from '../../core/texts/encodings.js';
@@ -162,7 +162,7 @@ export class TextsTable {
             if (script.long) throw new Fault(texts.scriptLongerThanTaken);
             if (app.image !== image) return null;
             const merged = script.patches === 0 ? { added: 0, replaced: 0, same: 0 }
-                : app.mergeLines(new TextDecoder().decode(joinedBytes(script.pieces.slice(1))).trimEnd().split('\n'));
+                : app.changeScript(lines => lines.merge(linesMade(script)));
             this.showLeft(image, rows, left);
             return this.madeNotice(rows.length - left.length, left.length, merged);
         });

@@ -383,6 +383,7 @@ export const nothingAdded = 'Nothing was added to the script.';
 export const newFileIsSame = 'The new file has the same bytes.';
 export const scriptTooLongToReplace = 'The script would be longer than cdpatch takes. cdscript replace-file makes it.';
 export const linesAdded = '{n} line added to the script.|{n} lines added to the script.';
+export const earlierLinesGone = '{n} line that replaced the file before is gone.|{n} lines that replaced the file before are gone.';
 export const fileChangesLength = '{name} had {before} bytes, and gets {after}.';
 export const openScriptPanel = 'Open Script';
 
@@ -804,6 +805,8 @@ export const hashPercent = '({percent} %)';
 export const sumNotRead = 'not known, for the browser does not read the file again';
 export const dropToCheck = 'To check what was saved, drop the file on this page.';
 export const emulatorOpensSheet = 'Your emulator opens a cue sheet: save one that names the new image, beside it.';
+export const oldSheetNamesOld = 'A .cue of the old image starts the old game. Open it with that image here, ' +
+    'and you can save one for the new image.';
 export const sheetNamesOthers = 'The cue sheet names files too that you saved before: {names}';
 export const saveCueSheet = 'Save a cue sheet…';
 export const openNewImage = 'Open the new image';
@@ -1107,10 +1110,13 @@ export const nothingShowedFit = 'Nothing has shown whether the patch fits this d
 // its third step
 export const stepPlay = 'Play';
 export const openInEmulator = 'Open {name} in your emulator.';
-export const oldSheetStartsOld = 'No cue sheet was chosen here: if you have a .cue of the old image, it starts the old game.';
+export const yourCueSheet = 'Your cue sheet';
+export const chooseYourSheet = 'Choose your .cue…';
+export const isNoSheetOfImage = 'This is no cue sheet that names your image: {name}';
+export const oldSheetStartsOld = 'No cue sheet was chosen here: if you have a .cue of the old image, it starts the old game. ' +
+    'Choose it, and you get one that starts the new game.';
 export const saveOneSheetBeside = 'Your emulator opens a cue sheet. Save one beside {name}.';
-export const sheetOfOneTrack = 'It is for a disc of one track. If yours has music tracks, choose its .cue and all .bin files in step 1, ' +
-    'and patch again.';
+export const sheetOfOneTrack = 'It is for a disc of one track.';
 export const sheetSaved = 'Saved. Now open {name} in your emulator.';
 export const saveSheetBeside = 'Your emulator opens a cue sheet. Save this one beside {name}.';
 export const copySheetFiles = 'Copy there too, since the cue sheet names it: {files}.|\

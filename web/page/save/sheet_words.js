@@ -1,0 +1,18 @@
+// What is said of a cue sheet that is saved for a patched image.
+
+import * as texts from '../texts/index.js';
+import { say } from '../texts/index.js';
+import { element, namesOf } from '../ui/index.js';
+
+const MOST_NAMED = 4;
+
+/**
+ * That files are to be copied beside a cue sheet, which names them; nothing if there are none.
+ * @param {string[]} names
+ */
+export function copyWords(names) {
+    const more = names.length - MOST_NAMED;
+    const files = namesOf(names.slice(0, MOST_NAMED));
+    const copied = { n: names.length, files: more > 0 ? say(texts.filesAndMore, { n: more, files }) : files };
+    return names.length > 0 && element('p', {}, ...say(texts.copySheetFiles, copied));
+}
