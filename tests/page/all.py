@@ -79,13 +79,13 @@ class Shared(unittest.TestSuite):
         super().__init__(tests)
         self.taken = taken
 
-    def __iter__(self) -> Iterator[unittest.TestCase]:  # type: ignore[override]
+    def __iter__(self) -> Iterator[unittest.TestCase | unittest.TestSuite]:
         for number, test in enumerate(list(super().__iter__())):
             try:
                 (self.taken / str(number)).touch(exist_ok=False)
             except FileExistsError:
                 continue
-            yield test  # type: ignore[misc]
+            yield test
 
 
 def all_tests() -> list[unittest.TestCase]:

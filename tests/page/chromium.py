@@ -10,6 +10,7 @@ from pathlib import Path
 from typing import Any
 
 from selenium import webdriver
+from selenium.common.exceptions import JavascriptException
 from selenium.webdriver.chrome.service import Service
 from selenium.webdriver.common.action_chains import ActionChains
 from selenium.webdriver.common.by import By
@@ -27,6 +28,19 @@ WIDTHS = (360, 900, 1280)
 
 # Seconds in which a page is laid out anew.
 SETTLES = 2
+
+# Looks again and again, less often the longer it takes.
+LOOK = '''const [most, ...given] = arguments, done = given.pop(), began = performance.now();
+const look = () => {{
+    const found = {}, spent = performance.now() - began;
+    if (found || spent > most) done(found || null);
+    else setTimeout(look, Math.min(500, 10 + spent / 20));
+}};
+look();'''
+
+# Seconds that selenium waits for a script, and a look takes at most.
+SCRIPT_TIMEOUT = 120
+LONGEST_LOOK = 100
 
 REACHING = ('Network.requestWillBeSent', 'Network.webSocketCreated', 'Network.webTransportCreated', 'Page.frameRequestedNavigation')
 
@@ -95,8 +109,9 @@ class Chromium:
             'download.default_directory': str(self.downloads), 'download.prompt_for_download': False,
             'profile.default_content_setting_values.automatic_downloads': 1})
         self.driver = webdriver.Chrome(options=options, service=Service('/usr/bin/chromedriver'))
-        self.driver.set_script_timeout(120)
+        self.driver.set_script_timeout(SCRIPT_TIMEOUT)
         self.cdp('Page.addScriptToEvaluateOnNewDocument', source=TRAP)
+        self.emulated: dict[str, dict[str, Any]] = {}
         self.size(width, height)
         self.url = ''
         self.stub = ''
@@ -121,10 +136,22 @@ class Chromium:
     def run(self, script: str, *given: Any) -> Any:
         return self.driver.execute_script(script, *given)
 
+    def awaited(self, expression: str, *given: Any, seconds: float = PATIENCE) -> Any:
+        """What an expression of what is given is, as soon as it is something; the page itself looks for it. None if it takes too long."""
+        ends = time.monotonic() + seconds
+        while (left := ends - time.monotonic()) > 0:
+            try:
+                return self.driver.execute_async_script(LOOK.format(expression), 1000 * min(left, LONGEST_LOOK), *given)
+            except JavascriptException:  # another page was opened while it looked
+                time.sleep(0.05)
+        return None
+
     def find(self, css: str) -> WebElement:
         """The first such element, as soon as there is one."""
-        waited(lambda: bool(self.run('return document.querySelector(arguments[0]) !== null', css)), f'there is no {css}')
-        return self.driver.find_element(By.CSS_SELECTOR, css)
+        found: WebElement | None = self.awaited('document.querySelector(given[0])', css)
+        if found is None:
+            raise AssertionError(f'there is no {css}')
+        return found
 
     def text(self, css: str) -> str:
         """The text of the first element, as it is shown; '' if there is none."""
@@ -132,9 +159,9 @@ class Chromium:
 
     def wait(self, css: str, text: str = '', seconds: float = PATIENCE) -> None:
         """Waits until an element is shown that has this text."""
-        script = '''return [...document.querySelectorAll(arguments[0])].some(it =>
-            it.checkVisibility() && it.innerText.includes(arguments[1]))'''
-        waited(lambda: bool(self.run(script, css, text)), f'{css} with "{text}"; it has "{self.text(css)}"', seconds)
+        shown = '[...document.querySelectorAll(given[0])].some(it => it.checkVisibility() && it.innerText.includes(given[1]))'
+        if not self.awaited(shown, css, text, seconds=seconds):
+            raise AssertionError(f'after {seconds:g} s: {css} with "{text}"; it has "{self.text(css)}"')
 
     def click(self, css: str) -> None:
         self.wait(css)
@@ -201,9 +228,15 @@ class Chromium:
     def size(self, width: int, height: int = 900, scheme: str = 'light') -> None:
         """Sets the size of the window and the colour scheme. A narrow one is a phone."""
         features = {'prefers-color-scheme': scheme, 'prefers-reduced-motion': 'reduce'}
-        self.cdp('Emulation.setEmulatedMedia', features=[{'name': name, 'value': value} for name, value in features.items()])
-        self.cdp('Emulation.setDeviceMetricsOverride', width=width, height=height, deviceScaleFactor=1, mobile=width < 500)
-        self.cdp('Emulation.setTouchEmulationEnabled', enabled=width < 500, maxTouchPoints=1)
+        self.emulate('setEmulatedMedia', features=[{'name': name, 'value': value} for name, value in features.items()])
+        self.emulate('setDeviceMetricsOverride', width=width, height=height, deviceScaleFactor=1, mobile=width < 500)
+        self.emulate('setTouchEmulationEnabled', enabled=width < 500, maxTouchPoints=1)
+
+    def emulate(self, command: str, **given: Any) -> None:
+        """Does so unless it is so already."""
+        if self.emulated.get(command) != given:
+            self.cdp(f'Emulation.{command}', **given)
+            self.emulated[command] = given
 
     def picture(self, path: Path, width: int = 1280, scheme: str = 'light', most: int = 2600) -> None:
         """A screenshot of the whole page."""
@@ -233,17 +266,23 @@ class Chromium:
         self.size(1280)
         return int(max(over))
 
-    def misfits(self, width: int) -> list[str]:
-        """What does not fit a window of this width."""
-        self.size(width)
-        found: list[str] = settled(lambda: self.driver.execute_async_script(MISFITS, width))
+    def misfits(self, *widths: int) -> dict[int, list[str]]:
+        """What does not fit a window of each of these widths, for those that have something."""
+        found: dict[int, list[str]] = {}
+        for width in widths:
+            self.size(width)
+            if wrong := settled(lambda: self.driver.execute_async_script(MISFITS, width)):
+                found[width] = wrong
         self.size(1280)
         return found
 
-    def nameless(self) -> list[str]:
+    def tree(self) -> list[dict[str, Any]]:
+        """The nodes of the accessibility tree."""
+        return [node for node in self.cdp('Accessibility.getFullAXTree')['nodes'] if not node['ignored']]
+
+    def nameless(self, tree: list[dict[str, Any]] | None = None) -> list[str]:
         """The controls that have no name in the accessibility tree."""
-        nodes = self.cdp('Accessibility.getFullAXTree')['nodes']
-        return [node['role']['value'] for node in nodes if not node['ignored'] and not node.get('name', {}).get('value')
+        return [node['role']['value'] for node in tree or self.tree() if not node.get('name', {}).get('value')
                 and any(it['name'] == 'focusable' and it['value']['value'] for it in node.get('properties', []))
                 and node['role']['value'] not in ('RootWebArea', 'main', 'generic', 'none')]
 

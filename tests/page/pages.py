@@ -115,7 +115,8 @@ class PageTest(unittest.TestCase):
 
     def press(self, text: str) -> None:
         """Presses the first button that is shown and begins with this text."""
-        found = common.waited(lambda: self.browser.run(BUTTON, text), f'no button {text}')
+        found = self.browser.awaited(f'(function () {{ {BUTTON} }})(...given)', text)
+        self.assertIsNotNone(found, f'no button {text}')
         self.browser.run('arguments[0].scrollIntoView({ block: "center" })', found)
         found.click()
 

@@ -78,8 +78,8 @@ class Harness(unittest.TestCase):
                         '<p style="position: absolute; top: 950px; height: 50px; margin: 0">Below</p>')
         browser.open(page)
         over = ['goes on 100 below its footer', 'One lies over Two']
-        self.assertEqual(browser.misfits(900), over)
-        self.assertEqual(browser.misfits(600), [over[0], 'is 100 too wide', 'cut: Far', over[1]])
+        self.assertEqual(browser.misfits(900), {900: over})
+        self.assertEqual(browser.misfits(600), {600: [over[0], 'is 100 too wide', 'cut: Far', over[1]]})
 
     def test_chromium_sees_what_a_page_tries_to_reach(self) -> None:
         browser = chromium.shared()

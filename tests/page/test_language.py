@@ -2,6 +2,7 @@
 states (tests/page/states.py). A word without marks stands in code, and is none of those that no translation changes."""
 
 import functools
+import os
 import re
 import shutil
 import sys
@@ -16,6 +17,9 @@ sys.path.insert(0, str(common.TOP / 'tools'))
 import pack  # noqa: E402
 
 MARK = '\u0323'
+
+# Each state is a test, or one in so many.
+STEP = int(os.environ.get('LANGUAGE_STEP', '1'))
 
 # Code, lines of a script, commands, tables of bytes, what the program prints, and names of files.
 SKIPPED = 'script, style, #data, .src, .line-out, .hex, .log, .report, .notices, bdi'
@@ -110,5 +114,5 @@ def judged(name: str) -> Callable[[Language], None]:
     return lambda self: self.judge(name)
 
 
-for each in all_states():
+for each in list(all_states())[::STEP]:
     setattr(Language, f'test_{each}', judged(each))

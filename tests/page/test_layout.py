@@ -27,11 +27,11 @@ class Layout(PageTest):
         self.browser.size(1280)
 
     def judge(self, state: str) -> None:
-        for width in ALL_WIDTHS:
-            self.assertEqual(self.browser.misfits(width), [], f'{state} at {width}')
-            if 'PICTURES' in os.environ:
+        self.assertEqual(self.browser.misfits(*ALL_WIDTHS), {}, state)
+        if 'PICTURES' in os.environ:
+            for width in ALL_WIDTHS:
                 self.browser.picture(Path(os.environ['PICTURES']) / f"layout-{state.replace(' ', '-')}-{width}.png", width)
-        self.browser.size(1280)
+            self.browser.size(1280)
 
     def begin(self, image: bytes, name: str = LONG_NAME) -> Path:
         path = common.folder('disc') / name

@@ -67,17 +67,14 @@ class State(States):
     def tearDown(self) -> None:
         self.browser.size(1280)
 
-    def nodes(self) -> list[dict[str, Any]]:
-        return [node for node in self.browser.cdp('Accessibility.getFullAXTree')['nodes'] if not node['ignored']]
-
     def judge_tree(self) -> None:
         """Each control has a name, and each group of tabs one that is chosen."""
-        nodes = self.nodes()
+        nodes = self.browser.tree()
         nameless = [node for node in nodes if node['role']['value'] in NAMED and not node.get('name', {}).get('value')]
         # What opens by a word of its own has its name by that.
         elements = [self.browser.cdp('DOM.describeNode', backendNodeId=node['backendDOMNodeId'])['node'] for node in nameless]
         self.assertEqual([it['nodeName'] for it in elements if it['nodeName'] != 'DETAILS'], [], 'has no name')
-        self.assertEqual(self.browser.nameless(), [])
+        self.assertEqual(self.browser.nameless(nodes), [])
         by_id = {node['nodeId']: node for node in nodes}
         for tabs in (node for node in nodes if node['role']['value'] == 'tablist'):
             own = [by_id[child] for child in tabs['childIds'] if child in by_id]
@@ -110,8 +107,7 @@ class State(States):
     def judge(self, name: str) -> None:
         all_states()[name](self)
         self.assertEqual(self.browser.attempts(), [])
-        for width in WIDTHS:
-            self.assertEqual(self.browser.misfits(width), [], width)
+        self.assertEqual(self.browser.misfits(*WIDTHS), {})
         if 'PICTURES' in os.environ:
             self.browser.pictures(Path(os.environ['PICTURES']), name)
         self.judge_colours()
