@@ -269,6 +269,7 @@ class Player(PageTest):
         (place / 'mine.cue').write_text(tracks.format('MINE.bin'))
         self.browser.give('#player-sheet', [place / 'mine.cue'])
         self.browser.wait('#player .step.now', 'Copy there too, since the cue sheet names it: song.bin.')
+        self.assertNotIn('if you have a .cue of the old image', self.browser.text('#player'))
         self.assertEqual(self.browser.run('return document.activeElement.innerText'), 'Save the cue sheet…')
         self.press('Save the cue sheet')
         saved = self.browser.downloaded('Starlit (English).cue')

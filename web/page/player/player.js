@@ -265,8 +265,8 @@ export class Player {
         const rest = [same, wait, left, unknown].map(text => text && element('p', {}, text));
         const third = this.playStep(name);
         this.show(first, this.step('2', 'done', texts.stepPatched, said, ...rest), third);
-        // Without a control of its own the step itself has the focus, which else went back to the first one.
-        if (!third.querySelector('.btn') && this.steps.contains(document.activeElement)) {
+        // Without a main button the step itself has the focus, which else went back to the first one.
+        if (!third.querySelector('.main') && this.steps.contains(document.activeElement)) {
             third.tabIndex = -1;
             third.focus({ preventScroll: true });
         }
