@@ -254,12 +254,12 @@ class Script(PageTest):
         files = discs.written(game=discs.scratched(), english=discs.script())
         self.open_image(files['game'])
         self.open_script(files['english'])
-        for name, shown, then in (('Check', '.tally', 'Check: Go to line'), ('Apply and save', '#saved-sha1', 'Check: Back to Check')):
+        for name, shown, then in (('Check', '.tally', 'Check: Go to line'), ('Apply and save', '#saved-sha1', 'Check: Save a cue sheet')):
             self.browser.run(f'{BUTTON}.focus()', name)
             self.browser.press(Keys.ENTER)
             self.browser.wait(shown)
             common.waited(lambda: self.focused().startswith(then), f'{self.focused()} has the focus')
-        self.browser.press(Keys.ENTER)
+        self.press('Back to Check')
         self.browser.run('document.querySelector("#panel-script input[type=checkbox]").focus()')
         self.browser.press(' ')
         self.assertEqual(self.browser.run('return document.activeElement.type'), 'checkbox')

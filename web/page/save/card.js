@@ -91,14 +91,15 @@ export class SaveCard {
     async save(image, work) {
         const name = patchedName(image.name);
         this.running = true;
-        const oneTrack = image.sheet === '' ? isOneTrack(this.app.calls, image.part).catch(() => false) : false;
+        const oneTrack = image.sheet === '' ? isOneTrack(this.app.calls, image.part).catch(() => false) : Promise.resolve(false);
         try {
             const saved = await this.app.runSave((signal, cancel) => {
                 const bar = jobBar(texts.savingImage, cancel, { saves: true });
                 this.show(say(texts.savingFile, { name: nameOf(name) }), ...bar.parts,
                     element('p', { class: 'small quiet' }, texts.afterCancel));
                 this.leaving = true;
-                return saveWork(this.app, { ...work, opened: this.app.openFiles() }, name, '', { signal, progress: bar.at });
+                const watch = { signal, progress: bar.at, accept: async () => void await oneTrack };
+                return saveWork(this.app, { ...work, opened: this.app.openFiles() }, name, '', watch);
             });
             if (saved === null) this.close();
             else this.showSaved(image, saved, await oneTrack);

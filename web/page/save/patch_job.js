@@ -24,7 +24,8 @@ import { workRefused } from './refused.js';
 /** An image, the block of its first sector, and what is to be made of it; and the other files that are open, if it is saved. */
 /** @typedef {{ reader: Reader, base: number, script: string, carry: boolean, opened?: OpenFile[] }} PatchWork */
 /** @typedef {import('./chosen_file.js').OpenFile} OpenFile */
-/** @typedef {{ signal: { aborted: boolean }, progress: (done: number, all: number) => void }} PatchWatch */
+/** Who watches the work; `accept` is awaited before an image that is saved is whole. */
+/** @typedef {{ signal: { aborted: boolean }, progress: (done: number, all: number) => void, accept?: () => Promise<void> }} PatchWatch */
 /**
  * The file that was saved, what the program prints, and the file's size and its SHA-1, if one was asked for.
  * @typedef {import('./pieces.js').SavedFile & { made: Patched, size: number, sha1: string }} Saved
@@ -117,7 +118,8 @@ export async function saveWork(app, { reader, base, carry, script, opened = [] }
         return async (/** @type {Take} */ take) => void made.push(await passPatched(app.calls, source, read, { base, carry, near }, take));
     };
     const hash = wanted === '' ? null : new RunningHash(app.parts);
-    const saving = { signal: watch.signal, progress: (/** @type {number} */ done) => watch.progress(done, reader.size) };
+    const { signal, accept, progress } = watch;
+    const saving = { signal, accept, progress: (/** @type {number} */ done) => progress(done, reader.size) };
     try {
         const saved = await saveImage([reader], making, name, opened, { ...saving, ...hash && comparing(hash, wanted) });
         return saved && { ...saved, made: made[0], size: reader.size, sha1: wanted };
