@@ -382,8 +382,8 @@ class States(PageTest):
         self.browser.type('#patcher-note', 'All menus and chapters 1 to 3 are in English.\nWorks with the Japanese first print (two rings on the label).')
         self.browser.wait('#panel-publish', 'all fit')
 
-    def play(self, image: bytes | None, words: str = '', script: str = '') -> None:
-        """Opens a patcher for the game, and gives it an image with its cue sheet."""
+    def play(self, image: bytes | None, words: str = '', script: str = '', with_sheet: bool = True) -> None:
+        """Opens a patcher for the game, and gives it an image, with its cue sheet or without."""
         files = self.place(game=discs.game(), english=script or discs.script())
         made = applied(files['game'], files['english'])[2]
         cue = self.sheet(files)
@@ -396,7 +396,7 @@ class States(PageTest):
         if image is None:
             return
         files['game'].write_bytes(image)
-        self.browser.give('#player-files', [cue, files['game']])
+        self.browser.give('#player-files', [*[cue] * with_sheet, files['game']])
         self.browser.wait('#verdict', words)
 
     def to_player(self) -> None:
@@ -435,6 +435,12 @@ class States(PageTest):
     def to_player_done(self) -> None:
         """It was saved, and the cue sheet is the last step."""
         self.to_player_right()
+        self.press('Patch and save')
+        self.browser.wait('#saved', 'Saved:')
+
+    def to_player_sheet(self) -> None:
+        """It was saved, and no cue sheet was chosen: one can be made, or chosen now."""
+        self.play(discs.game(), 'right disc', with_sheet=False)
         self.press('Patch and save')
         self.browser.wait('#saved', 'Saved:')
 
