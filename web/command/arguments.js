@@ -65,7 +65,7 @@ function sorted(words) {
     const names = [];
     const left = words.values();
     for (const word of left) {
-        if (word === '--') names.push(...left);
+        if (word === '--') for (const name of left) names.push(name);
         else if (word === '-' || !word.startsWith('-')) names.push(word);
         else takeOption(options, word, left);
     }

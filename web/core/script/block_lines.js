@@ -8,7 +8,7 @@ import { USER_SIZE } from '../sectors/sector.js';
 
 /** @param {ScriptLine[]} lines whose least number it is, 0 if there are none */
 function firstOf(lines) {
-    return lines.length === 0 ? 0 : Math.min(...lines.map(({ number }) => number));
+    return lines.reduce((least, { number }) => least === 0 ? number : Math.min(least, number), 0);
 }
 
 /**

@@ -90,7 +90,7 @@ export function unitsAlike(encoding, text, loose = false) {
     let [from, at] = [0, 0];
     const pushPlain = () => {
         try {
-            units.push(...encoding.units(whole.slice(from, at)));
+            for (const unit of encoding.units(whole.slice(from, at))) units.push(unit);
         } catch (error) {
             const lacking = failedBy(error, FAULT.TEXT) ? error.facts.at ?? -1 : -1;
             throw lacking < 0 ? error : lacks(encoding.name, whole, from + lacking);

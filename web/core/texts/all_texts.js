@@ -74,13 +74,13 @@ export function stretchesOf(part, files) {
  * @param {import('../jobs.js').Sharing} watch
  */
 async function textsOf(crew, { reader, order }, stretch, asked, watch) {
-    /** @type {Told[]} */
+    /** @type {Told[][]} of each range its own */
     const told = [];
     const { first, size } = stretch;
     const sectors = sliceOf(order ? order.reader : reader, first * SECTOR_SIZE, (first + sectorsOf(stretch)) * SECTOR_SIZE);
-    const take = (/** @type {Told[]} */ texts) => void told.push(...texts);
+    const take = (/** @type {Told[]} */ texts) => void told.push(texts);
     await crew.share('texts', [sectors], { ...asked, size }, { ...watch, beyond: BEYOND }, take);
-    return keptOf(told);
+    return keptOf(told.flat());
 }
 
 /**

@@ -26,7 +26,7 @@ const FEW_SPELLINGS = 16;
  * @param {Wanted} wanted
  */
 export function longestOf(wanted) {
-    return wanted.reduce((sum, unit) => sum + Math.max(...unit.map(bytes => bytes.length)), 0);
+    return wanted.reduce((sum, unit) => sum + unit.reduce((most, { length }) => Math.max(most, length), 0), 0);
 }
 
 /**
@@ -137,10 +137,9 @@ function openings(parts) {
     /** @type {number[][]} */
     const values = [];
     for (const part of parts) {
-        const lengths = part.map(bytes => bytes.length);
-        const shortest = Math.min(...lengths, MOST_OPENINGS - values.length);
+        const shortest = part.reduce((least, { length }) => Math.min(least, length), MOST_OPENINGS - values.length);
         for (let k = 0; k < shortest; k++) values.push([...new Set(part.map(bytes => bytes[k]))]);
-        if (lengths.some(length => length !== shortest)) break;
+        if (part.some(({ length }) => length !== shortest)) break;
     }
     return values;
 }

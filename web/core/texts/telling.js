@@ -49,7 +49,9 @@ function withNeighbours(bytes, sure) {
     sure.forEach((it, i) => {
         const low = all.length > 0 ? all[all.length - 1].end : 0;
         const high = i + 1 < sure.length ? sure[i + 1].start : bytes.length;
-        all.push(...textsBeside(bytes, it, low, false).reverse(), it, ...textsBeside(bytes, it, high, true));
+        for (const before of textsBeside(bytes, it, low, false).reverse()) all.push(before);
+        all.push(it);
+        for (const after of textsBeside(bytes, it, high, true)) all.push(after);
     });
     return all;
 }
