@@ -39,7 +39,7 @@ export class PathFinder {
     }
 
     /**
-     * The best path that ends after a place, from one before it on.
+     * The best path that ends after a place, from one before it on. It stays until the next one is asked for.
      * @param {Scores} scores
      * @param {Uint8Array} bytes
      * @param {number} low where it begins at the earliest
@@ -47,7 +47,7 @@ export class PathFinder {
      */
     find(scores, bytes, low, place) {
         this.origin = Math.max(low, place - BACK);
-        this.best = { start: 0, end: 0, score: 0 };
+        this.best.start = this.best.end = this.best.score = 0;
         const end = Math.min(bytes.length, this.origin + MOST);
         for (let k = 0; k < LONGEST; k++) this.begin(k);
         for (let at = this.origin; at < end; at++) {
@@ -102,7 +102,10 @@ export class PathFinder {
         this.start[k + size] = this.start[k];
         this.kind[k + size] = kind;
         this.row[k + size] = row;
-        if (sum > this.best.score && at >= place) this.best = { start: this.start[k], end: at + size, score: sum };
+        if (sum <= this.best.score || at < place) return;
+        this.best.start = this.start[k];
+        this.best.end = at + size;
+        this.best.score = sum;
     }
 
     /**

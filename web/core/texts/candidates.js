@@ -117,7 +117,9 @@ export class CandidateFinder {
         const { start, end, score } = this.paths.find(scores, bytes, Math.min(known.end, place), place);
         known.covered = Math.max(end, at + 1);
         if (score / 4 + 2 * ZERO < SURE - LESS) return null;
-        if (isPattern(scores, bytes.subarray(start, end))) {
+        // In UTF-8 the characters do not count: few other bytes are read as that.
+        const text = size === 3 ? '' : scores.encoding.text(bytes.subarray(start, end));
+        if (isPattern(scores, bytes, start, end, text)) {
             // After a picture a text may stand.
             known.covered = Math.min(known.covered, at + MOST_EXTENSION);
             return null;
@@ -128,8 +130,8 @@ export class CandidateFinder {
         const before = reached.start === 0 || isZero(scores, bytes, reached.start - (wide ? 2 : 1));
         const zeros = Number(before) + Number(isZero(scores, bytes, reached.end));
         const bits = score / 4 + ZERO * zeros - (wide && reached.start % 2 === 1 ? ODD : 0);
-        const isText = bits >= SURE - LESS && (zeros === 2 || !goesOneWay(scores, bytes.subarray(start, end)));
-        return isText ? { ...reached, score: bits, scores, zeros, near: false } : null;
+        const isText = bits >= SURE - LESS && (zeros === 2 || !goesOneWay(scores, text));
+        return isText ? { start: reached.start, end: reached.end, score: bits, scores, zeros, near: false } : null;
     }
 }
 
@@ -144,25 +146,41 @@ export function isZero({ wide, encoding: { end = 0 } }, bytes, at) {
 }
 
 /**
- * Whether bytes are those of a picture, or the same characters over and over. In UTF-8 they may be: few other bytes are read as that.
+ * Whether bytes are those of a picture, or the same characters over and over. In UTF-8 they may be.
  * @param {Scores} scores
  * @param {Uint8Array} bytes
+ * @param {number} start
+ * @param {number} end
+ * @param {string} text of the bytes from there to there
  */
-function isPattern({ size, own, encoding }, bytes) {
+function isPattern({ size, own }, bytes, start, end, text) {
     if (size === 3) return false;
-    const steps = bytes.reduce((sum, byte, i) => i > 0 ? sum + Math.abs(byte - bytes[i - 1]) : 0, 0);
-    const text = encoding.text(bytes).slice(0, MOST_COMPARED);
-    return (!own && steps < SMOOTH * (bytes.length - 1)) || (text.length >= LEAST_COMPARED && new Set(text).size < DISTINCT * text.length);
+    let steps = 0;
+    for (let at = start + 1; at < end; at++) steps += Math.abs(bytes[at] - bytes[at - 1]);
+    const compared = text.slice(0, MOST_COMPARED);
+    return (!own && steps < SMOOTH * (end - start - 1))
+        || (compared.length >= LEAST_COMPARED && differentIn(compared) < DISTINCT * compared.length);
+}
+
+/** @param {string} text a short one, whose different characters are counted: a set takes three times as long */
+function differentIn(text) {
+    /** @type {number[]} */
+    const seen = [];
+    for (let at = 0; at < text.length; at++) {
+        const code = text.codePointAt(at) || 0;
+        if (code > 0xFFFF) at += 1;
+        if (!seen.includes(code)) seen.push(code);
+    }
+    return seen.length;
 }
 
 /**
- * Whether bytes are those of a table, in which each character comes after the one before it in Unicode, or before it.
+ * Whether a text is a table, in which each character comes after the one before it in Unicode, or before it.
  * @param {Scores} scores
- * @param {Uint8Array} bytes
+ * @param {string} text
  */
-function goesOneWay({ size, own, encoding }, bytes) {
+function goesOneWay({ size, own }, text) {
     if (size === 3 || own) return false;
-    const text = encoding.text(bytes);
     const ups = Array.from(text).filter((character, i) => i > 0 && character > text[i - 1]).length;
     const steps = text.length - 1;
     return steps >= LEAST_STEPS && Math.min(ups, steps - ups) <= Math.floor(steps / STEPS);

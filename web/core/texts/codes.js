@@ -6,6 +6,9 @@ import { bytesOfHex, hexText } from './hex.js';
 
 /** @typedef {import('./encoding.js').Encoding} Encoding */
 
+/** What stands as a code: what no character is, or one that can't be seen; and a brace. */
+const CODED = /[\p{C}\u2028\u2029\uFFFD{}]/u;
+
 const CODE = /\{((?:[0-9A-Fa-f]{2})+)\}/;
 
 /**
@@ -23,9 +26,11 @@ export function unitsOfCell(encoding, cell) {
  * @param {Uint8Array} bytes
  */
 export function cellOf(encoding, bytes) {
+    const whole = encoding.text(bytes);
+    if (!CODED.test(whole) && !whole.startsWith('"')) return whole;
     const parts = [];
     for (const { at, size, text } of charactersFrom(encoding, bytes)) {
-        const plain = !/[\p{C}\u2028\u2029\uFFFD{}]/u.test(text) && !(at === 0 && text === '"');
+        const plain = !CODED.test(text) && !(at === 0 && text === '"');
         parts.push(plain ? text : `{${hexText(bytes.subarray(at, at + size))}}`);
     }
     return parts.join('');

@@ -107,13 +107,14 @@ function rowOf(number, cell) {
  * @param {Encoding} encoding
  * @param {Uint8Array} bytes
  * @param {number} from where the text ends in them
+ * @param {number} [to] where the next one begins
  */
-export function fillingAfter(encoding, bytes, from) {
+export function fillingAfter(encoding, bytes, from, to = bytes.length) {
     const value = bytes[from];
+    if (from >= to || !FILLING.includes(value)) return 0;
     const { length: unit } = spaceIn(encoding) || [0];
-    if (!FILLING.includes(value)) return 0;
     let end = from;
-    while (end < bytes.length && bytes[end] === value) end += 1;
+    while (end < to && bytes[end] === value) end += 1;
     const count = end - from - (value === (encoding.end || 0) ? unit : 0);
     return Math.max(count - count % unit, 0);
 }

@@ -48,16 +48,18 @@ export function textsOfRange(sectors, first, { count, size, ...asked }) {
     const bytes = userOfRange(sectors).subarray(0, size - shift);
     const [from, to] = [first === 0 ? 0 : BESIDE * USER_SIZE, (count + BESIDE) * USER_SIZE];
     const texts = tellerOf(asked).tell(bytes);
-    return texts.flatMap(({ start, end, scores, score, near }, i) => {
-        if (start < from || start >= to) return [];
+    /** @type {Told[]} */
+    const told = [];
+    texts.forEach(({ start, end, scores, score, near }, i) => {
+        if (start < from || start >= to) return;
         let next = i + 1;
         while (next < texts.length && texts[next].scores !== scores) next += 1;
-        const free = bytes.subarray(0, next < texts.length ? texts[next].start : bytes.length);
         const { encoding } = scores;
-        const room = end - start + fillingAfter(encoding, free, end);
+        const room = end - start + fillingAfter(encoding, bytes, end, next < texts.length ? texts[next].start : bytes.length);
         const text = cellOf(encoding, bytes.subarray(start, end));
-        return [{ start: start + shift, end: end + shift, room, scores: encoding.name, score, near, text }];
+        told.push({ start: start + shift, end: end + shift, room, scores: encoding.name, score, near, text });
     });
+    return told;
 }
 
 /**

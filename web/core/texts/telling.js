@@ -34,7 +34,7 @@ export class TextTeller {
     tell(bytes) {
         const aligned = bytes.byteOffset % 4 === 0 ? bytes : Uint8Array.from(bytes);
         const sure = acceptedOf(withoutOverlaps(this.finder.find(aligned)));
-        return withNeighbours(aligned, sure).flatMap(it => chainOf(aligned, it));
+        return withNeighbours(aligned, sure).flatMap(it => chainOf(aligned, it) || it);
     }
 }
 
@@ -158,20 +158,20 @@ function textsBeside(bytes, { start, end, scores }, limit, isAfter) {
 }
 
 /**
- * The texts of a chain in which the length of each stands before it, or the text itself.
+ * The texts of a chain in which the length of each stands before it, or null if it is none.
  * @param {Uint8Array} bytes
  * @param {Candidate} text
  */
-function chainOf(bytes, text) {
-    if (text.scores.wide) return [text];
-    for (const from of [text.start - 1, text.start]) {
+function chainOf(bytes, { start, end, score, scores, zeros, near }) {
+    if (scores.wide) return null;
+    for (let from = start - 1; from <= start; from++) {
+        let [at, count] = [from, 0];
+        for (; at >= 0 && at < end && bytes[at] >= 2; at += 1 + bytes[at]) count += 1;
+        if (at !== end || count < 2) continue;
+        /** @type {Candidate[]} */
         const parts = [];
-        let at = from;
-        while (at >= 0 && at < text.end && bytes[at] >= 2) {
-            parts.push({ ...text, start: at + 1, end: at + 1 + bytes[at] });
-            at += 1 + bytes[at];
-        }
-        if (at === text.end && parts.length > 1) return parts;
+        for (at = from; at < end; at += 1 + bytes[at]) parts.push({ start: at + 1, end: at + 1 + bytes[at], score, scores, zeros, near });
+        return parts;
     }
-    return [text];
+    return null;
 }
