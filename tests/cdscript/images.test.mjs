@@ -188,6 +188,19 @@ test('dumps that begin or end elsewhere repair the blocks that both have', () =>
     sameFile(read(room, 'all'), good, 'the repaired image');
 }));
 
+test('damage with the same bytes in all dumps is named, as far as they have the block', () => inDirectory(async room => {
+    const good = imageOf(room, 300, 30);
+    const shared = [[40, 500], [41, 100], [60, 77], [327, 100], ...Array.from({ length: 12 }, (_, i) => [100 + 3 * i, 50])];
+    write(room, { old: damaged(good, 30, ...shared, [31, 100]), first: damaged(good, 30, ...shared, [60, 78]),
+        second: damaged(good, 30, ...shared).subarray(0, 2352 * 295), other: damaged(good, 30, [40, 500], [327, 101]).subarray(0, 2352 * 200) });
+    const { status, out, errors } = await run(['merge', 'old', 'first', 'second', 'out'], { cwd: room });
+    assert.deepEqual([status, errors], [1, 'cdscript: second has only blocks 30 to 324 of old\n']);
+    assert.deepEqual(out.split('\n').slice(-3), ['alike 15, damaged with the same bytes in all dumps: ' +
+        'blocks 40 to 41, 100, 103, 106, 109, 112, 115, 118, 121, 124 and 4 more', 'taken 1 damaged 16 disputed 0 different 0', '']);
+    const less = await run(['merge', 'old', 'other', 'less'], { cwd: room });
+    assert.deepEqual(less.out.split('\n').slice(-3), ['alike 1, damaged with the same bytes in all dumps: block 40', 'taken 15 damaged 2 disputed 0 different 0', '']);
+}));
+
 test('what no repair takes', () => inDirectory(async room => {
     const good = imageOf(room, 300, 30);
     write(room, { old: damaged(good, 30, [40, 100]), later: imageOf(room, 300, 330) });

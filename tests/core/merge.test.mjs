@@ -101,9 +101,11 @@ test('no sector of a damaged other image is taken, and the same damage in all is
     for (const i of [1, 3, 4]) old.set(CHANGES.damaged(sectorAt(image, i), diceOf(i)), RAW * i);
     const other = old.slice();
     other.set(CHANGES.damaged(sectorAt(image, 3), diceOf(99)), RAW * 3);
-    const { pieces, taken, damaged } = await merged([old, other]);
-    assert.deepEqual([taken, damaged], 
-        [[], [{ first: BASE + 1, last: BASE + 1, elsewhere: false }, { first: BASE + 3, last: BASE + 4, elsewhere: false }]]);
+    const { pieces, taken, damaged, alike } = await merged([old, other]);
+    const runOf = (first, last) => ({ first: BASE + first, last: BASE + last });
+    assert.deepEqual([taken, damaged], [[], [{ ...runOf(1, 1), elsewhere: false }, { ...runOf(3, 4), elsewhere: false }]]);
+    assert.deepEqual(alike, [runOf(1, 1), runOf(4, 4)]);
+    assert.deepEqual([(await merged([old, old, other], { step: 1 })).alike, (await merged([old])).alike], [[runOf(1, 1), runOf(4, 4)], []]);
     assert.deepEqual(pieces, [{ from: 0, to: old.length }]);
 });
 

@@ -25,15 +25,19 @@ const BLOCKS_WITH_ADDRESS = LAST_BASE + 1;
 const OTHER_EDC = "OLD has a different EDC: perhaps another version";
 const TAILS = 'the bytes after the last sector differ';
 
+/** Of the places with the same damage in all dumps so many are named, since each stands among those that are damaged in all. */
+const MOST_ALIKE = 10;
+
 /**
  * What was taken, and what could not be repaired, in lines.
  * @param {Repair} repair
  * @param {DiscImage[]} others
  * @param {BlockRun[]} holes
  */
-function repairLines({ taken, damaged, disputed, differing, different }, others, holes) {
+function repairLines({ taken, damaged, alike, disputed, differing, different }, others, holes) {
     const numbers = [taken, damaged, disputed].map(blocksIn).concat(different.reduce((sum, count) => sum + count, 0));
     const inBoth = differing.flatMap((runs, other) => runs.map(run => ({ ...run, other })));
+    const sameDamage = `alike ${blocksIn(alike)}, damaged with the same bytes in all dumps:`;
     const notTaken = { true: 'sound only with the address of another block', false: 'damaged in all' };
     return [
         ...linesOfRuns(taken, ({ first, last, other }) => `${first}-${last} from ${others[other].name}`),
@@ -41,6 +45,7 @@ function repairLines({ taken, damaged, disputed, differing, different }, others,
         ...linesOfRuns(holes, ({ first, last }) => `${first}-${last} not mode1 in any`),
         ...linesOfRuns(disputed, ({ first, last }) => `${first}-${last} sound in several, but different there`),
         ...linesOfRuns(inBoth, ({ first, last, other }) => `${first}-${last} sound in ${others[other].name} too, but different there`),
+        ...alike.length > 0 ? [`${sameDamage} ${blocksText(alike, MOST_ALIKE)}`] : [],
         `taken ${numbers[0]} damaged ${numbers[1]} disputed ${numbers[2]} different ${numbers[3]}`,
     ];
 }

@@ -20,11 +20,12 @@ import { tailsDiffer } from './compare.js';
 /**
  * What is found in blocks: those whose sectors are taken, by runs that come of one other image each; of these the `doubtful` ones, whose
  * EDC and data are others in the damaged sector; those that are repaired by no image, `elsewhere` if one has a sound sector there with
- * the address of another block; the taken ones in which other images are sound too and differ; and of each other image
+ * the address of another block; of these the ones that are `alike`, the same bytes in all images that have the block; the taken ones in
+ * which other images are sound too and differ; and of each other image
  * those in which it is sound and differs from a sound sector, how many these are, and how many are the `same` bytes; and the `others`,
  * which are Mode 1 in no image.
- * @typedef {{ taken: RunOf[], doubtful: RunOf[], damaged: (Run & { elsewhere: boolean })[], disputed: Run[], differing: Run[][],
- *     different: number[], same: number[], others: Run[] }} Found
+ * @typedef {{ taken: RunOf[], doubtful: RunOf[], damaged: (Run & { elsewhere: boolean })[], alike: Run[], disputed: Run[],
+ *     differing: Run[][], different: number[], same: number[], others: Run[] }} Found
  */
 /** @typedef {Found & { sectors: Uint8Array, end: number }} Merged with the sectors that are taken, and the block after the range */
 /**
@@ -73,11 +74,22 @@ export function mergeRange(calls, [old, ...others], first, { shift }) {
             if (candidates.some(it => differingSectors(sector, it.sector).length > 0)) addToRuns(found.disputed, runOf(block));
         } else if ([records, ...otherRecords].some(it => it[at + RECORD.KIND] === SECTOR_KIND.MODE1)) {
             addToRuns(found.damaged, { ...runOf(block), elsewhere: sound.length > 0 });
+            if (isAlike(old, others, i)) addToRuns(found.alike, runOf(block));
         } else {
             addToRuns(found.others, runOf(block));
         }
     }
     return { ...found, sectors: joinedBytes(sectors), end: first + count };
+}
+
+/**
+ * Whether the i-th sector has the same bytes in all images, of which there are several.
+ * @param {Uint8Array} old
+ * @param {Uint8Array[]} others
+ * @param {number} i
+ */
+function isAlike(old, others, i) {
+    return others.length > 0 && others.every(other => differingSectors(sectorOf(old, i), sectorOf(other, i)).length === 0);
 }
 
 /**
@@ -136,7 +148,7 @@ function isHome(calls, address, block) {
 function nothingFound(others) {
     const differing = Array.from({ length: others }, () => []);
     const [different, same] = [0, 0].map(none => new Array(others).fill(none));
-    return { taken: [], doubtful: [], damaged: [], disputed: [], differing, different, same, others: [] };
+    return { taken: [], doubtful: [], damaged: [], alike: [], disputed: [], differing, different, same, others: [] };
 }
 
 /**
@@ -217,10 +229,11 @@ function assertCommon(old, other, { from, to }) {
  * @param {Merged} answer
  * @param {number[]} present the numbers of the other images that the range has
  */
-function addAnswer(found, { taken, doubtful, damaged, disputed, differing, different, same, others }, present) {
+function addAnswer(found, { taken, doubtful, damaged, alike, disputed, differing, different, same, others }, present) {
     for (const run of taken) addToRuns(found.taken, { ...run, other: present[run.other] });
     for (const run of doubtful) addToRuns(found.doubtful, { ...run, other: present[run.other] });
     for (const run of damaged) addToRuns(found.damaged, run);
+    for (const run of alike) addToRuns(found.alike, run);
     for (const run of disputed) addToRuns(found.disputed, run);
     for (const run of others) addToRuns(found.others, run);
     differing.forEach((runs, i) => runs.forEach(run => addToRuns(found.differing[present[i]], run)));
