@@ -21,6 +21,9 @@ const sheet = name => `FILE "${name}" BINARY\n TRACK 01 MODE1/2352\n INDEX 01 00
 const datOf = files => `<?xml version="1.0"?>\n<datafile>${Object.entries(files).map(([name, bytes]) =>
     `<game name="G"><rom name="${name}" size="${bytes.length}" sha1="${shaOf(bytes)}"/></game>`).join('\n')}</datafile>\n`;
 
+/** A row as it is if no list of dumps was given. */
+const withoutDat = row => row.replace(/[^\t]*$/, '-');
+
 /** Forty images, some of them damaged, in two directories, half of them with cue sheets; a DAT of them whole; and the rows that are due. */
 function writeCollection(room) {
     const image = imageOf(room, 60);
@@ -36,7 +39,7 @@ function writeCollection(room) {
         write(join(room, directory), { [name]: dumped });
         if (i % 2 === 0) write(join(room, directory), { [name.replace('.bin', '.cue')]: sheet(name) });
         const [damage, elsewhere] = i % 4 === 1 ? [2, 0] : i % 4 === 2 ? [1, 1] : [0, 0];
-        rows.push([`${directory}/${name}`, `mode1 ${20 + i}`, damage, damage + elsewhere, elsewhere, shaOf(dumped), places.length > 0 ? '-' : `verified ${name}`].join('\t'));
+        rows.push([`${directory}/${name}`, `mode1 ${20 + i}`, damage, damage + elsewhere, elsewhere, shaOf(dumped), places.length > 0 ? 'not in the DAT' : `verified ${name}`].join('\t'));
     }
     write(room, { 'all.dat': datOf(whole), 'one/notes.txt': 'no image' });
     return rows;
@@ -50,7 +53,7 @@ test('a scan tells each image of a collection once, with what a list of dumps kn
     assert.deepEqual([status, out.split('\n').filter(Boolean).sort(), errors], [1, rows, 'cdscript: files that are no raw images: 1\n']);
     const some = await run(['scan', 'one/game 00.cue', 'two/game 23.bin', '-o', 'list'], { cwd: room });
     assert.deepEqual([some.status, some.out], [0, '']);
-    assert.deepEqual(read(room, 'list').toString(), [rows[0], rows[23]].map(row => `${row.replace(/\tverified.*/, '\t-')}\n`).join(''));
+    assert.deepEqual(read(room, 'list').toString(), [rows[0], rows[23]].map(row => `${withoutDat(row)}\n`).join(''));
 }));
 
 test('in a directory what is called like a raw image, and is none, is named', () => inDirectory(async room => {
@@ -76,7 +79,7 @@ test('what could not be read is named, and the status is 2', () => inDirectory(a
 }));
 
 test('a list goes on where it was interrupted, and tells nothing twice', () => inDirectory(async room => {
-    const rows = writeCollection(room).map(row => row.replace(/\tverified.*/, '\t-'));
+    const rows = writeCollection(room).map(withoutDat);
     // A run that was killed has left whole lines and the beginning of one.
     write(room, { list: `${rows[30]}\n${rows[3]}\n${rows[7].slice(0, 20)}` });
     const { status, out } = await run(['scan', 'one', 'two', '--resume', 'list'], { cwd: room });
@@ -85,6 +88,29 @@ test('a list goes on where it was interrupted, and tells nothing twice', () => i
     assert.deepEqual([lines.slice(0, 2), [...lines].sort()], [[rows[30], rows[3]], rows]);
     const again = await run(['scan', 'one', 'two', '--resume', 'list'], { cwd: room });
     assert.deepEqual([again.status, read(room, 'list').toString().split('\n').filter(Boolean).sort()], [1, rows]);
+}));
+
+test('an image that is cut is marked, and the last column says whether there was a list of dumps', () => inDirectory(async room => {
+    const [image, track] = [imageOf(room, 20), Buffer.alloc(2352 * 4 + 7, 3)];
+    write(room, { 'a.bin': image, 'cut.bin': image.subarray(0, -1000), 'hurt.bin': damaged(image.subarray(0, -1), 0, [3, 100]), 'track.bin': track,
+        'disc.cue': 'FILE "track.bin" BINARY\n TRACK 01 AUDIO\n INDEX 01 00:00:00\n', 'a.dat': datOf({ 'A.bin': image }) });
+    const names = ['a.bin', 'cut.bin', 'hurt.bin', 'disc.cue'];
+    const columns = async words => {
+        const { status, out } = await run(['scan', ...names, ...words], { cwd: room });
+        const rows = out.split('\n').filter(Boolean).sort().map(row => row.split('\t'));
+        return [status, rows.map(row => row.filter((_, i) => i !== 0 && i !== 5))];
+    };
+    const kinds = [['mode1 20', '0', '0', '0'], ['mode1 19,tail 1352', '0', '1', '0'], ['mode1 19,tail 2351', '1', '2', '0'], ['audio,tail 7', '0', '1', '0']];
+    assert.deepEqual(await columns([]), [1, kinds.map(row => [...row, '-'])]);
+    const known = ['verified A.bin', 'not in the DAT', 'not in the DAT', 'not in the DAT'];
+    assert.deepEqual(await columns(['--dat', 'a.dat']), [1, kinds.map((row, i) => [...row, known[i]])]);
+    // An earlier version has written `-` for what is not in the list of dumps, and its lists name no tail.
+    const [earlier] = (await run(['scan', 'cut.bin'], { cwd: room })).out.split('\n');
+    write(room, { list: `${earlier.replace(',tail 1352\t0\t1', '\t0\t0')}\n` });
+    assert.equal((await run(['scan', 'a.bin', 'cut.bin', '--dat', 'a.dat', '--resume', 'list'], { cwd: room })).status, 0);
+    assert.deepEqual(read(room, 'list').toString().split('\n').map(row => row.split('\t').slice(-1)[0]), ['-', 'verified A.bin', '']);
+    for (let i = 0; i < 2; i++) assert.equal((await run(['scan', ...names, '--dat', 'a.dat', '--resume', 'list'], { cwd: room })).status, 1);
+    assert.equal(read(room, 'list').toString().split('\n').length, 5);
 }));
 
 test('a file that is no list is not gone on with, and stays as it is', () => inDirectory(async room => {
@@ -115,7 +141,7 @@ test('of a sheet of which the list has some files the others are told', () => in
 }));
 
 test('a killed scan goes on', () => inDirectory(async room => {
-    const rows = writeCollection(room).map(row => row.replace(/\tverified.*/, '\t-'));
+    const rows = writeCollection(room).map(withoutDat);
     const listed = () => (read(room, 'list') || '').toString().split('\n').filter(Boolean);
     for (const most of [5, 15, Infinity]) {
         const child = spawn(process.execPath, ['-r', preload, command, 'scan', 'one', 'two', '--resume', 'list'],

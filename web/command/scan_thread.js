@@ -5,6 +5,7 @@ import { natureOf } from '../core/disc/file_type.js';
 import { Fault } from '../core/faults.js';
 import { kindName } from '../core/module/records.js';
 import { blocksIn } from '../core/sectors/runs.js';
+import { SECTOR_SIZE } from '../core/sectors/sector.js';
 import { kindRuns } from '../core/sectors/survey.js';
 import { Files } from './files.js';
 import { openDiscOf } from './opening.js';
@@ -23,16 +24,18 @@ import { foundInFiles } from './surveying.js';
 const SILENT = /** @type {import('./stdout.js').Messages} */ (/** @type {unknown} */ ({ say() {}, progress() {}, hideProgress() {} }));
 
 /**
- * How many sectors of which kind there are, as 'mode1 20,nosync 3'.
+ * How many sectors of which kind there are, as 'mode1 20,nosync 3', and how many bytes after the last whole one, as ',tail 100'.
  * @param {FileFound['surveys']} surveys
+ * @param {number} tail
  */
-function kindsText(surveys) {
+function kindsText(surveys, tail) {
     /** @type {Map<number, number>} */
     const counts = new Map();
     for (const { survey } of surveys) {
         for (const { first, last, kind } of kindRuns(survey)) counts.set(kind, (counts.get(kind) || 0) + last - first + 1);
     }
-    return [...counts].sort(([a], [b]) => b - a).map(([kind, count]) => `${kindName(kind)} ${count}`).join(',') || 'audio';
+    const kinds = [...counts].sort(([a], [b]) => b - a).map(([kind, count]) => `${kindName(kind)} ${count}`);
+    return [...kinds.length > 0 ? kinds : ['audio'], ...tail > 0 ? [`tail ${tail}`] : []].join(',');
 }
 
 /**
@@ -42,8 +45,9 @@ function kindsText(surveys) {
 function scanned({ file: { name, reader }, sha1, surveys }) {
     const sum = (/** @type {(it: FileFound['surveys'][0]) => number} */ of) => surveys.reduce((all, it) => all + of(it), 0);
     const [damaged, elsewhere] = [sum(it => it.damaged), sum(it => it.elsewhere)];
-    const findings = damaged + elsewhere + sum(it => blocksIn(it.holes));
-    return { name, size: reader.size, sha1, kinds: kindsText(surveys), damaged, findings, elsewhere };
+    const tail = reader.size % SECTOR_SIZE;
+    const findings = damaged + elsewhere + sum(it => blocksIn(it.holes)) + Number(tail > 0);
+    return { name, size: reader.size, sha1, kinds: kindsText(surveys, tail), damaged, findings, elsewhere };
 }
 
 /**

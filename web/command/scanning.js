@@ -20,6 +20,10 @@ import { begunThread } from './threads.js';
 /** @typedef {import('./scan_thread.js').Scanned} Scanned */
 /** @typedef {{ scan(name: string): Promise<Answer>, close(): void }} Scanner */
 
+/** What stands in the last column if no DAT was given, and if none of its dumps is the file. */
+const NO_DAT = '-';
+const NOT_IN_DAT = 'not in the DAT';
+
 /** What is looked at, each once: by the paths that were given, directories and all below them in the order of their names. */
 class Collection {
     /** @param {(text: string) => void} fault */
@@ -138,8 +142,8 @@ class Scan {
 
     /** @param {Scanned} file */
     line({ name, kinds, damaged, findings, elsewhere, size, sha1 }) {
-        const said = this.known && this.known.said(size, sha1);
-        return [listedName(name), kinds, damaged, findings, elsewhere, sha1, said ? listedName(said) : '-'].join('\t');
+        const said = this.known === null ? NO_DAT : this.known.said(size, sha1) || NOT_IN_DAT;
+        return [listedName(name), kinds, damaged, findings, elsewhere, sha1, listedName(said)].join('\t');
     }
 
     /**
