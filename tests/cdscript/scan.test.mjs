@@ -21,6 +21,10 @@ const sheet = name => `FILE "${name}" BINARY\n TRACK 01 MODE1/2352\n INDEX 01 00
 const datOf = files => `<?xml version="1.0"?>\n<datafile>${Object.entries(files).map(([name, bytes]) =>
     `<game name="G"><rom name="${name}" size="${bytes.length}" sha1="${shaOf(bytes)}"/></game>`).join('\n')}</datafile>\n`;
 
+/** What is said of what is not in a DAT. */
+const ONLY_SIZE = 'the DAT has a dump of this size, but none with this SHA-1: perhaps another dump of the disc repairs it';
+const NOT_EVEN_SIZE = 'the DAT has no dump of this size: perhaps it is cut, or of another disc';
+
 /** A row as it is if no list of dumps was given. */
 const withoutDat = row => row.replace(/[^\t]*$/, '-');
 
@@ -203,12 +207,17 @@ test('info and merge say whether a dump is known', () => inDirectory(async room 
         'two.dat': datOf({ 'The Game (Japan).bin': image }) });
     const dats = ['--dat', 'one.dat', '--dat=two.dat'];
     assert.match((await run(['info', 'good.bin', ...dats], { cwd: room })).out, /\nfile good\.bin .*\nverified The Game \(Japan\)\.bin\ntrack /);
-    assert.match((await run(['info', 'a.bin', ...dats], { cwd: room })).out, /\nno dump of this size and SHA-1 is in the DAT\n/);
+    assert.match((await run(['info', 'a.bin', ...dats], { cwd: room })).out, new RegExp(`\n${ONLY_SIZE}\n`));
+    write(room, { 'cut.bin': image.subarray(0, -1000) });
+    assert.match((await run(['info', 'cut.bin', ...dats], { cwd: room })).out, new RegExp(`\n${NOT_EVEN_SIZE}\n`));
     const merged = await run(['merge', 'a.bin', 'b.bin', 'out', ...dats], { cwd: room });
     assert.deepEqual([merged.status, merged.errors], [0, 'cdscript: out: verified The Game (Japan).bin\n']);
     sameFile(read(room, 'out'), image, 'the repaired image');
     const other = await run(['merge', 'a.bin', 'b.bin', 'new', '--dat', 'one.dat'], { cwd: room });
-    assert.deepEqual([other.status, other.errors], [0, `cdscript: new: no dump of this size and SHA-1 is in the DAT: ${shaOf(image)}\n`]);
+    assert.deepEqual([other.status, other.errors], [0, `cdscript: new: ${NOT_EVEN_SIZE}; its SHA-1 is ${shaOf(image)}\n`]);
+    const hurt = damaged(image, 0, [3, 100]);
+    const same = await run(['merge', 'a.bin', 'a.bin', 'same', ...dats], { cwd: room });
+    assert.deepEqual([same.status, same.errors], [1, `cdscript: same: ${ONLY_SIZE}; its SHA-1 is ${shaOf(hurt)}\n`]);
     write(room, { 'bad.dat': '<datafile><x>&y;</x><rom name="&y;"/></datafile>' });
     const bad = await run(['merge', 'a.bin', 'b.bin', 'third', '--dat', 'bad.dat'], { cwd: room });
     assert.deepEqual([bad.status, bad.errors, existsSync(join(room, 'third'))], [2, 'cdscript: bad.dat: it has the entity &y;, which a DAT does not have\n', false]);

@@ -37,6 +37,8 @@ test('several lists are one', async () => {
     const dumps = await known(datOf(rom('first.bin')));
     await dumps.add(cut(encoded(datOf(rom('second.bin'), `<game name="H"><rom name="third.bin" size="9" sha1="${SHA}"/></game>`)), 1000));
     assert.deepStrictEqual([dumps.said(7, SHA), dumps.said(9, SHA)], ['verified first.bin', 'verified third.bin']);
+    const [has, hasNot] = ['has a dump of this size, but none with this SHA-1', 'has no dump of this size'];
+    for (const [size, due] of [[7, has], [9, has], [5, hasNot], [8, hasNot]]) assert.match(dumps.saidOfOther(size), new RegExp(`^the DAT ${due}: `));
 });
 
 const HOSTILE = {

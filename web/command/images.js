@@ -77,8 +77,8 @@ export async function mergeJob(run) {
     await run.output.write(bytesOfLines(repairLines(repair, others, holes).map(visible)));
     sayLong(run, long);
     if (known && hash) {
-        const sha1 = hash.digest('hex');
-        run.say(`${out.name}: ${known.said(image.reader.size, sha1) || `no dump of this size and SHA-1 is in the DAT: ${sha1}`}`);
+        const [size, sha1] = [image.reader.size, hash.digest('hex')];
+        run.say(`${out.name}: ${known.said(size, sha1) || `${known.saidOfOther(size)}; its SHA-1 is ${sha1}`}`);
     }
     sayOfRuns(run, repair.doubtful, it => `${blocksText([it])}: taken from ${others[it.other].name}, but ${OTHER_EDC}`);
     return Number(repair.damaged.length > 0 || repair.doubtful.length > 0 || holes.length > 0);

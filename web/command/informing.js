@@ -15,8 +15,6 @@ import { foundInFiles } from './surveying.js';
 /** @typedef {{ found: boolean, lines: string[] }} Informed whether something is wrong, and what is printed */
 /** @typedef {import('./surveying.js').FileFound} FileFound */
 
-const NOT_KNOWN = 'no dump of this size and SHA-1 is in the DAT';
-
 const WITH_CDSCRIPT = '`cdscript raw` makes the raw image, and `cdscript user` the ISO image.';
 
 /** What is said of an empty standard input; node puts an empty file there if it is closed. */
@@ -69,7 +67,7 @@ async function discLines(run) {
     const tracks = disc.tracks.map(track => trackText(disc, track));
     const found = await foundInFiles(run, disc);
     const files = found.flatMap(({ file: { name, reader }, sha1 }) =>
-        [`file ${name} bytes ${reader.size} sha1 ${sha1}`, ...known ? [known.said(reader.size, sha1) || NOT_KNOWN] : []]);
+        [`file ${name} bytes ${reader.size} sha1 ${sha1}`, ...known ? [known.said(reader.size, sha1) || known.saidOfOther(reader.size)] : []]);
     const surveys = found.flatMap(it => it.surveys);
     const lines = surveys.flatMap(it => {
         const [first, ...more] = surveyLines(run, it);

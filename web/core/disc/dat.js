@@ -2,12 +2,15 @@
 
 import { Fault } from '../faults.js';
 
-/** @typedef {{ name: string, isBad: boolean }} Dump `isBad` if the DAT says that it is a bad one */
+/** @typedef {{ name: string, size: number, isBad: boolean }} Dump `isBad` if the DAT says that it is a bad one */
 
 const LONGEST_TAG = 1 << 14;
 const LONGEST_NAME = 512;
 const DEEPEST_ELEMENT = 16;
 const MOST_DUMPS = 400000;
+
+const ONLY_SIZE = 'the DAT has a dump of this size, but none with this SHA-1: perhaps another dump of the disc repairs it';
+const NOT_EVEN_SIZE = 'the DAT has no dump of this size: perhaps it is cut, or of another disc';
 
 /** @type {Record<string, string>} */
 const ENTITIES = { amp: '&', lt: '<', gt: '>', quot: '"', apos: "'" };
@@ -117,7 +120,7 @@ class DatReading {
         if (this.dumps.size >= MOST_DUMPS) throw new Fault(`there are more than ${MOST_DUMPS} dumps`);
         this.found += 1;
         const key = dumpKey(Number(size), sha1.toLowerCase());
-        if (!this.dumps.has(key)) this.dumps.set(key, { name: copied(name), isBad: attributes.get('status') === 'baddump' });
+        if (!this.dumps.has(key)) this.dumps.set(key, { name: copied(name), size: Number(size), isBad: attributes.get('status') === 'baddump' });
     }
 
     end() {
@@ -172,5 +175,14 @@ export class KnownDumps {
         const dump = this.find(size, sha1);
         if (!dump) return null;
         return `${dump.isBad ? 'known as a bad dump:' : 'verified'} ${dump.name}`;
+    }
+
+    /**
+     * What is said of a file that is none of the dumps: whether one has its size, from which follows what to try next.
+     * @param {number} size
+     */
+    saidOfOther(size) {
+        for (const dump of this.dumps.values()) if (dump.size === size) return ONLY_SIZE;
+        return NOT_EVEN_SIZE;
     }
 }
