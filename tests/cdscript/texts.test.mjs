@@ -137,6 +137,15 @@ test('a text over a border of what is read at once is found once', () => inDirec
     assert.deepEqual(rowsOf(out).map(row => row.slice(0, 3)), [['0', '100', '30'], ['4095', '2039', '30']]);
 }));
 
+test('more short texts than a call takes arguments are all found', () => inDirectory(async room => {
+    const [text] = eachEncoded(['はい'], 'CP932');
+    write(room, { 'dense.iso': Buffer.alloc(2048 * 350, Buffer.concat([text, Buffer.alloc(1)])) });
+    await run(['raw', 'dense.iso', 'image'], { cwd: room });
+    const { status, out, errors } = await run(['texts', 'image'], { cwd: room });
+    assert.deepEqual([status, errors.split('\n').slice(-2)], [0, ['cdscript: texts 143360', '']]);
+    assert.deepEqual([out.split('\n').length, out.split('\n')[143360]], [143362, '349\t2043\t4\t4\tCP932\t-\tはい\t']);
+}));
+
 test('where no text is, none is found; and what cannot be searched is named', t => inDirectory(async room => {
     write(room, { 'noise.iso': Buffer.concat([noises()['RANDOM.BIN'], noises()['SOUND.BIN']]) });
     await run(['raw', 'noise.iso', 'image'], { cwd: room });

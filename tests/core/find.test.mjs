@@ -7,6 +7,7 @@ import { rawOf } from './discs.mjs';
 const { findIn, joinFound, sectorsBeyond } = await core('texts/find.js');
 const { encodingOf, tableOf } = await core('texts/encodings.js');
 const { encodeText } = await core('texts/encoding.js');
+const { unitsAlike } = await core('texts/alike.js');
 
 const RAW = 2352;
 const USER = 2048;
@@ -172,6 +173,17 @@ test('several texts at once have the hits that each has by itself', () => {
         assert.deepStrictEqual(findIn(raw, 30, { texts, ...how }), due);
         assert.ok(due.every(({ count }) => count > 0));
     }
+});
+
+test('a text of more characters than a call takes arguments, and one with as many spellings, are found', () => {
+    const user = new Uint8Array(100 * USER).fill(0x61, 5, 150005).fill(0x62, 5, 6);
+    const long = unitsAlike(encodingOf('CP932'), `b${'a'.repeat(149999)}`);
+    assert.deepStrictEqual(findOne(rawOf(user), 0, { wanted: long, count: 1, limit: 5 }), { count: 1, hits: [{ block: 0, offset: 5, size: 150000 }] });
+    const lines = Array.from({ length: 130000 }, (_, i) => `${(0x61000000 + i).toString(16)}=a\n`);
+    const many = unitsAlike(tableOf(Buffer.from(lines.join(''))), 'a');
+    user.fill(0).set([0x61, 1, 3, 4], 400);
+    const found = findOne(rawOf(user), 0, { wanted: many, count: 1, limit: 5 });
+    assert.deepStrictEqual([sectorsBeyond(many), found], [1, { count: 1, hits: [{ block: 0, offset: 400, size: 4 }] }]);
 });
 
 test('all hits are counted, and the first ones kept', () => {

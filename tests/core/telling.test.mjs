@@ -102,6 +102,12 @@ test('a text is found at each of the four bytes of a word', () => {
     }
 });
 
+test('more texts beside another than a call takes arguments are all found', () => {
+    const [sure, short] = [bytesOf('CP932', '城の地下に宝があるらしい。\0'), bytesOf('CP932', 'は\0')];
+    const before = Buffer.alloc(150000 * short.length, short);
+    assert.equal(found(Buffer.concat([Buffer.alloc(1), before, sure, before])).length, 300001);
+});
+
 test('texts in UTF-16 with one 00 00 after each are not read with the other byte first', () => {
     const texts = ['や他のエラー', 'いことを保証', 'にのコメント', 'デタッチされ', 'このコマンド'].map(text => bytesOf('UTF-16LE', text));
     const bytes = Buffer.concat([Buffer.alloc(4), ...texts.flatMap(text => [text, Buffer.alloc(2)])]);

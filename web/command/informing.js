@@ -66,8 +66,8 @@ async function discLines(run) {
     const disc = await openDiscOf(run, run.names[0]);
     const tracks = disc.tracks.map(track => trackText(disc, track));
     const found = await foundInFiles(run, disc);
-    const files = found.flatMap(({ file: { name, reader }, sha1 }) =>
-        [`file ${name} bytes ${reader.size} sha1 ${sha1}`, ...known ? [known.said(reader.size, sha1) || known.saidOfOther(reader.size)] : []]);
+    const files = found.flatMap(({ file: { name, reader: { size } }, sha1 }) =>
+        [`file ${name} bytes ${size} sha1 ${sha1}`, ...known ? [known.said(size, sha1) || known.saidOfOther(size)] : []]);
     const surveys = found.flatMap(it => it.surveys);
     const lines = surveys.flatMap(it => {
         const [first, ...more] = surveyLines(run, it);

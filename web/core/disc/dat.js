@@ -120,7 +120,8 @@ class DatReading {
         if (this.dumps.size >= MOST_DUMPS) throw new Fault(`there are more than ${MOST_DUMPS} dumps`);
         this.found += 1;
         const key = dumpKey(Number(size), sha1.toLowerCase());
-        if (!this.dumps.has(key)) this.dumps.set(key, { name: copied(name), size: Number(size), isBad: attributes.get('status') === 'baddump' });
+        const isBad = attributes.get('status') === 'baddump';
+        if (!this.dumps.has(key)) this.dumps.set(key, { name: copied(name), size: Number(size), isBad });
     }
 
     end() {

@@ -149,10 +149,11 @@ function textsBeside(bytes, { start, end, scores }, limit, isAfter) {
         let far = near;
         while (isIn(far) && !isFilling(far) && Math.abs(far - near) < LONGEST_BESIDE) far += step;
         const isBound = near !== edge && Math.abs(near - edge) <= BETWEEN * unit && (isFilling(far) || (!isAfter && !isIn(far)));
-        const place = { start: Math.min(near, far), end: Math.max(near, far) };
-        const score = isBound ? bitsOf(scores, bytes, place.start, place.end) : -1;
+        const from = Math.min(near, far);
+        const to = Math.max(near, far);
+        const score = isBound ? bitsOf(scores, bytes, from, to) : -1;
         if (score < (scores.own ? 0 : LEAST_BESIDE)) return found;
-        found.push({ ...place, score, scores, zeros: 2, near: true });
+        found.push({ start: from, end: to, score, scores, zeros: 2, near: true });
         edge = far;
     }
 }
