@@ -1,8 +1,8 @@
 -- If the definition gives no kind of error for the arguments, the matches name a command, and have
 -- its texts and a base in its range.
-use Rattle.std.proofs.Common.{inl, inr, ap, length, ℕ, slice_index_or, ◌≡◌, ◌∙◌, ◌⊎◌, ◌&&◌, ◌||◌, Bool, true, false, cond, List, [], ◌∷◌, ◌++◌, Option, Some, None, codes, refl, sym}
+use Rattle.std.proofs.Common.{inl, inr, ap, length, map, ℕ, slice_index_or, ◌≡◌, ◌∙◌, ◌⊎◌, ◌&&◌, ◌||◌, Bool, true, false, cond, List, [], ◌∷◌, ◌++◌, Option, Some, None, codes, refl, sym}
 use Rattle.std.specs.Prelude.{IsSome, find, fold, if◌then◌else◌, is_some, not, option_and_then, option_map, pos, slice_get}
-use Rattle.std.specs.List.{list_any}
+use Rattle.std.specs.List.{list_all, list_any}
 use Rattle.std.specs.Option.{option_map_or}
 use Rattle.std.specs.Str.{bytes_eq}
 use Rattle.std.proofs.lemmas.Bool.{and_parts, or_cases}
@@ -11,7 +11,7 @@ use Rattle.clap.specs.Words.{App, IsSignedIn, Row, Rule, Shape, Text, built, fau
 use Rattle.clap.specs.Facts.{explicit_source}
 use Rattle.clap.specs.Faults.{entered_fault, level_fault, use_fault, values_fault, action_fault, repeat_fault, check_fault}
 use Rattle.clap.specs.Kinds.{check_kinds, or_else, range_kinds, values_kinds}
-use Rattle.clap.specs.Simple.{built_leaf, filled, help_rule, with_index, entered, inherited, label_of, marked_built, names_of, rows_at, with_leaf_noted}
+use Rattle.clap.specs.Simple.{built_leaf, filled, filled_from, help_rule, index_after, with_index, entered, inherited, label_of, marked_built, names_of, rows_at, with_leaf_noted}
 use Rattle.clap.specs.Takes.{is_given}
 use Rattle.clap.specs.ValueTests.{accepts}
 use Rattle.clap.specs.Walk.{action_of, answers_to, at_row, values_or_missing, default_rows, finished, has_row, more_values, nothing_held, reading_by, row_text, settled, stop_after, walk, with_default}
@@ -22,9 +22,12 @@ use Rattle.clap.specs.declared.builder.action.ArgAction.TheVariants.{Set}
 use Rattle.clap.specs.declared.error.kind.ErrorKind.TheVariants.{DisplayHelp, ValueValidation}
 use Rattle.clap.specs.declared.parser.matches.ValueSource.{ValueSource}
 use Rattle.clap.specs.declared.parser.matches.ValueSource.TheVariants.{DefaultValue}
+use Rattle.clap.proofs.SimpleLemmas.{is_false}
 use Rattle.clap.proofs.ValueTestLemmas.{accepts-Accepts}
-use Rattle.cd_args.specs.CommandLine.{HasBase, IsComplete, apply_shape, base_rule, command_line, flag_rule, image_shape, max_base, patching_shape, program_shape, text_rule}
-use Rattle.cd_args.proofs.general.Rows.{AllStart, Each, Each-find, IsUsedBy, Starts, Uses, level_parts, level_starts, neither, replaces}
+use Rattle.cd_args.specs.CommandLine.{IsComplete, apply_shape, command_line, image_shape, patching_shape, program_shape}
+use Rattle.cd_args.specs.Arguments.{flag_rule, text_rule}
+use Rattle.cd_args.specs.Options.{HasBase, base_rule, flags, max_base, option_rules}
+use Rattle.cd_args.proofs.general.Rows.{AllStart, Each, Each-append, Each-find, IsUsedBy, Starts, Uses, level_parts, level_starts, neither, replaces}
 
 -- ---- the row of an argument with a default
 
@@ -243,32 +246,66 @@ text_used index id other = record { use_of = text_use index id other; default_of
 base_used : IsUsedBy IsBaseText base_built
 base_used = record { use_of = base_use; default_of = base_default }
 
-carry_used : IsUsedBy IsBaseText (flag_built (codes "carry"))
-carry_used = record {
-  use_of = flag_use (codes "carry") refl;
-  default_of = λ v vs e is. absurd (differ is refl);
+flag_used : (id : Text) → bytes_eq id (codes "base") ≡ false → IsUsedBy IsBaseText (flag_built id)
+flag_used id other = record {
+  use_of = flag_use id other;
+  default_of = λ v vs e is. absurd (differ is other);
 }
 
 help_used : IsUsedBy IsBaseText help_built
 help_used = record { use_of = help_use; default_of = λ v vs e. cc }
 
+-- an argument whose uses pass, wherever it stands
+abbrev IsUsedAt : Rule → Type 0
+IsUsedAt a = (index : ℕ) → IsUsedBy IsBaseText (with_index index (filled a))
+
+-- building fills each argument in
+filled_used : (index : ℕ) (rules : List Rule) → Each IsUsedAt rules
+    → Each (IsUsedBy IsBaseText) (filled_from index rules)
+filled_used index [] used = tt
+filled_used index (a ∷ rules) used =
+    (used.0 index, filled_used (index_after index a) rules used.1)
+
+-- flags of which none is `--base`
+flags_used : (ids : List Text) → list_all (λ id. not (bytes_eq id (codes "base"))) ids ≡ true
+    → Each IsUsedAt (map flag_rule ids)
+flags_used [] others = tt
+flags_used (id ∷ ids) others =
+    let parts = and_parts (not (bytes_eq id (codes "base"))) _ others in
+    (λ index. flag_used id (is_false _ parts.0), flags_used ids parts.1)
+
+options_used : (others : List Rule) → Each IsUsedAt others → Each IsUsedAt (option_rules ++ others)
+options_used others used =
+    Each-append IsUsedAt option_rules others
+    (Each-append IsUsedAt (map flag_rule flags) (base_rule ∷ []) (flags_used flags refl)
+    (λ index. base_used, tt)) used
+
 image_rules : (name : Text) → Each (IsUsedBy IsBaseText) (leaf (image_shape name)).rules
 image_rules name = (text_used 1 (codes "image") refl, (base_used, (help_used, tt)))
 
 patching_rules : (name : Text) → Each (IsUsedBy IsBaseText) (leaf (patching_shape name)).rules
-patching_rules name = (
-  text_used 1 (codes "image") refl,
-  (text_used 2 (codes "script") refl, (carry_used, (base_used, (help_used, tt)))),
-)
+patching_rules name =
+    filled_used 1
+    (text_rule (codes "image") ∷ text_rule (codes "script") ∷ (option_rules ++ help_rule ∷ [])) (
+      λ index. text_used index (codes "image") refl,
+      (
+        λ index. text_used index (codes "script") refl,
+        options_used (help_rule ∷ []) (λ index. help_used, tt),
+      ),
+    )
 
 apply_rules : Each (IsUsedBy IsBaseText) (leaf apply_shape).rules
-apply_rules = (
-  text_used 1 (codes "image") refl,
-  (
-    text_used 2 (codes "script") refl,
-    (carry_used, (base_used, (text_used 3 (codes "out") refl, (help_used, tt)))),
-  ),
-)
+apply_rules =
+    filled_used 1
+    (text_rule (codes "image") ∷ text_rule (codes "script")
+    ∷ (option_rules ++ text_rule (codes "out") ∷ help_rule ∷ [])) (
+      λ index. text_used index (codes "image") refl,
+      (
+        λ index. text_used index (codes "script") refl,
+        options_used (text_rule (codes "out") ∷ help_rule ∷ [])
+            (λ index. text_used index (codes "out") refl, (λ index. help_used, tt)),
+      ),
+    )
 
 -- one that is required, and the others
 required_given : (b rest : Bool) → (not b || rest) ≡ false → (b ≡ true) × (rest ≡ false)

@@ -1,56 +1,23 @@
 -- The command line as `clap` defines it, and the job that it asks for.
-use Rattle.std.specs.Prelude.{◌≡◌, ◌⊎◌, ⊤, ℕ, Bool, true, false, List, [], ◌∷◌, ◌++◌, Option, Some, None, codes, pos}
-use Rattle.std.specs.Prelude.{IsSome, IsSomeAnd, option_map, string_bytes}
-use Rattle.std.specs.Str.{bytes_eq}
-use Rattle.std.specs.Str.Parse.{digits_value, without_leading_plus}
-use Rattle.clap.specs.Words.{App, IsSignedIn, Row, Rule, Shape, Text, first_of, new_rule, one_of}
-use Rattle.clap.specs.Words.{subcommand_of, takes, without_minus}
+use Rattle.std.specs.Prelude.{◌≡◌, ◌⊎◌, ⊤, ℕ, false, true, List, [], ◌∷◌, Some, codes}
+use Rattle.std.specs.Prelude.{IsSome, IsSomeAnd, string_bytes}
+use Rattle.clap.specs.Words.{App, Row, Shape, Text, first_of, subcommand_of, takes}
 use Rattle.clap.specs.Simple.{new_shape}
-use Rattle.clap.specs.declared.builder.action.ArgAction.TheVariants.{SetTrue}
-use Rattle.clap.specs.declared.builder.value_parser.ValueParser.TheVariants as vp
+use Rattle.cd_args.specs.Arguments.{HasText, text_rule, with_rule}
+use Rattle.cd_args.specs.Options.{HasBase, HasSettings, base_of, base_rule, option_rules, task_of}
+use Rattle.cd_args.specs.Task.{Task}
 use Rattle.cd_args.specs.declared.job.Job.{Job}
 use Rattle.cd_args.specs.declared.job.Job.TheVariants as job
-use Rattle.cd_args.specs.declared.settings.Settings.{Settings}
-use Rattle.cd_args.specs.Task.{Task, task_of}
-
--- the largest block number that has an address
-abbrev pub max_base : ℕ
-max_base = 449849
-
--- a text that a command requires
-abbrev pub text_rule : Text → Rule
-text_rule id = record (new_rule id) { value_names = 1; required = true }
-
--- the option `--base N`, a number of 0 to 449849; 0 if it is not used
-abbrev pub base_rule : Rule
-base_rule = record (new_rule (codes "base")) {
-  long = Some (codes "base");
-  value_names = 1;
-  defaults = codes "0" ∷ [];
-  parser = Some (vp.Signed (pos 0) (pos max_base));
-}
-
--- a flag, two dashes and its name
-abbrev pub flag_rule : Text → Rule
-flag_rule id = record (new_rule id) { long = Some id; action = Some SetTrue }
-
--- the flag `--carry`
-abbrev pub carry_rule : Rule
-carry_rule = flag_rule (codes "carry")
 
 -- a command with the text IMAGE and the option `--base N`
 abbrev pub image_shape : Text → Shape
 image_shape name = record (new_shape name) { rules = text_rule (codes "image") ∷ base_rule ∷ [] }
 
--- a command with the texts IMAGE and SCRIPT, the flag and the option
+-- a command with the texts IMAGE and SCRIPT, and the options
 abbrev pub patching_shape : Text → Shape
 patching_shape name = record (new_shape name) {
-  rules = text_rule (codes "image") ∷ text_rule (codes "script") ∷ carry_rule ∷ base_rule ∷ [];
+  rules = text_rule (codes "image") ∷ text_rule (codes "script") ∷ option_rules;
 }
-
--- a command with one more argument
-abbrev pub with_rule : Shape → Rule → Shape
-with_rule s a = record s { rules = s.rules ++ a ∷ [] }
 
 -- `apply`, which has the text OUT too
 abbrev pub apply_shape : Shape
@@ -78,29 +45,6 @@ command_line = record {
 }
 
 -- ---- the job
-
--- the number that a command's rows give for `--base`
-abbrev pub base_of : List Row → Option ℕ
-base_of rows =
-    option_map (λ t. digits_value 10 (without_leading_plus t)) (one_of (codes "base") rows)
-
--- a flag that is used has the text "true"
-abbrev pub is_set : Option Text → Bool
-is_set None = false
-is_set (Some text) = bytes_eq text (codes "true")
-
--- whether a command's rows have the flag `--carry`
-abbrev pub carry_of : List Row → Bool
-carry_of rows = is_set (first_of (codes "carry") rows)
-
--- a command's rows have this text
-abbrev pub HasText : Text → List Row → Text → Type 0
-HasText id rows text = first_of id rows ≡ Some text
-
--- the settings are what a command's rows give for its options
-pub record HasSettings (rows : List Row) (settings : Settings) : Type 0 where
-  pub base : base_of rows ≡ Some settings.base
-  pub carry : settings.carry ≡ carry_of rows
 
 -- the task has the name, the texts and the settings of a command's matches
 abbrev pub HasTask : Text × List Row → Task → Type 0
@@ -136,12 +80,6 @@ IsAccepted [] = ⊤
 IsAccepted (w ∷ ws) = takes command_line (w ∷ ws) ≡ true
 
 -- ---- what the matches of accepted arguments have
-
--- plumbing: the text of `--base` was accepted, and is the number that is read
-pub record HasBase (rows : List Row) : Type 0 where
-  pub text : Text
-  pub read : one_of (codes "base") rows ≡ Some (without_minus text)
-  pub accepted : IsSignedIn (pos 0) (pos max_base) text
 
 -- plumbing: the matches name a command, and have its texts and a base
 pub record IsComplete (p : Text × List Row) : Type 0 where

@@ -1,3 +1,5 @@
+pub mod Arguments
 pub mod CommandLine
 pub mod Fault
+pub mod Options
 pub mod Task

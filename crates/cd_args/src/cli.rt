@@ -3,29 +3,17 @@ ghost use Rattle.std.specs.Prelude.{◌≡◌, IfOk, IsOkAnd, codes, false};
 ghost use Rattle.clap.specs.Simple.{new_shape};
 ghost use Rattle.clap.specs.Words.{app_of, rule_of, shape_of, with_subcommand};
 ghost use Rattle.clap.specs.declared.builder.command.Command.TheViews.{out-Command};
-ghost use Rattle.cd_args.specs.CommandLine.{apply_shape, base_rule, carry_rule, command_line, image_shape, patching_shape, program_app, text_rule, with_rule};
+ghost use Rattle.cd_args.specs.Arguments.{text_rule};
+ghost use Rattle.cd_args.specs.CommandLine.{apply_shape, command_line, image_shape, patching_shape, program_app};
 
+use crate::arguments::{text_argument, with_argument};
 use crate::help::{
     APPLY_ABOUT, APPLY_MORE, AUDIT_ABOUT, AUDIT_MORE, CHECK_ABOUT, CHECK_MORE, LIST_ABOUT,
     LIST_MORE, PROGRAM_ABOUT, PROGRAM_MORE,
 };
-use cd_sector::MAX_BLOCK;
-use clap::{Arg, ArgAction, Command, value_parser};
+use crate::settings::{base_argument, with_options};
+use clap::{Arg, Command};
 use std::alloc::{AllocError, Global};
-
-/// The largest number that the first block of an image may have: the last block with an address.
-pub const MAX_BASE: u32 = MAX_BLOCK;
-
-/// A text that a command needs.
-fn text_argument<'a>(alloc: Global, id: &'a str, name: &'a str, help: &'a str) -> Arg<'a>
-    ensures rule { rule_of result ≡ text_rule id.now }
-    ensures local { result.global ≡ false }
-{
-    Arg::new(alloc, id)
-        .required(true)
-        .value_name(name)
-        .help(help)
-}
 
 /// The image that a command reads.
 fn image_argument<'a>(alloc: Global) -> Arg<'a>
@@ -61,51 +49,12 @@ fn out_argument<'a>(alloc: Global) -> Arg<'a>
     )
 }
 
-/// The block number of the first sector.
-fn base_argument<'a>(alloc: Global) -> Arg<'a>
-    ensures rule { rule_of result ≡ base_rule }
-    ensures local { result.global ≡ false }
-{
-    Arg::new(alloc, "base")
-        .long("base")
-        .value_name("N")
-        .default_value("0")
-        .value_parser(value_parser!(u32).range(0..=i64::from(MAX_BASE)))
-        .help("The number of the first block, at most 449849")
-}
-
-/// The flag by which damage is carried.
-fn carry_argument<'a>(alloc: Global) -> Arg<'a>
-    ensures rule { rule_of result ≡ carry_rule }
-    ensures local { result.global ≡ false }
-{
-    Arg::new(alloc, "carry")
-        .long("carry")
-        .action(ArgAction::SetTrue)
-        .help("Patch damaged sectors too, and keep their damage")
-}
-
 /// A command before its arguments, with the texts before and after them in its help.
 fn described<'a>(alloc: Global, name: &'a str, about: &'a str, more: &'a str) -> Command<'a>
     ensures shape { shape_of result ≡ new_shape name.now }
     ensures local { (out-Command result).has_globals ≡ false }
 {
     Command::new(alloc, name).about(about).after_help(more)
-}
-
-/// Proof step: a command with one more argument, if memory was found for the command. It takes the
-/// `Result`, since each `?` in a function that holds one of clap's commands costs seconds to prove.
-fn with_argument<'a>(
-    command: Result<Command<'a>, AllocError>,
-    argument: Arg<'a>,
-) -> Result<Command<'a>, AllocError>
-    requires { argument.global ≡ false }
-    ensures shape { IfOk result (λ c. IsOkAnd command.entry (λ was.
-        shape_of c ≡ with_rule (shape_of was) (rule_of argument.entry))) }
-    ensures local { IfOk result (λ c. IsOkAnd command.entry (λ was.
-        (out-Command c).has_globals ≡ (out-Command was).has_globals)) }
-{
-    command?.arg(argument)
 }
 
 /// A command that reads an image: `list` or `audit`.
@@ -136,8 +85,7 @@ fn patching_command<'a>(
     let command = described(alloc, name, about, more);
     let command = with_argument(Ok(command), image_argument(alloc));
     let command = with_argument(command, script_argument(alloc));
-    let command = with_argument(command, carry_argument(alloc));
-    with_argument(command, base_argument(alloc))
+    with_options(alloc, command)
 }
 
 /// The command `apply`.

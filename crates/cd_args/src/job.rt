@@ -1,7 +1,7 @@
 //! The jobs of the program.
 
 ghost use Rattle.std.specs.Prelude.{◌≡◌};
-ghost use Rattle.cd_args.specs.Task.{settings_in};
+ghost use Rattle.cd_args.specs.Options.{settings_in};
 
 use crate::settings::Settings;
 

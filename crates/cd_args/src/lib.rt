@@ -10,16 +10,17 @@
 //! | none | list the standard input, from block 0 |
 //! | `list IMAGE [--base N]` | [`Job::List`] |
 //! | `audit IMAGE [--base N]` | [`Job::Audit`] |
-//! | `check IMAGE SCRIPT [--carry] [--base N]` | [`Job::Check`] |
-//! | `apply IMAGE SCRIPT OUT [--carry] [--base N]` | [`Job::Apply`] |
+//! | `check IMAGE SCRIPT`, with options | [`Job::Check`] |
+//! | `apply IMAGE SCRIPT OUT`, with options | [`Job::Apply`] |
 //!
-//! N is 0 to [`MAX_BASE`], the last block with an address (ECMA-130, 14). clap parses the arguments
+//! The options of `check` and `apply` are the fields of [`Settings`]. N is 0 to [`MAX_BASE`], the last block with an address (ECMA-130, 14). clap parses the arguments
 //! and makes the help. The parser takes memory; if there is none, the line is
 //! `cdpatch: no memory`.
 //!
 //! Tests: `crates/cd_image_tests`.
 #![tactic(auto)]
 
+mod arguments;
 mod cli;
 mod fault;
 mod help;
@@ -27,8 +28,7 @@ mod job;
 mod parse;
 mod settings;
 
-pub use cli::MAX_BASE;
 pub use fault::{DONE, FAILED, LineFault, NO_MEMORY, refusal_line};
 pub use job::Job;
 pub use parse::job_of;
-pub use settings::Settings;
+pub use settings::{MAX_BASE, Settings};

@@ -1,14 +1,14 @@
 //! The job that the arguments ask for.
-ghost use Rattle.std.specs.Prelude.{◌≡◌, ◌≤◌, IfOk, IfErr, OnOk, IsSome, Some, [], map, option_map, string_bytes, codes};
+ghost use Rattle.std.specs.Prelude.{◌≡◌, ◌≤◌, IfOk, IfErr, OnOk, IsSome, Some, [], map, string_bytes, codes};
 ghost use Rattle.clap.specs.Words.{first_of, found_of, rows_of};
-ghost use Rattle.cd_args.specs.CommandLine.{HasBase, HasMatches, HasSettings, IsAccepted, IsComplete, IsJobOf};
-ghost use Rattle.cd_args.specs.CommandLine.{IsListJob, base_of, carry_of, is_set};
-ghost use Rattle.cd_args.specs.Task.{base_in};
+ghost use Rattle.cd_args.specs.CommandLine.{HasMatches, IsAccepted, IsComplete, IsJobOf, IsListJob};
+ghost use Rattle.cd_args.specs.Options.{HasBase, base_in};
 ghost use Rattle.cd_args.specs.Fault.{HasKindOf, error_kinds};
 ghost use Rattle.cd_args.specs.declared.fault.LineFault.TheVariants.{NoMemory};
 
-use crate::cli::{MAX_BASE, command_line};
-use crate::{Job, LineFault, Settings};
+use crate::cli::command_line;
+use crate::settings::{MAX_BASE, Settings, base_of, settings_of};
+use crate::{Job, LineFault};
 use clap::ArgMatches;
 use std::alloc::{AllocError, Global};
 
@@ -20,44 +20,6 @@ fn text_of(alloc: Global, matches: &ArgMatches<'_>, id: &str) -> Result<String, 
 {
     let text = matches.get_str(id).unwrap();
     String::from_str(alloc, text)
-}
-
-/// The number after `--base`, or its default.
-fn base_of(matches: &ArgMatches<'_>) -> u32
-    requires { HasBase (rows_of (found_of matches.now)) }
-    ensures value { base_of (rows_of (found_of matches.now)) ≡ Some result }
-    ensures most { result ≤ MAX_BASE }
-{
-    matches.get_one::<u32>("base").unwrap()
-}
-
-/// Whether a flag with this text is used. clap's clauses name the text that the parser holds:
-/// "true" if the flag is used.
-fn is_set(text: Option<&str>) -> bool
-    ensures { result ≡ is_set (option_map (λ text. text.now) text.entry) }
-{
-    match text {
-        Some(text) => text == "true",
-        None => false,
-    }
-}
-
-/// Whether `--carry` is used.
-fn carry_of(matches: &ArgMatches<'_>) -> bool
-    ensures { result ≡ carry_of (rows_of (found_of matches.now)) }
-{
-    is_set(matches.get_str("carry"))
-}
-
-/// What the options of `check` and `apply` say.
-fn settings_of(matches: &ArgMatches<'_>) -> Settings
-    requires { HasBase (rows_of (found_of matches.now)) }
-    ensures has { HasSettings (rows_of (found_of matches.now)) result }
-    ensures most { result.base ≤ MAX_BASE }
-{
-    let base = base_of(matches);
-    let carry = carry_of(matches);
-    Settings { base, carry }
 }
 
 /// `list IMAGE [--base N]`.
@@ -84,7 +46,7 @@ fn audit_job(alloc: Global, matches: &ArgMatches<'_>) -> Result<Job, AllocError>
     Ok(Job::Audit { image, base })
 }
 
-/// `check IMAGE SCRIPT [--carry] [--base N]`.
+/// `check IMAGE SCRIPT`, with the options of `Settings`.
 fn check_job(alloc: Global, matches: &ArgMatches<'_>) -> Result<Job, AllocError>
     requires image { IsSome (first_of (codes "image") (rows_of (found_of matches.now))) }
     requires script { IsSome (first_of (codes "script") (rows_of (found_of matches.now))) }
@@ -103,7 +65,7 @@ fn check_job(alloc: Global, matches: &ArgMatches<'_>) -> Result<Job, AllocError>
     })
 }
 
-/// `apply IMAGE SCRIPT OUT [--carry] [--base N]`.
+/// `apply IMAGE SCRIPT OUT`, with the options of `Settings`.
 fn apply_job(alloc: Global, matches: &ArgMatches<'_>) -> Result<Job, AllocError>
     requires image { IsSome (first_of (codes "image") (rows_of (found_of matches.now))) }
     requires script { IsSome (first_of (codes "script") (rows_of (found_of matches.now))) }

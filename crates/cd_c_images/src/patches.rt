@@ -2,7 +2,7 @@
 
 ghost use Rattle.std.specs.Prelude.{◌≡◌, ◌≢◌};
 ghost use Rattle.cd_args.specs.Fault.{failed_status};
-ghost use Rattle.cd_args.specs.Task.{settings_of};
+ghost use Rattle.cd_args.specs.Options.{settings_of};
 ghost use Rattle.cd_c_images.specs.Images.{AppliesInMemory, ChecksInMemory};
 ghost use Rattle.cd_c_images.specs.Plain.{ApplyFails, CheckFails, TakesPatches, WritesLines};
 ghost use Rattle.cd_memory.specs.Rooms.{FillsCounted, FillsRoom, Holds};

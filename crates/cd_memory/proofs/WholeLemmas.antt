@@ -2,7 +2,8 @@
 use Rattle.std.proofs.Common.{◌≡◌, ◌≢◌, ℕ, suc, zero, Bool, true, false, List, [], ◌∷◌, ◌++◌, Option, None, Some, Result, Ok, Err, is_some, string_bytes, refl, sym, ap, ◌∙◌, subst, inl, inr}
 use Rattle.cd_args.specs.Fault.{done_status, failed_status, no_memory, printed}
 use Rattle.cd_args.specs.declared.job.Job.{Job}
-use Rattle.cd_args.specs.Task.{Task, task_of}
+use Rattle.cd_args.specs.Options.{task_of}
+use Rattle.cd_args.specs.Task.{Task}
 use Rattle.cd_image.specs.Applying.{Applies, null_outgoing, streams}
 use Rattle.cd_image.specs.declared.patch_log.Tally.{Tally}
 use Rattle.cd_read.specs.declared.fault.Fault.{Fault}

@@ -7,7 +7,8 @@ use Rattle.cd_args.specs.Fault.{HasKindOf, done_status, error_kinds, failed_stat
 use Rattle.cd_args.specs.declared.fault.LineFault.{LineFault}
 use Rattle.cd_args.specs.declared.fault.LineFault.TheVariants as line_fault
 use Rattle.cd_args.specs.declared.job.Job.{Job}
-use Rattle.cd_args.specs.Task.{Task, task_of}
+use Rattle.cd_args.specs.Options.{task_of}
+use Rattle.cd_args.specs.Task.{Task}
 use Rattle.cd_script.specs.Limits.{text_limit}
 use Rattle.cd_script.specs.Order.{order}
 use Rattle.cd_script.specs.Script.{script}

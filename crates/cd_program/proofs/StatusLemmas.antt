@@ -4,7 +4,8 @@ use Rattle.std.specs.Prelude.{Option, Some, None}
 use Rattle.cd_args.specs.Fault.{printed_status}
 use Rattle.cd_args.specs.declared.fault.LineFault.{LineFault}
 use Rattle.cd_args.specs.declared.job.Job.{Job}
-use Rattle.cd_args.specs.Task.{Task, task_of}
+use Rattle.cd_args.specs.Options.{task_of}
+use Rattle.cd_args.specs.Task.{Task}
 use Rattle.cd_image.specs.declared.patch_log.Tally.{Tally}
 use Rattle.cd_report.specs.Report.{ReportSpec}
 use Rattle.cd_report.specs.declared.auditing.AuditTally.{AuditTally}

@@ -1,7 +1,7 @@
 -- What the program does for a job: which files it asks for, by which names and in which order, and
 -- what it does with them.
 use Rattle.std.specs.Prelude.{◌≡◌, ◌≢◌, ℕ, ◌≤◌, ◌⊎◌, List, [], Option, None, Result, Ok, Err, codes, false, true}
-use Rattle.cd_args.specs.CommandLine.{IsAccepted, IsJobOf, max_base}
+use Rattle.cd_args.specs.CommandLine.{IsAccepted, IsJobOf}
 use Rattle.cd_args.specs.Fault.{HasKindOf, done_status, error_kinds, failed_status, printed, printed_status}
 use Rattle.cd_args.specs.declared.fault.LineFault.{LineFault}
 use Rattle.cd_args.specs.declared.fault.LineFault.TheVariants as line_fault
@@ -20,11 +20,12 @@ use Rattle.cd_program.specs.Hosting.{Hosting}
 use Rattle.cd_program.specs.Messages.{load_fault_line, no_image, no_output, no_script, open_fault_line}
 use Rattle.cd_run.specs.Messages.{script_fault_line}
 use Rattle.cd_program.specs.Commands.{PrintsLine, audit_status}
-use Rattle.cd_program.specs.Running.{RunsApply, RunsCheck, RunsReport}
+use Rattle.cd_program.specs.Running.{RunsApplyBy, RunsCheckBy, RunsReport}
 use Rattle.cd_program.specs.ScriptLines.{IsFaultOf, ReadsWhole, StopsLoading}
 use Rattle.cd_program.specs.declared.host.OpenFault.{OpenFault}
 use Rattle.cd_program.specs.declared.script.LoadFault.{LoadFault}
-use Rattle.cd_args.specs.Task.{Task, base_in, task_of}
+use Rattle.cd_args.specs.Options.{base_in, max_base, task_of}
+use Rattle.cd_args.specs.Task.{Task}
 use Rattle.cd_args.specs.declared.settings.Settings.{Settings}
 
 -- ---- what is printed if a file is not there
@@ -110,8 +111,8 @@ module _ {H I O : Type 0} (come : I → Incoming) (gone : O → Outgoing) (on : 
       (image : I) (host : H) (path : List ℕ) (out : O) : Type 0 where
     pub left : I
     pub made : O
-    pub applies : RunsApply settings.carry patches settings.base (come image) (come left)
-        (gone out) (gone made) before after status
+    pub applies : RunsApplyBy settings patches (come image) (come left) (gone out) (gone made)
+        before after status
     pub last : O
     pub rest : FlushesRest (gone made) (gone last)
     pub back : on.takes_back host path last host'
@@ -134,8 +135,7 @@ module _ {H I O : Type 0} (come : I → Incoming) (gone : O → Outgoing) (on : 
     checked : (patches : List Patch) (second : H) (printed_log : Outgoing)
         → TakesScript come on script host second before printed_log (Ok patches)
         → (image left : I) → TakesImage on name second (Ok image) host'
-        → RunsCheck settings.carry patches settings.base (come image) (come left) printed_log after
-        status
+        → RunsCheckBy settings patches (come image) (come left) printed_log after status
         → DoesCheck settings name script host before
 
   -- `apply`

@@ -2,6 +2,7 @@
 -- and of `run_apply`, whatever the source and the sinks are.
 use Rattle.std.specs.Prelude.{◌≡◌, ◌≢◌, ℕ, ◌+◌, ◌<◌, ◌⊎◌, Bool, true, false, List, [], ◌++◌, length, Some}
 use Rattle.cd_args.specs.Fault.{failed_status}
+use Rattle.cd_args.specs.declared.settings.Settings.{Settings}
 use Rattle.cd_image.specs.Applying.{Applies, Checks, HoldsFew, WritesCarried, WritesPatched, streams}
 use Rattle.cd_image.specs.Applying.{patch_tally}
 use Rattle.cd_run.specs.PatchLog.{log_text}
@@ -65,6 +66,12 @@ pub record RunsCheck (carry : Bool) (patches : List Patch) (base : ℕ) (image i
   pub failed : status ≡ failed_status → (image'.failures ≢ image.failures)
       ⊎ (log'.failures ≢ log.failures) ⊎ IsTooLong image image'
 
+-- `check` by the settings of a job
+abbrev pub RunsCheckBy : Settings → List Patch → Incoming → Incoming → Outgoing → Outgoing → ℕ
+    → Type 0
+RunsCheckBy settings patches image image' log log' status =
+    RunsCheck settings.carry patches settings.base image image' log log' status
+
 -- `apply`: the image patched to the output, then the line of a fault
 pub record RunsApply (carry : Bool) (patches : List Patch) (base : ℕ) (image image' : Incoming)
     (out out' log log' : Outgoing) (status : ℕ) : Type 0 where
@@ -82,3 +89,9 @@ pub record RunsApply (carry : Bool) (patches : List Patch) (base : ℕ) (image i
   pub failed : status ≡ failed_status → (image'.failures ≢ image.failures)
       ⊎ (out'.failures ≢ out.failures) ⊎ (log'.failures ≢ log.failures) ⊎ IsTooLong image image'
   pub holds_few : HoldsFew (streams image out log) (streams image' out' log')
+
+-- `apply` by the settings of a job
+abbrev pub RunsApplyBy : Settings → List Patch → Incoming → Incoming → Outgoing → Outgoing
+    → Outgoing → Outgoing → ℕ → Type 0
+RunsApplyBy settings patches image image' out out' log log' status =
+    RunsApply settings.carry patches settings.base image image' out out' log log' status

@@ -6,12 +6,12 @@ ghost use Rattle.cd_report.specs.AuditText.{audit_report};
 ghost use Rattle.cd_report.specs.ListText.{list_report};
 ghost use Rattle.cd_stream.specs.Transfer.{Counts};
 ghost use Rattle.cd_program.specs.Commands.{PrintsFaultLine, PrintsLine, audit_status, script_status};
-ghost use Rattle.cd_program.specs.Running.{RunsApply, RunsCheck, RunsReport};
+ghost use Rattle.cd_program.specs.Running.{RunsApply, RunsApplyBy, RunsCheck, RunsCheckBy, RunsReport};
 ghost use Rattle.cd_stream.specs.Stream.{CanCountFailure};
 ghost use Rattle.cd_sector.specs.Image.{base_limit};
 
 use crate::messages::fault_line;
-use cd_args::{DONE, FAILED};
+use cd_args::{DONE, FAILED, Settings};
 use cd_image::{AuditTally, Fault, Sink, SinkFailed, Source, Tally, apply, audit, check, list};
 use cd_script::Script;
 use cd_stream::write_all;
@@ -164,6 +164,22 @@ pub fn run_check<I: Source, L: Sink>(
     }
 }
 
+/// The same by the settings of a job.
+pub(crate) fn run_check_by<I: Source, L: Sink>(
+    image: &mut I,
+    script: &Script,
+    settings: Settings,
+    log: &mut L,
+) -> u8
+    requires base { settings.base ≤ base_limit }
+    requires image_countable { CanCountFailure (I.seen image.old).failures }
+    requires log_countable { CanCountFailure (L.seen log.old).failures }
+    ensures { RunsCheckBy settings script.now (I.seen image.old) (I.seen image.new)
+        (L.seen log.old) (L.seen log.new) result }
+{
+    run_check(image, script, settings.base, settings.carry, log)
+}
+
 /// Patches an image to `out`, writes the line of each patch to `log`, and returns the status:
 /// 0, 1 if a patch is refused, or 2 after the line of a fault. A log that has failed gets no line.
 ///
@@ -195,4 +211,22 @@ pub fn run_apply<I: Source, O: Sink, L: Sink>(
         Ok(tally) => status_of(&tally),
         Err(fault) => report_fault(fault, Fault::Log, log),
     }
+}
+
+/// The same by the settings of a job.
+pub(crate) fn run_apply_by<I: Source, O: Sink, L: Sink>(
+    image: &mut I,
+    script: &Script,
+    settings: Settings,
+    out: &mut O,
+    log: &mut L,
+) -> u8
+    requires base { settings.base ≤ base_limit }
+    requires image_countable { CanCountFailure (I.seen image.old).failures }
+    requires out_countable { CanCountFailure (O.seen out.old).failures }
+    requires log_countable { CanCountFailure (L.seen log.old).failures }
+    ensures { RunsApplyBy settings script.now (I.seen image.old) (I.seen image.new)
+        (O.seen out.old) (O.seen out.new) (L.seen log.old) (L.seen log.new) result }
+{
+    run_apply(image, script, settings.base, settings.carry, out, log)
 }

@@ -2,7 +2,7 @@
 //! them, and the status.
 
 ghost use Rattle.std.specs.Prelude.{◌≡◌, ◌<◌, ◌≤◌, IfOk, OnOk, map, string_bytes};
-ghost use Rattle.cd_args.specs.Task.{base_in};
+ghost use Rattle.cd_args.specs.Options.{base_in};
 ghost use Rattle.cd_args.specs.Fault.{done_status};
 ghost use Rattle.cd_report.specs.AuditText.{audit_report};
 ghost use Rattle.cd_report.specs.ListText.{list_report};
@@ -13,7 +13,9 @@ ghost use Rattle.cd_program.specs.Commands.{audit_status};
 ghost use Rattle.cd_stream.specs.Stream.{CanCountFailure};
 ghost use Rattle.cd_sector.specs.Image.{base_limit};
 
-use crate::commands::{print_and_fail, print_line, run_apply, run_audit, run_check, run_list};
+use crate::commands::{
+    print_and_fail, print_line, run_apply_by, run_audit, run_check_by, run_list,
+};
 use crate::host::{Host, OpenFault};
 use crate::messages::{NO_IMAGE, NO_OUTPUT, NO_SCRIPT, open_fault_line};
 use crate::script::{load_script, read_script};
@@ -136,7 +138,7 @@ fn open_and_check<H: Host, L: Sink>(
         Ok(image) => image,
         Err(fault) => return report_open_fault(fault, NO_IMAGE, log),
     };
-    run_check(&mut image, &script, settings.base, settings.carry, log)
+    run_check_by(&mut image, &script, settings, log)
 }
 
 /// The command `apply`: reads its script, opens its image, makes its file, and runs it.
@@ -169,8 +171,7 @@ fn open_and_apply<H: Host, L: Sink>(
         Ok(output) => output,
         Err(fault) => return report_open_fault(fault, NO_OUTPUT, log),
     };
-    let (base, carry) = (settings.base, settings.carry);
-    let status = run_apply(&mut input, &script, base, carry, &mut output, log);
+    let status = run_apply_by(&mut input, &script, settings, &mut output, log);
     flush_rest(&mut output);
     host.take_back(path, output);
     status

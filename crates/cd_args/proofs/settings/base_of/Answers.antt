@@ -5,8 +5,8 @@ use Rattle.clap.specs.Words.{Text, found_of, one_text, rows_of, without_minus}
 use Rattle.clap.specs.declared.parser.matches.Found.{Found}
 use Rattle.clap.proofs.CallerReads.{signed_reads}
 use Rattle.clap.proofs.WalkLemmas.{one_text-rows}
-use Rattle.cd_args.specs.CommandLine.{HasBase, max_base}
-use Rattle.cd_args.proofs.parse.base_of.Goals as goal
+use Rattle.cd_args.specs.Options.{HasBase, max_base}
+use Rattle.cd_args.proofs.settings.base_of.Goals as goal
 
 base_text : (found : Found) (h : HasBase (rows_of found))
     → one_text found (codes "base") ≡ Some (without_minus h.text)
