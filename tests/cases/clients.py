@@ -14,7 +14,7 @@ from multiprocessing.util import Finalize
 from pathlib import Path
 
 from forms import COMMANDS, Answer, listed
-from image import answer
+from image import OPTIONS, OPTIONS_OF_CALLS, answer
 from script import ordered, script
 from sector import COLUMNS, DIAGONALS, SIZE, address_of, edc_bytes, parity, power, syndromes, times
 
@@ -83,6 +83,7 @@ class Coat(Commands):
     values that it can show."""
     name = ''
     values = ()
+    options = OPTIONS_OF_CALLS
 
     def __init__(self, path):
         self.path = str(Path(path).resolve())
@@ -91,7 +92,7 @@ class Coat(Commands):
         return getattr(self, call)(*given) if call in self.values else super().answer(call, given)
 
     def run(self, command, image, base, options, text):
-        if set(options) - {'--carry'}:
+        if set(options) - set(self.options):
             return None
         status, printed, out = self.made(command, image, base, '--carry' in options, text)
         return Answer(status, printed.decode('utf-8', 'replace'), out)
@@ -253,6 +254,7 @@ class Program(Commands):
     """A program with the arguments of cdpatch."""
     name = 'the program'
     before = ()
+    options = OPTIONS
 
     def __init__(self, path):
         self.path = str(Path(path).resolve())

@@ -6,7 +6,7 @@ import sys
 from pathlib import Path
 from typing import NamedTuple
 
-from image import answer, cut, effect, findings, met, outcome, run
+from image import OPTIONS, OPTIONS_OF_CALLS, answer, cut, effect, findings, met, outcome, run
 from script import MOST_BYTES, MOST_PATCHES, TOO_MANY, Patch, ScriptFault, ordered, script
 from sector import NO_DEFECT, SIZE, SYNC, WORDS, address_of, consistent, damage, defect, kind, sector_with
 
@@ -23,11 +23,16 @@ class Case(NamedTuple):
     command: str
     image: bytes
     base: int
-    carry: bool
+    options: list
     script: bytes
     piped: bool
     words: list
     note: str
+
+    @property
+    def carry(self):
+        """Whether damage is carried."""
+        return '--carry' in self.options
 
 
 def some_defect(dice):
@@ -214,27 +219,28 @@ def some_script(dice, image, base, carry):
     return dice.choice([text, text, text, text[:-1] if text.endswith(b'\n') else text]), note
 
 
-def some_case(seed, number):
-    """The case of this number; it depends on nothing else."""
+def some_case(seed, number, known=OPTIONS_OF_CALLS):
+    """The case of this number, with options that are known; it depends on nothing else."""
     dice = random.Random(f'{seed}/{number}')
     command = dice.choices(['list', 'audit', 'check', 'apply'], [9, 14, 25, 52])[0]
     base = dice.choice([0, 0, 10, 4347, LAST_BASE, LAST_BASE - 2, dice.randint(0, LAST_BASE)])
-    carry, piped = dice.random() < .4, dice.random() < .3
-    image = some_image(dice, base, carry)
-    options = [['--base', str(base)]] * (base > 0 or dice.random() < .5)
+    options = [option for option in OPTIONS if dice.random() < .4 and option in known]
+    piped = dice.random() < .3
+    image = some_image(dice, base, '--carry' in options)
+    moved = [['--base', str(base)]] * (base > 0 or dice.random() < .5)
     if command in ('list', 'audit'):
-        carry, text, files, note = False, b'', [], ''
+        options, text, files, note = [], b'', [], ''
     else:
-        text, note = some_script(dice, image, base, carry)
+        text, note = some_script(dice, image, base, '--carry' in options)
         files = ['script'] + ['out'] * (command == 'apply')
-        options += [['--carry']] * carry
+        moved += [[option] for option in options]
     words = [['-' if piped else 'image']] + [[name] for name in files]
-    for option in options:
+    for option in moved:
         words.insert(dice.randint(0, len(words)), option)
     words = [command] + [word for pair in words for word in pair]
     if command == 'list' and dice.random() < .3:
         base, piped, words = 0, True, []
-    return Case(command, image, base, carry, text, piped, words, note)
+    return Case(command, image, base, options, text, piped, words, note)
 
 
 # Bytes that mean something in scripts, and others.
@@ -250,9 +256,9 @@ def harmed_bytes(dice, data, pieces):
     return data
 
 
-def harmed(seed, number):
+def harmed(seed, number, known=OPTIONS_OF_CALLS):
     """The case of this number with changes that nobody makes, in its script, or in its image if it has none."""
-    case, dice = some_case(seed, number), random.Random(f'{seed}/{number}/harm')
+    case, dice = some_case(seed, number, known), random.Random(f'{seed}/{number}/harm')
     if case.command in ('check', 'apply'):
         return case._replace(script=harmed_bytes(dice, case.script, HARM))
     return case._replace(image=harmed_bytes(dice, case.image, [bytes(1), SYNC, dice.randbytes(3)]))
@@ -330,5 +336,5 @@ def kinds_of(case):
 
 def wanted(case):
     """What the model says of a case: status, standard output, and OUT or None."""
-    status, printed, out = answer(case.command, case.image, case.base, ['--carry'] * case.carry, case.script)
+    status, printed, out = answer(case.command, case.image, case.base, case.options, case.script)
     return status, printed.encode(), out

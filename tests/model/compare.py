@@ -23,22 +23,22 @@ FLOOR = 200  # of so many cases, on the whole, each kind must have one
 HARMED = 3
 
 
-def worked_out(seed, number):
+def worked_out(seed, number, options):
     """The kinds of the case of a number; and it, and for one in HARMED it after changes that nobody makes, each with what the model says."""
-    case = some_case(seed, number)
-    cases = [case] + [harmed(seed, number)] * (number % HARMED == 0)
+    case = some_case(seed, number, options)
+    cases = [case] + [harmed(seed, number, options)] * (number % HARMED == 0)
     return kinds_of(case), [(each, wanted(each)) for each in cases]
 
 
-def known(seed, number):
-    """The same. If MODEL_ANSWERS names a directory, it is left there for the other clients that are asked."""
+def known(seed, number, options):
+    """The same. If MODEL_ANSWERS names a directory, it is left there for the other clients that are asked, and have these options."""
     if 'MODEL_ANSWERS' not in os.environ:
-        return worked_out(seed, number)
-    place = Path(os.environ['MODEL_ANSWERS'], quote(seed, safe=''))
+        return worked_out(seed, number, options)
+    place = Path(os.environ['MODEL_ANSWERS'], quote(' '.join([seed, *options]), safe=''))
     file = place / str(number)
     if file.exists():
         return pickle.loads(file.read_bytes())
-    made = worked_out(seed, number)
+    made = worked_out(seed, number, options)
     place.mkdir(parents=True, exist_ok=True)
     half = place / f'{number}.{os.getpid()}'
     half.write_bytes(pickle.dumps(made))
@@ -73,7 +73,7 @@ def is_right(client, kept, number, case, due):
 
 def judge(client, seed, kept, number):
     """The kinds of the case of a number, and for it, and for one in HARMED after changes that nobody makes, whether the answer is right."""
-    kinds, cases = known(seed, number)
+    kinds, cases = known(seed, number, client.options)
     return kinds, [is_right(client, kept, number, case, due) for case, due in cases]
 
 

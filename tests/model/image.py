@@ -5,6 +5,10 @@ from itertools import groupby
 from script import ScriptFault, ordered, script
 from sector import NO_DEFECT, SIZE, address_of, consistent, damage, defect, kind, sector_with
 
+# The flags of `check` and `apply`, and those of them that the calls of the library have too.
+OPTIONS = ['--carry']
+OPTIONS_OF_CALLS = ['--carry']
+
 
 def cut(image):
     """The sectors of an image, and the tail that is shorter than one."""

@@ -246,10 +246,18 @@ refused apply image script out --base 449850
 explains 449850 list image --base 449850
 refused apply image script out --base -1
 refused apply image script out --base 0 --base 0
-refused list image --carry
-refused audit image --carry
-refused check image script --carry --carry
-refused check image script --carry=true
+# The flags of a command, as its help has them.
+flags_of() {
+    "$program" "$1" --help | sed -nE 's/^ +(--[a-z-]+)  .*/\1/p'
+}
+judge 'check and apply have the same flags' eval '[ -n "$(flags_of check)" ] && [ "$(flags_of check)" = "$(flags_of apply)" ]'
+judge 'list and audit have none' test -z "$(flags_of list)$(flags_of audit)"
+for flag in $(flags_of check); do
+    refused list image "$flag"
+    refused audit image "$flag"
+    refused check image script "$flag" "$flag"
+    refused check image script "$flag=true"
+done
 refused list image --base x
 refused Apply image script out
 refused help

@@ -9,13 +9,7 @@ import { FORMS, OPTION_FORMS } from './forms.js';
 import { numberOf } from './numbers.js';
 import { didYouMean } from './suggesting.js';
 
-/**
- * The options that were given, by their names in OPTION_FORMS.
- * @typedef {{ base?: number, track?: number, limit?: number, first?: number, fill?: Uint8Array, encoding?: string, table?: string,
- *     output?: string, carry?: boolean, long?: boolean, skipDamaged?: boolean, partial?: boolean, all?: boolean, inside?: boolean,
- *     loose?: boolean, list?: string, csv?: boolean, in?: string[], min?: number, fields?: boolean, help?: boolean, version?: boolean,
- *     notices?: boolean, dat?: string[], resume?: string }} Options
- */
+/** @typedef {import('./forms.js').Options} Options */
 /** @typedef {{ job: string, names: string[], options: Options }} Given */
 
 /** Options of which only one is given. */

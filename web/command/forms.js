@@ -50,6 +50,14 @@ export const OPTION_FORMS = {
     notices: { word: '--notices', value: '', does: 'print the notices of what cdscript contains' },
 };
 
+/**
+ * The options that were given, by their names in OPTION_FORMS.
+ * @typedef {{ base?: number, track?: number, limit?: number, first?: number, fill?: Uint8Array, encoding?: string, table?: string,
+ *     output?: string, carry?: boolean, long?: boolean, skipDamaged?: boolean, partial?: boolean, all?: boolean, inside?: boolean,
+ *     loose?: boolean, list?: string, csv?: boolean, in?: string[], min?: number, fields?: boolean, help?: boolean, version?: boolean,
+ *     notices?: boolean, dat?: string[], resume?: string }} Options
+ */
+
 const FROM_0 = 'The first sector is block 0, if --base or a cue sheet does not say another one. ';
 
 /** @type {Record<string, Form>} */
