@@ -268,14 +268,30 @@ typed_tools() {
 lint() { (cd "$1" && NODE_PATH=/usr/share/nodejs eslint -f unix --rulesdir "$tree/tools/eslint" --rule 'import-cycle: error' "${@:2}"); }
 lint_tools() { lint "$tree/tools" --no-eslintrc -c "$tree/web/.eslintrc.json" --env browser,node --parser-options sourceType:module . ; }
 
-# refuses_form TEXT FILE LINE: a line more in a module of web/, and eslint says this text of it.
-refuses_form() { wanted "eslint refuses $2 with ${3%;}: $1" is_refused_form "$@"; }
-is_refused_form() {
-    rm -rf other
-    cp -r "$tree/web" other
-    printf '%s\n' "$3" >> "other/$2"
-    ! lint other "$2" > log && grep -qF "$1" log
+# refuses_form TEXT FILE LINE: notes a line more in a module of web/, of which eslint has to say this text. Each line of a module stands in
+# another copy of web/, so that eslint reads all copies in a few runs.
+forms=()
+declare -A lines_of=() linted=()
+refuses_form() {
+    local name="eslint refuses $2 with ${3%;}: $1" copy=$((lines_of[$2]))
+    [ "${CASE-$name}" = "$name" ] || return 0
+    [ -d "forms.$copy" ] || cp -r "$tree/web" "forms.$copy"
+    printf '%s\n' "$3" >> "forms.$copy/$2"
+    lines_of[$2]=$((copy + 1))
+    linted[$copy]+=" $2"
+    forms+=("$name" "$1" "forms.$copy" "$2")
 }
+judge_forms() {
+    local copy i files
+    for copy in "${!linted[@]}"; do
+        read -ra files <<< "${linted[$copy]}"
+        lint "forms.$copy" "${files[@]}" > "forms.$copy.log"
+    done
+    for ((i = 0; i < ${#forms[@]}; i += 4)); do
+        judge "${forms[i]}" is_said "${forms[@]:i + 1:3}"
+    done
+}
+is_said() { grep -F "/$2/$3:" "$2.log" | grep -qF "$1"; }
 
 # of_header NAME: the number CDPATCH_NAME of the header.
 of_header() { sed -nE "s/.*\bCDPATCH_$1 = ([0-9]+).*/\1/p" "$top/include/cdpatch.h"; }
@@ -329,6 +345,7 @@ test_forms() {
     for file in core/bytes.js core/sectors/runs.js page/main.js page/ui/dom.js command/help.js; do
         refuses_form 'A dynamic import' $file "import('./x.js');"
     done
+    judge_forms
 }
 
 test_types() {
