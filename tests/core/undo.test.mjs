@@ -126,6 +126,17 @@ test('a script that changes nothing can not be taken back, but for one without p
     assert.deepEqual([undo.patches, blocksOf(left).length], [0, 1]);
 });
 
+test('undo reads the image once, forward, be patches near one another or not', async () => {
+    const image = soundImage(diceOf(8), 3000, BASE);
+    for (const step of [1, 7]) {
+        const lines = Array.from({ length: 3000 / step }, (_, i) => `set ${BASE + step * i} 0 ${Buffer.of(~image[RAW * step * i + 16]).toString('hex')}\n`);
+        const reader = readerOf(image);
+        const { script } = await undoScript(calls, reader, [encoded(`cdpatch 1\n${lines.join('')}`)], { base: BASE });
+        assert.equal(script.patches, lines.length);
+        reader.reads.slice(1).forEach(({ at }, i) => assert.ok(at >= reader.reads[i].at + reader.reads[i].length, `a read at ${at}, ${step} blocks`));
+    }
+});
+
 test('undo of diff gives OLD', async () => {
     for (let seed = 0; seed < 20; seed++) {
         const dice = diceOf(700 + seed);

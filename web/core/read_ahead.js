@@ -7,6 +7,8 @@ import { newBytes } from './faults.js';
 
 /** The fewest bytes that are read at a time. */
 const LEAST = 1 << 15;
+/** Bytes by which one of two readers is behind the other at most, without another read. */
+const BEHIND = 1 << 20;
 
 /** What of an image was read last. If places near its end are asked for next, more is read at a time. */
 export class ReadAhead {
@@ -82,4 +84,26 @@ export class ReadAhead {
         this.room = room;
         return room.subarray(kept.length, size);
     }
+}
+
+/**
+ * A reader for two who read forward, of whom one is a little behind the other: what was read for one is there for the other.
+ * @param {Reader} reader
+ * @returns {Reader}
+ */
+export function readerForTwo(reader) {
+    const ahead = forwardOf(reader);
+    /** @type {{ at: number, bytes: Uint8Array }[]} */
+    const known = [];
+    return {
+        size: reader.size,
+        async read(at, length) {
+            const there = known.find(it => at >= it.at && at < it.at + it.bytes.length);
+            if (there) return there.bytes.subarray(at - there.at, at - there.at + length);
+            const bytes = await ahead.read(at, length);
+            known.push({ at, bytes });
+            while (known[0].at + known[0].bytes.length <= at - BEHIND) known.shift();
+            return bytes;
+        },
+    };
 }

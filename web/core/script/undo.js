@@ -1,10 +1,10 @@
 // Builds the script that reverts another one.
 
-import { ByteList } from '../bytes.js';
+import { ByteList, readBytes } from '../bytes.js';
 import { Fault } from '../faults.js';
 import { Crew, localHand } from '../jobs.js';
 import { STATUS } from '../module/records.js';
-import { ReadAhead } from '../read_ahead.js';
+import { readerForTwo } from '../read_ahead.js';
 import { SECTOR_SIZE, differingSectors, sectorOf } from '../sectors/sector.js';
 import { baseFault } from './base_said.js';
 import { passPatched } from './patches.js';
@@ -40,7 +40,7 @@ class TakenBack {
      * @param {Given} given who compares
      */
     constructor(reader, base, given) {
-        this.ahead = new ReadAhead(reader);
+        this.reader = reader;
         this.base = base;
         this.given = given;
         this.parts = new ScriptParts();
@@ -55,7 +55,7 @@ class TakenBack {
     /** @param {Piece} piece of the patched image */
     async take(piece) {
         if (!('bytes' in piece)) return;
-        const before = await this.ahead.bytesAt(piece.at, piece.bytes.length);
+        const before = await readBytes(this.reader, piece.at, piece.bytes.length);
         for (const i of differingSectors(piece.bytes, before)) {
             this.blocks.push(this.base + piece.at / SECTOR_SIZE + i);
             this.patched.push(sectorOf(piece.bytes, i));
@@ -95,8 +95,9 @@ export async function undoScript(calls, reader, script, { base, carry = false, l
     if (read instanceof Refusal) return read;
     const fault = baseFault(read.bases, base);
     if (fault !== '') throw new Fault(fault);
-    const back = new TakenBack(reader, base, (job, pieces, blocks) => crew.given(job, pieces, { blocks, how: { carry, heal: true } }));
-    const patched = await passPatched(calls, reader, read, { base, carry, near: 0 }, piece => back.take(piece));
+    const both = readerForTwo(reader);
+    const back = new TakenBack(both, base, (job, pieces, blocks) => crew.given(job, pieces, { blocks, how: { carry, heal: true } }));
+    const patched = await passPatched(calls, both, read, { base, carry, near: 0 }, piece => back.take(piece));
     const parts = await back.end();
     const undo = { script: parts.script(calls), patched, left: parts.left };
     if (changesNothing(undo)) throw new Fault(NOTHING_TO_TAKE_BACK);
