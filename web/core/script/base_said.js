@@ -22,8 +22,8 @@ export function basesSaid(text) {
     /** @type {BaseSaid[]} */
     const found = [];
     let [line, counted] = [1, 0];
-    for (let at = 0; at < text.length; at++) {
-        if (text[at] !== HASH || text[at + 2] !== LETTER_B || at > 0 && text[at - 1] !== LINE_FEED) continue;
+    for (let at = text.indexOf(HASH); at >= 0; at = text.indexOf(HASH, at + 1)) {
+        if (text[at + 2] !== LETTER_B || at > 0 && text[at - 1] !== LINE_FEED) continue;
         const end = text.indexOf(LINE_FEED, at);
         const comment = text.subarray(at, end < 0 ? text.length : end);
         const said = comment.length <= LONGEST_BASE_COMMENT && BASE_COMMENT.exec(String.fromCharCode(...comment));
