@@ -10,7 +10,7 @@ const { sumsOf } = await page('app/hashing.js');
 const { fileReader } = await page('open/file_reader.js');
 
 const MiB = 2 ** 20;
-const bytes = Buffer.alloc(40 * MiB + 7, Uint8Array.from({ length: 65537 }, (_, i) => i ^ i >> 9));
+const bytes = Buffer.alloc(72 * MiB + 7, Uint8Array.from({ length: 65537 }, (_, i) => i ^ i >> 9));
 
 /** A file that notes how many bytes each cut of it has. */
 function fileOf() {
@@ -39,17 +39,39 @@ async function cutsFor(places) {
     return file.cuts;
 }
 
+/** Reads of a MiB each, from a place on, as many as are asked for. */
+const rowOf = (count, cut = 0) => Array.from({ length: count }, (_, i) => [i * MiB + cut, MiB - cut]);
+
 test('reads in a row are few slices', async () => {
-    const row = Array.from({ length: 41 }, (_, i) => [i * MiB, MiB]);
-    assert.deepEqual(await cutsFor(row), [MiB, 32 * MiB, 7 * MiB + 7]);
+    assert.deepEqual(await cutsFor(rowOf(73)), [MiB, ...Array(4).fill(16 * MiB), 7 * MiB + 7]);
     const cut = 20000;
-    assert.deepEqual(await cutsFor(row.slice(0, 40).map(([at, length]) => [at + cut, length - cut])), [MiB - cut, 32 * MiB, 7 * MiB + 7 - cut]);
-    assert.deepEqual(await cutsFor([[0, 5], [5, 34 * MiB], [5 + 34 * MiB, 10 * MiB]]), [5, 34 * MiB, 6 * MiB + 2]);
+    assert.deepEqual(await cutsFor(rowOf(72, cut)), [MiB - cut, ...Array(4).fill(16 * MiB), 7 * MiB + 7 - cut]);
+    assert.deepEqual(await cutsFor([[0, 5], [5, 34 * MiB], [5 + 34 * MiB, 10 * MiB]]), [5, 34 * MiB, 16 * MiB, 16 * MiB, 6 * MiB + 2]);
+});
+
+test('while a slice is used, the next two are asked for, unless reads may end there', async () => {
+    assert.deepEqual(await cutsFor(rowOf(17)), [MiB, 16 * MiB]);
+    assert.deepEqual(await cutsFor(rowOf(18)), [MiB, ...Array(4).fill(16 * MiB)]);
+    assert.deepEqual(await cutsFor(rowOf(33)), [MiB, ...Array(4).fill(16 * MiB)]);
+    assert.deepEqual(await cutsFor(rowOf(34)), [MiB, ...Array(4).fill(16 * MiB), 7 * MiB + 7]);
+});
+
+test('a slice that can not be read fails the read that comes to it, and none before', async () => {
+    const file = fileOf();
+    const slice = file.slice.bind(file);
+    file.slice = (from, to) => from < 40 * MiB ? slice(from, to) : { arrayBuffer: async () => { throw new DOMException('gone', 'NotFoundError'); } };
+    const reader = forwardOf(fileReader(file));
+    for (let i = 0; i < 49; i++) {
+        assert.equal((await reader.read(i * MiB, MiB)).length, MiB);
+        await new Promise(setImmediate);
+    }
+    await assert.rejects(reader.read(49 * MiB, MiB), { message: /game.bin\. Was it moved/ });
 });
 
 test('a read that goes on after a slice is one more', async () => {
-    assert.deepEqual(await cutsFor([[0, 7], [7, 9], [32 * MiB, 100], [33 * MiB, 7 * MiB], [40 * MiB, 9], [40 * MiB + 7, 9]]),
-        [7, 32 * MiB, 8 * MiB, 0]);
+    assert.deepEqual(await cutsFor([[0, 7], [7, 9], [16 * MiB, 100], [17 * MiB, 7 * MiB], [40 * MiB, 9]]),
+        [7, ...Array(4).fill(16 * MiB), 8 * MiB]);
+    assert.deepEqual(await cutsFor([[60 * MiB, 7], [60 * MiB + 7, 9], [72 * MiB + 7, 9]]), [7, 12 * MiB, 0]);
 });
 
 test('of reads that are far apart, or go back, no more is read than is asked for', async () => {
@@ -69,5 +91,5 @@ test('hashes are those of a file that is read in few slices', async () => {
     const file = fileOf();
     const { sha1 } = await sumsOf(summing, fileReader(file), { aborted: false }, () => {});
     assert.equal(sha1, createHash('sha1').update(bytes).digest('hex'));
-    assert.ok(file.cuts.length <= 4, `${file.cuts}`);
+    assert.ok(file.cuts.length <= 7, `${file.cuts}`);
 });

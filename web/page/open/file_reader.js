@@ -7,8 +7,9 @@ import { shownName } from '../ui/index.js';
 
 /** @typedef {import('../../core/bytes.js').Reader} Reader */
 
-/** Bytes that are read at a time if reads follow one another: a browser needs twice as long for as many in slices of 4 MB. */
-const FORWARD_SIZE = 1 << 25;
+/** Bytes of a slice if reads follow one another, and how many slices are asked for while one is used. */
+const SLICE_SIZE = 1 << 24;
+const SLICES_AHEAD = 2;
 
 /** So many bytes between two reads are read with them: a slice of its own takes longer. */
 const PASSED_OVER = 1 << 20;
@@ -32,26 +33,67 @@ export function fileReader(file) {
         return new Uint8Array(await file.slice(at, at + length).arrayBuffer());
     };
     return { file, size, lent: (at, length) => ({ file, from: at, size: length }), read: readingOf(file, read),
-        forward: () => ({ size, read: readingOf(file, readingForward(read)) }) };
+        forward: () => {
+            const slices = new SlicesAhead(size, read);
+            return { size, read: readingOf(file, (at, length) => slices.read(at, length)) };
+        } };
 }
 
-/**
- * The same reading for one who reads forward. Bytes of a slice that was read are not copied.
- * @param {Reader['read']} read
- * @returns {Reader['read']}
- */
-function readingForward(read) {
-    let [from, slice, end] = [0, new Uint8Array(0), -Infinity];
-    return async (at, length) => {
-        if (at < from || at >= from + slice.length) {
-            const isOn = at >= end && at - end <= PASSED_OVER;
-            slice = await read(at, isOn ? Math.max(length, FORWARD_SIZE) : length);
-            from = at;
-        }
-        const bytes = slice.subarray(at - from, at - from + length);
-        end = at + bytes.length;
-        return bytes;
-    };
+/** @typedef {{ from: number, to: number, bytes: Promise<Uint8Array> }} Slice */
+
+/** A file for one who reads forward. Bytes of a slice are not copied. */
+class SlicesAhead {
+    /**
+     * @param {number} size of the file
+     * @param {Reader['read']} cut reads a slice
+     */
+    constructor(size, cut) {
+        this.size = size;
+        this.cut = cut;
+        /** @type {Slice[]} the one that is used, and those after it */
+        this.slices = [];
+        /** How many slices reads that follow one another have begun, and where the last of them has ended. */
+        this.row = 0;
+        this.end = -Infinity;
+    }
+
+    /**
+     * @param {number} at
+     * @param {number} length
+     */
+    async read(at, length) {
+        while (this.slices.length > 0 && (at < this.slices[0].from || at >= this.slices[0].to)) this.slices.shift();
+        if (this.slices.length === 0) this.begin(at, length);
+        while (this.row > 1 && this.slices.length <= SLICES_AHEAD && this.last().to < this.size) this.ask(this.last().to, SLICE_SIZE);
+        const [{ from, bytes }] = this.slices;
+        const part = (await bytes).subarray(at - from, at - from + length);
+        this.end = at + part.length;
+        return part;
+    }
+
+    /**
+     * @param {number} at
+     * @param {number} length
+     */
+    begin(at, length) {
+        const isOn = at >= this.end && at - this.end <= PASSED_OVER;
+        this.row = isOn ? this.row + 1 : 0;
+        this.ask(at, isOn ? Math.max(length, SLICE_SIZE) : length);
+    }
+
+    /**
+     * @param {number} from
+     * @param {number} length
+     */
+    ask(from, length) {
+        const bytes = this.cut(from, length);
+        bytes.catch(() => {}); // it is thrown when its turn comes
+        this.slices.push({ from, to: Math.min(from + length, this.size), bytes });
+    }
+
+    last() {
+        return this.slices[this.slices.length - 1];
+    }
 }
 
 /**
