@@ -38,6 +38,25 @@ class Next(PageTest):
         self.browser.drop('#main', [files['refused']])
         self.browser.wait(f'{SAID}.warn', 'refused.txt: 6 of 8 changes fit game.bin, 2 do not.')
 
+    def test_a_script_that_is_opened_is_read_drawn_and_checked_in_turns_of_their_own(self) -> None:
+        files = self.files()
+        self.open_image(files['game'])
+        self.browser.run("""globalThis.turns = [];
+            const { setTimeout } = globalThis;
+            const seen = () => {
+                const [name, bar] = ['header', '.side .progress'].map(css => document.querySelector(`#panel-script ${css}`));
+                return `${name.textContent.includes('english.txt') ? 'drawn' : 'read'}${bar ? ', checked' : ''}`;
+            };
+            globalThis.setTimeout = (call, wait, ...given) => setTimeout(() => {
+                if (wait === undefined) turns.push(seen());
+                call();
+            }, wait, ...given)""")
+        self.open_script(files['english'])
+        self.browser.wait(f'{SAID}.good', ALL_FIT)
+        turns = self.browser.run('return turns')
+        self.assertEqual(turns, sorted(turns, key=['read', 'drawn', 'drawn, checked'].index))
+        self.assertEqual(len({*turns}), 3, turns)
+
     def test_an_image_that_is_opened_for_a_script_is_checked_at_once(self) -> None:
         files = self.files()
         self.browser.drop('#drop', [files['english']])

@@ -98,7 +98,9 @@ async function takenAs(app, file) {
     // The program reads no text with a mark of its encoding: what stands in the editor is in no file then.
     const marked = MARKS.find(({ bytes }) => bytes.every((byte, i) => byte === start[i]));
     const whole = textOfFile(await readBytes(fileReader(file), 0, file.size));
-    app.setScript(whole, file.name, !marked, isLong(whole) ? null : await modelInParts(app.calls, whole, nextTurn));
+    const known = isLong(whole) ? null : await modelInParts(app.calls, whole, nextTurn);
+    await nextTurn();
+    app.setScript(whole, file.name, !marked, known);
     app.showPanel('script');
     if (marked) {
         showNotice('warn', say(texts.fileIsEncoded, { encoding: marked.name, name: nameOf(file.name) }),

@@ -1,9 +1,9 @@
 // What is done with a script and an image: checking, and saving the patched image.
 
-import { watchedReader } from '../../core/bytes.js';
+import { readBytes, watchedReader } from '../../core/bytes.js';
 import { Fault, cancelled } from '../../core/faults.js';
 import { MOST_SCRIPT_BYTES, STATUS } from '../../core/module/records.js';
-import { ReadAhead } from '../../core/read_ahead.js';
+import { readerForTwo } from '../../core/read_ahead.js';
 import { baseFault } from '../../core/script/base_said.js';
 import { NEAR_HELD, NEAR_WRITTEN } from '../../core/script/patch_run.js';
 import { passPatched } from '../../core/script/patches.js';
@@ -12,7 +12,7 @@ import { MOST_SECTORS, imageTooLong } from '../../core/sectors/sector.js';
 import { RunningHash } from '../app/index.js';
 import * as texts from '../texts/index.js';
 import { told } from '../texts/index.js';
-import { capital } from '../ui/index.js';
+import { capital, nextTurn } from '../ui/index.js';
 import { canStream } from './files_out.js';
 import { saveImage } from './pieces.js';
 import { workRefused } from './refused.js';
@@ -38,7 +38,9 @@ import { workRefused } from './refused.js';
  * @param {number} base
  */
 export async function scriptFor({ calls }, script, base) {
+    await nextTurn();
     const read = await readScript(calls, [new TextEncoder().encode(script)]);
+    await nextTurn();
     if (!(read instanceof Refusal)) {
         const fault = baseFault(read.bases, base);
         if (fault === '') return read;
@@ -88,11 +90,11 @@ export async function checkWork(app, { reader, base, script, carry }, watch) {
  */
 export async function isPatched(app, { reader, base, script }) {
     let same = true;
-    const ahead = new ReadAhead(reader);
+    const both = readerForTwo(reader);
     const how = { base, carry: true, withoutOld: true };
-    const made = await passPatched(app.calls, reader, await scriptFor(app, script, base), how, async piece => {
+    const made = await passPatched(app.calls, both, await scriptFor(app, script, base), how, async piece => {
         if (!('bytes' in piece) || !same) return;
-        const there = await ahead.bytesAt(piece.at, piece.bytes.length);
+        const there = await readBytes(both, piece.at, piece.bytes.length);
         same = there.every((byte, i) => byte === piece.bytes[i]);
     });
     return same && made.status === STATUS.DONE && made.outcomes.length > 0;

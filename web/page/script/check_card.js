@@ -4,7 +4,8 @@ import { RESULT } from '../../core/module/records.js';
 import { SaveCard, adviceOf, checkWork, isPatched } from '../save/index.js';
 import * as texts from '../texts/index.js';
 import { say, told } from '../texts/index.js';
-import { announce, button, element, fill, isCancelled, jobBar, messageOf, nameOf, notice, setDisabled, term } from '../ui/index.js';
+import { announce, button, element, fill, isCancelled, jobBar, messageOf, nameOf, nextTurn } from '../ui/index.js';
+import { notice, setDisabled, term } from '../ui/index.js';
 import { fitWords } from './fit_words.js';
 
 /** @typedef {import('../app/state.js').App} App */
@@ -164,9 +165,13 @@ export class CheckCard {
         return this.running;
     }
 
-    /** Checks a script that was opened, after the check of what was there before it. What is next gets the focus if nothing has it. */
+    /**
+     * Checks a script that was opened, after the check of what was there before it and when it is drawn. What is next gets the focus if
+     * nothing has it.
+     */
     async checkAtOnce() {
         await this.running;
+        await nextTurn();
         await this.check();
         const next = /** @type {HTMLElement | null} */ (this.card.querySelector('.next .btn, .say .btn'));
         if (next && document.activeElement === document.body) next.focus({ preventScroll: true });
