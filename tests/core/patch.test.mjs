@@ -110,15 +110,22 @@ test('patches near one another are read together, and no more where they are far
         const reader = { size, read: async (at, length) => { reads.push({ at, length }); return new Uint8Array(length); } };
         const script = await readScript(calls, [encoded(`cdpatch 1\n${places.map(place => `fill ${place} 0 1 07\n`).join('')}`)]);
         assert.equal((await passPatched(calls, reader, script, { base: 0 })).outcomes.length, places.length);
-        assert.ok(reads.every(({ length }) => length <= 1 << 22));
+        assert.ok(reads.every(({ at, length }) => length <= 1 << 22 && (at % 2352 === 0 || length < 2352)), 'much is moved at a border of reads');
         return { reads: reads.length, bytes: reads.reduce((sum, { length }) => sum + length, 0) };
     };
     const dense = await asked(Array.from({ length: 20000 }, (_, i) => i));
     assert.ok(dense.reads < 30 && dense.bytes < 20000 * 2352 + 5e6, JSON.stringify(dense));
     const scattered = await asked(Array.from({ length: 20000 }, (_, i) => 14 * i + (i * 7) % 13));
-    assert.ok(scattered.reads < 220, JSON.stringify(scattered));
+    assert.ok(scattered.reads < 320, JSON.stringify(scattered)); // at each border of two reads a short one
     const apart = await asked(Array.from({ length: 150 }, (_, i) => 2000 * i + 500));
     assert.ok(apart.reads === 150 && apart.bytes < 150 * 70000, JSON.stringify(apart));
+});
+
+test('of a short read that has what a patch needs no more is read', async () => {
+    const reader = readerOf(image, 5000);
+    const script = await readScript(calls, [encoded(`cdpatch 1\n${[0, 1000, 2000].map(i => `fill ${BASE + i} 0 1 07\n`).join('')}`)]);
+    await passPatched(calls, reader, script, { base: BASE, carry: true });
+    assert.deepEqual(reader.reads.map(({ at }) => at / 2352), [0, 1000, 2000]);
 });
 
 test('what was read between patches goes out with them as far as is asked for', async () => {

@@ -50,11 +50,12 @@ export function watchedReader(reader, told) {
  * @param {number} at
  * @param {number} length
  * @param {Uint8Array} [room] of as many bytes, in which they may stand
+ * @param {number} [least] how many bytes are enough
  * @returns {Promise<Uint8Array>}
  */
-export async function readBytes(reader, at, length, room) {
+export async function readBytes(reader, at, length, room, least = length) {
     const parts = [];
-    for (let done = 0; done < length;) {
+    for (let done = 0; done < least;) {
         const part = await reader.read(at + done, length - done, room && room.subarray(done));
         if (part.length === 0) throw new Fault(`the image ends at byte ${at + done}`, FAULT.IMAGE_ENDED);
         parts.push(part);

@@ -52,18 +52,19 @@ export class ReadAhead {
     }
 
     /**
-     * Reads bytes, and more after them. What of them is here is not read again.
+     * Reads bytes, and more after them, as many as one read gives. What of them is here is not read again; then no more is read, so that few
+     * bytes are moved.
      * @param {number} at
      * @param {number} size
      */
     async read(at, size) {
         const end = this.at + this.bytes.length;
         const kept = this.bytes.subarray(at < this.at ? this.bytes.length : at - this.at);
-        const from = at + kept.length;
+        const [from, missing] = [at + kept.length, size - kept.length];
         this.wanted = from - end < this.wanted ? Math.min(2 * this.wanted, READ_SIZE) : LEAST;
-        const length = Math.min(Math.max(size - kept.length, this.wanted), this.reader.size - from);
+        const length = Math.min(kept.length > 0 ? missing : Math.max(missing, this.wanted), this.reader.size - from);
         const room = this.roomAfter(kept, length);
-        if (kept.length === 0) this.bytes = await readBytes(this.reader, from, length, room);
+        if (kept.length === 0) this.bytes = await readBytes(this.reader, from, length, room, Math.min(missing, length));
         else {
             await readInto(this.reader, from, room);
             this.bytes = this.room.subarray(0, kept.length + length);
