@@ -212,7 +212,7 @@ class Random(PageTest):
             return
         self.back_to_check()
         self.press('Check')
-        self.browser.wait('#panel-script .tally', 'fit')
+        self.browser.wait('#panel-script .side :is(.tally, .say.good)', 'fit')
 
     def script_file(self) -> Path:
         return discs.written(script=self.model.text())['script']
