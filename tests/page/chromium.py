@@ -29,6 +29,10 @@ WIDTHS = (360, 900, 1280)
 # Seconds in which a page is laid out anew.
 SETTLES = 2
 
+# A browser that is busy loses a drop now and then: how often it is made, and after how many seconds again.
+DROPS = 3
+DROP_TAKES = 5
+
 # Looks again and again, less often the longer it takes.
 LOOK = '''const [most, ...given] = arguments, done = given.pop(), began = performance.now();
 const look = () => {{
@@ -195,8 +199,14 @@ class Chromium:
             return [box.left + box.width / 2, box.top + Math.min(box.height, innerHeight - box.top) / 2]'''
         x, y = self.run(script, css)
         data = {'items': [], 'files': list(map(str, files)), 'dragOperationsMask': 1}
-        for kind in ('dragEnter', 'dragOver', 'drop'):
-            self.cdp('Input.dispatchDragEvent', type=kind, x=x, y=y, data=data)
+        for _ in range(DROPS):
+            self.run('globalThis.dropped = false; addEventListener("drop", () => { dropped = true; }, { capture: true, once: true })')
+            for kind in ('dragEnter', 'dragOver', 'drop'):
+                self.cdp('Input.dispatchDragEvent', type=kind, x=x, y=y, data=data)
+            # A page that another one has followed has not heard of any drop.
+            if self.awaited('globalThis.dropped !== false', seconds=DROP_TAKES):
+                return
+        raise AssertionError(f'the browser has lost {DROPS} drops')
 
     def answer(self, text: str = '') -> None:
         """Presses a button of the sheet that asks: the one that begins with this text, or the main one."""
