@@ -54,8 +54,19 @@ class Next(PageTest):
         self.open_script(files['english'])
         self.browser.wait(f'{SAID}.good', ALL_FIT)
         turns = self.browser.run('return turns')
-        self.assertEqual(turns, sorted(turns, key=['read', 'drawn', 'drawn, checked'].index))
-        self.assertEqual(len({*turns}), 3, turns)
+        self.assertEqual(turns[:4], ['read', 'read', 'drawn', 'drawn, checked'])
+        self.assertEqual({*turns[4:]}, {'drawn, checked'})
+
+    def test_the_characters_of_an_encoding_are_there_before_lines_are_drawn_with_their_texts(self) -> None:
+        self.browser.run("""globalThis.drawn = [];
+            const { TextDecoder } = globalThis;
+            globalThis.TextDecoder = function (label, ...given) {
+                const name = document.querySelector('#panel-script header').textContent;
+                if (label === 'shift_jis') drawn.push(name.includes('english.txt'));
+                return new TextDecoder(label, ...given);
+            }""")
+        self.open_script(self.files()['english'])
+        self.assertEqual({*self.browser.run('return drawn')}, {False})
 
     def test_an_image_that_is_opened_for_a_script_is_checked_at_once(self) -> None:
         files = self.files()

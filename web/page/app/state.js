@@ -162,7 +162,7 @@ export class App extends Store {
 
     /** Shows the script, and has it checked on the open image. */
     checkScript() {
-        this.showPanel('script');
+        if (this.panel !== 'script') this.showPanel('script');
         this.tell('check');
     }
 

@@ -8,7 +8,7 @@ import { MOST_SCRIPT_BYTES } from '../../core/module/records.js';
 import { modelInParts } from '../../core/script/model.js';
 import { isMeantAsScript, isScript } from '../../core/script/script_start.js';
 import { MOST_SECTORS, SECTOR_SIZE, imageTooLong, sectorCount } from '../../core/sectors/sector.js';
-import { textOfFile } from '../../core/texts/encodings.js';
+import { encodingOf, textOfFile } from '../../core/texts/encodings.js';
 import { isLong } from '../app/index.js';
 import * as texts from '../texts/index.js';
 import { say, told } from '../texts/index.js';
@@ -99,6 +99,8 @@ async function takenAs(app, file) {
     const marked = MARKS.find(({ bytes }) => bytes.every((byte, i) => byte === start[i]));
     const whole = textOfFile(await readBytes(fileReader(file), 0, file.size));
     const known = isLong(whole) ? null : await modelInParts(app.calls, whole, nextTurn);
+    await nextTurn();
+    encodingOf(app.encoding)?.text(new Uint8Array(0)); // to make its table takes as long as to draw lines with their texts
     await nextTurn();
     app.setScript(whole, file.name, !marked, known);
     app.showPanel('script');
