@@ -6,7 +6,7 @@ import { test } from 'node:test';
 import { gzipSync } from 'node:zlib';
 import { calls, imageOf, imageOfBytes, page, parts, summing } from './page.mjs';
 
-const { Summing } = await page('app/hashing.js');
+const { Summing, sha1Of } = await page('app/hashing.js');
 const { bytes: sectors } = imageOf([[1], [2], [3], [4], [5]]);
 
 /** A reader of an image, which notes what is read. */
@@ -44,6 +44,14 @@ test('the survey goes ahead of the SHA-1, but not through all of a long image', 
     for (let turn = 0; turn < 1000; turn++) await new Promise(setImmediate);
     assert.ok(surveyed.length > 20 && surveyed.length < 40, `${surveyed.length} ranges`);
     assert.ok(reader.reads.length < 40, `${reader.reads.length} reads`);
+});
+
+test('while bytes are hashed, the next ones are with the worker, and no more', async () => {
+    const posted = [];
+    const stuck = { ...parts, newWorker: () => ({ postMessage: ({ sum }) => sum && posted.push(sum.length), terminate() {} }) };
+    sha1Of(stuck, readerOf(new Uint8Array(5 << 22)), { aborted: false }, () => {});
+    for (let turn = 0; turn < 100; turn++) await new Promise(setImmediate);
+    assert.deepEqual(posted, [1 << 22, 1 << 22]);
 });
 
 test('a worker that stops while it hashes ends the hashing', async () => {

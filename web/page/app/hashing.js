@@ -21,9 +21,9 @@ const MOST_WAITING = 26;
 export class RunningHash {
     /**
      * @param {Parts} parts
-     * @param {number} [most] how many additions may wait
+     * @param {number} [most] how many additions may wait: with two the worker has the next one when it is done with one
      */
-    constructor(parts, most = 1) {
+    constructor(parts, most = 2) {
         this.most = most;
         /** @type {{ resolve: (reply: any) => void, reject: (error: Error) => void }[]} */
         this.waiting = [];
