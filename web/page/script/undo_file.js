@@ -1,6 +1,6 @@
 // The script that takes the open one back, as a file.
 
-import { Fault } from '../../core/faults.js';
+import { Fault, cancelled } from '../../core/faults.js';
 import { Refusal } from '../../core/script/script.js';
 import { undoScript } from '../../core/script/undo.js';
 import { blocksText } from '../../core/sectors/runs.js';
@@ -38,12 +38,14 @@ export async function makeUndo(app, from, places, lines, carry) {
 async function makeUndoAt(app, image, { bar: place, said }, lines, carry) {
     const name = told(texts.undoFile, { script: (app.script.name || texts.scriptFile).replace(/\.[^.]*$/, '') });
     try {
-        const made = await app.run((signal, cancel) => {
+        const made = await app.run(async (signal, cancel) => {
             const bar = jobBar(texts.makingUndo, cancel);
             fill(place, element('h3', {}, ...say(texts.makingFile, { name: nameOf(name) })), ...bar.parts);
             const script = [new TextEncoder().encode(lines.text())];
             const how = { base: image.base, carry, crew: app.crew };
-            return undoScript(app.calls, watched(image.reader, { signal, progress: bar.at }), script, how);
+            const undo = await undoScript(app.calls, watched(image.reader, { signal, progress: bar.at }), script, how);
+            if (signal.aborted) throw cancelled();
+            return undo;
         });
         if (made instanceof Refusal) throw new Fault(texts.scriptHasFault);
         downloadBytes(made.script.pieces, name);
