@@ -52,8 +52,8 @@ export class ReadAhead {
     }
 
     /**
-     * Reads bytes, and more after them, as many as one read gives. What of them is here is not read again; then no more is read, so that few
-     * bytes are moved.
+     * Reads bytes, and as many after them as one read gives. What of them is here is not read again; then none after them are read, so
+     * that few are moved.
      * @param {number} at
      * @param {number} size
      */
