@@ -105,12 +105,19 @@ function bytesIfAny(encoding, text) {
     }
 }
 
+/** @type {WeakMap<Encoding, Uint8Array | null>} the spaces that were asked for: a table of texts asks at each */
+const spaces = new WeakMap();
+
 /**
  * What fills up a shorter text if nothing else is asked for, or null if the encoding has no space.
  * @param {Encoding} encoding
  */
 export function spaceIn(encoding) {
-    return bytesIfAny(encoding, encoding.space);
+    const known = spaces.get(encoding);
+    if (known !== undefined) return known;
+    const space = bytesIfAny(encoding, encoding.space);
+    spaces.set(encoding, space);
+    return space;
 }
 
 /**
