@@ -5,11 +5,16 @@ import { test } from 'node:test';
 import { core, diceOf } from './common.mjs';
 
 const { TextTeller } = await core('texts/telling.js');
+const { allScores } = await core('texts/scores.js');
+const { cellOf } = await core('texts/codes.js');
 const { keptOf } = await core('texts/told.js');
 const { encodingOf } = await core('texts/encodings.js');
 const { encodeText } = await core('texts/encoding.js');
 
 const teller = new TextTeller();
+
+/** What an encoding has beside its bytes. */
+const SHARED = { end: 0, space: ' ', hasCharacters: true };
 const noise = (size, seed) => {
     const dice = diceOf(seed);
     return Buffer.from(Uint8Array.from({ length: size }, () => dice(256)));
@@ -99,6 +104,24 @@ test('a text is found at each of the four bytes of a word', () => {
     for (const name of ['CP932', 'EUC-JP', 'UTF-8']) for (const text of ['前代未聞', 'です']) for (let shift = 0; shift < 4; shift++) {
         const bytes = Buffer.concat([Buffer.alloc(40 + shift, 0x15), Buffer.alloc(4), bytesOf(name, text), Buffer.alloc(4), Buffer.alloc(60, 0x15)]);
         assert.equal(found(bytes).length, 1, `${name} ${text} ${shift}`);
+    }
+});
+
+test('bytes are decoded once to be told as a text, and its cell is not read character by character', () => {
+    const counts = { text: 0, characterAt: 0 };
+    const counted = (encoding, name) => (...given) => {
+        counts[name] += 1;
+        return encoding[name](...given);
+    };
+    const watched = encoding => ({ ...SHARED, name: encoding.name, text: counted(encoding, 'text'), characterAt: counted(encoding, 'characterAt') });
+    const all = allScores().map(scores => ({ ...scores, encoding: watched(scores.encoding) }));
+    const text = bytesOf('CP932', '城の地下に宝があるらしい。');
+    const [place, ...others] = new TextTeller(all).tell(Buffer.concat([Buffer.alloc(300, 0x15), text, Buffer.alloc(300, 0x15)]));
+    assert.deepEqual([place.start, place.end, others, counts], [300, 300 + text.length, [], { text: 1, characterAt: 0 }]);
+    assert.equal(cellOf(place.scores.encoding, text), '城の地下に宝があるらしい。');
+    assert.deepEqual(counts, { text: 2, characterAt: 0 });
+    for (const [bytes, cell] of [['"あ"', '{22}あ"'], ['あ"', 'あ"'], ['あ\n', 'あ{0A}'], ['{', '{7B}']]) {
+        assert.equal(cellOf(encodingOf('CP932'), bytesOf('CP932', bytes)), cell);
     }
 });
 
