@@ -146,6 +146,16 @@ test('more short texts than a call takes arguments are all found', () => inDirec
     assert.deepEqual([out.split('\n').length, out.split('\n')[143360]], [143362, '349\t2043\t4\t4\tCP932\t-\tはい\t']);
 }));
 
+test('a character of two units is one of the fewest that are asked for', () => inDirectory(async room => {
+    const characters = 'abcdef😀';
+    write(room, { 'few.tbl': tableOf(characters, 0x80, '00'), 'few.iso': Buffer.concat([byTable(['abcdef', '😀a', 'b', 'cd'], characters, 0x80, 0), Buffer.alloc(2033)]) });
+    await run(['raw', 'few.iso', 'image'], { cwd: room });
+    for (const [least, due] of [[1, ['abcdef', '😀a', 'b', 'cd']], [2, ['abcdef', '😀a', 'cd']], [3, ['abcdef']]]) {
+        const { out } = await run(['texts', 'image', '--table', 'few.tbl', '--min', String(least)], { cwd: room });
+        assert.deepEqual(rowsOf(out).map(row => row[6]), due);
+    }
+}));
+
 test('where no text is, none is found; and what cannot be searched is named', t => inDirectory(async room => {
     write(room, { 'noise.iso': Buffer.concat([noises()['RANDOM.BIN'], noises()['SOUND.BIN']]) });
     await run(['raw', 'noise.iso', 'image'], { cwd: room });

@@ -104,6 +104,8 @@ function cellsOf({ base, order }, { path, before, first }, { start, end, room, s
  */
 export async function* tableOfTexts(crew, part, stretches, { asked, least = LEAST_CHARACTERS, mark = '\t', signal, progress }) {
     const all = stretches.reduce((sum, stretch) => sum + sectorsOf(stretch), 0);
+    // A character has two units at most.
+    const isLong = (/** @type {Told} */ { text }) => text.length >= 2 * least || [...text].length >= least;
     let done = 0;
     const watchOne = () => {
         let own = 0;
@@ -117,8 +119,7 @@ export async function* tableOfTexts(crew, part, stretches, { asked, least = LEAS
         if (signal && signal.aborted) throw cancelled();
         const some = stretches.slice(i, i + STRETCHES_AT_ONCE);
         const found = await Promise.all(some.map(stretch => textsOf(crew, part, stretch, asked, watchOne())));
-        const long = found.map(texts => texts.filter(({ text }) => [...text].length >= least));
-        const rows = long.flatMap((texts, k) => texts.map(it => cellsOf(part, some[k], it)));
-        yield { text: rows.map(cells => rowText(cells, mark)).join(''), count: rows.length };
+        const rows = found.flatMap((texts, k) => texts.filter(isLong).map(it => rowText(cellsOf(part, some[k], it), mark)));
+        yield { text: rows.join(''), count: rows.length };
     }
 }

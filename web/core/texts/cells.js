@@ -71,6 +71,7 @@ export function* rowsOf(text) {
  * @param {string} mark what stands between them: for a comma they are in quotes if they have to be
  */
 export function rowText(cells, mark) {
-    const shown = cells.map(cell => mark === ',' && /[",\r\n]/.test(String(cell)) ? `"${String(cell).replace(/"/g, '""')}"` : String(cell));
-    return `${shown.join(mark)}${mark === ',' ? '\r\n' : '\n'}`;
+    if (mark !== ',') return `${cells.join(mark)}\n`;
+    const shown = cells.map(cell => /[",\r\n]/.test(String(cell)) ? `"${String(cell).replace(/"/g, '""')}"` : cell);
+    return `${shown.join(mark)}\r\n`;
 }
