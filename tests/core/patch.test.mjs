@@ -2,12 +2,12 @@
 
 import assert from 'node:assert/strict';
 import { test } from 'node:test';
-import { calls, core, decoded, diceOf, encoded, joinedPieces, newCalls, readerOf, sameBytes, someImage } from './common.mjs';
+import { calls, core, decoded, diceOf, encoded, joinedPieces, newCalls, readerOf, sameBytes, someBytes, someImage } from './common.mjs';
 
 const { Refusal, readScript } = await core('script/script.js');
 const { Part, readLines } = await core('script/long_script.js');
 const { applyPatches, passPatched } = await core('script/patches.js');
-const { bytesOfPieces } = await core('bytes.js');
+const { PieceKeeper, bytesOfPieces } = await core('bytes.js');
 const { MOST_SECTORS } = await core('sectors/sector.js');
 
 const BASE = 30;
@@ -141,6 +141,23 @@ test('what was read between patches goes out with them as far as is asked for', 
     };
     const [few, all] = [await sizes({}), await sizes({ near: 1 << 17 })];
     assert.ok(few.slices > 170 && all.slices <= 2 && all.pieces < 40, JSON.stringify({ few, all }));
+});
+
+test('pieces that are kept stand side by side in large memory', async () => {
+    const dice = diceOf(12);
+    const [keeper, given] = [new PieceKeeper(), new Uint8Array(3000000)];
+    const due = Array.from({ length: 200 }, (_, i) => ({ at: i, bytes: someBytes(dice, i === 7 ? 3000000 : dice(9000)) }));
+    const pieces = due.map(({ at, bytes }) => {
+        given.set(bytes);
+        return keeper.kept({ at, bytes: given.subarray(0, bytes.length) });
+    });
+    given.fill(0);
+    pieces.forEach(({ at, bytes }, i) => {
+        assert.equal(at, i);
+        sameBytes(bytes, due[i].bytes, `piece ${i}`);
+    });
+    assert.deepEqual(keeper.kept({ from: 5, to: 9 }), { from: 5, to: 9 });
+    assert.equal(new Set(pieces.map(({ bytes }) => bytes.buffer)).size, 3);
 });
 
 test('old bytes are not compared if that is asked for', async () => {

@@ -171,12 +171,31 @@ export function pieceWithin(piece, from, to) {
     return /** @type {Some} */ (bytes ? { at, bytes } : { from: at, to: end });
 }
 
+/** Bytes of memory in which pieces are kept. */
+const KEPT_SIZE = 1 << 20;
+
 /**
- * A piece to be kept: the bytes of one that is passed on may be others then.
- * @param {Piece} piece
+ * Keeps pieces, since the bytes of one that is passed on may be others then. They stand side by side in large memory: to get memory for
+ * each takes longer than to copy it.
  */
-export function keptPiece(piece) {
-    return 'bytes' in piece ? { ...piece, bytes: piece.bytes.slice() } : piece;
+export class PieceKeeper {
+    constructor() {
+        this.room = new Uint8Array(0);
+    }
+
+    /**
+     * @param {Piece} piece
+     * @returns {Piece}
+     */
+    kept(piece) {
+        if (!('bytes' in piece)) return piece;
+        const { length } = piece.bytes;
+        if (this.room.length < length) this.room = newBytes(Math.max(length, KEPT_SIZE));
+        const bytes = this.room.subarray(0, length);
+        bytes.set(piece.bytes);
+        this.room = this.room.subarray(length);
+        return { ...piece, bytes };
+    }
 }
 
 /** Cuts an image in which some bytes are others into pieces, in order. */

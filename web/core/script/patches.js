@@ -1,6 +1,6 @@
 // The patches of a script on an image, of which only the sectors that they meet are read.
 
-import { ByteList, keptPiece, pieceWithin } from '../bytes.js';
+import { ByteList, PieceKeeper, pieceWithin } from '../bytes.js';
 import { RESULT, STATUS } from '../module/records.js';
 import { pieceReader } from '../piece_reader.js';
 import { SECTOR_SIZE } from '../sectors/sector.js';
@@ -65,6 +65,7 @@ class PatchLog {
 async function passPart(calls, reader, part, image, end, { how, log, take }) {
     /** @type {Piece[]} */
     const left = [];
+    const keeper = new PieceKeeper();
     let last = new Uint8Array(0);
     const note = (/** @type {Step} */ step, /** @type {Uint8Array} */ line) => {
         const { result, block, offset } = step;
@@ -77,7 +78,7 @@ async function passPart(calls, reader, part, image, end, { how, log, take }) {
         for (const it of made) {
             const [ready, rest] = [pieceWithin(it, 0, end), pieceWithin(it, end, Infinity)];
             if (ready !== null) await take(ready);
-            if (rest !== null) left.push(keptPiece(rest));
+            if (rest !== null) left.push(keeper.kept(rest));
         }
     });
     if (status !== STATUS.FAILED) return left;
@@ -136,5 +137,6 @@ export async function passPatched(calls, reader, script, how, take = null) {
 export async function applyPatches(calls, reader, script, how) {
     /** @type {Piece[]} */
     const pieces = [];
-    return { ...await passPatched(calls, reader, script, how, piece => void pieces.push(keptPiece(piece))), pieces };
+    const keeper = new PieceKeeper();
+    return { ...await passPatched(calls, reader, script, how, piece => void pieces.push(keeper.kept(piece))), pieces };
 }

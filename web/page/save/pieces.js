@@ -1,6 +1,6 @@
 // Saving an image that comes in pieces: as a stream to a file that the user chooses, or as a download.
 
-import { bytesOfPieces, forwardOf, keptPiece } from '../../core/bytes.js';
+import { PieceKeeper, bytesOfPieces, forwardOf } from '../../core/bytes.js';
 import { cancelled } from '../../core/faults.js';
 import { fileOf, fileReader } from '../open/index.js';
 import { chosenOther } from './chosen_file.js';
@@ -67,7 +67,8 @@ async function downloadPieces(reader, make, name, { signal, progress, seen, acce
     if (source === null) throw new Error('this image is no file');
     /** @type {Piece[]} */
     const pieces = [];
-    await make(async piece => void pieces.push(keptPiece(piece)));
+    const keeper = new PieceKeeper();
+    await make(async piece => void pieces.push(keeper.kept(piece)));
     const blob = await blobOfPieces(source, pieces);
     const file = new File([blob], name);
     let done = 0;
