@@ -34,7 +34,7 @@ if ! missing python3 python3 'what is made of help'; then
     # A program with one more option and one more command: the pages of today are refused, and those that are made have both.
     cat > wider << 'END'
 #!/usr/bin/env bash
-cdpatch "${@/repair/apply}" | sed -e 's/^  -h, --help .*/      --quiet     Print nothing\n&/' \
+cdpatch "${@/repair/apply}" | sed -e 's/^  -h, --help .*/      --another   Print nothing\n&/' \
     -e 's/^  apply .*/&\n  repair  Repair an image/' -e "s/^Usage: cdpatch apply/Usage: cdpatch ${1/--help/apply}/"
 END
     chmod +x wider
@@ -45,8 +45,8 @@ END
     judge 'by name' cmp -s said <(printf '%s is not as tools/options.py makes it of cdpatch --help\n' man/cdpatch.1 README.md)
     judge 'and made' eval 'check pages ./wider another && check check ./wider another'
     judge 'with the new option, and what help says of it' \
-        test "$(grep -A 1 '^\.It Fl Fl quiet$' another/man/cdpatch.1 | tail -n 1)" = 'Print nothing.'
-    judge 'in the synopsis of each command' test "$(grep -c '^\.Op Fl Fl quiet$' another/man/cdpatch.1)" = 5
+        test "$(grep -A 1 '^\.It Fl Fl another$' another/man/cdpatch.1 | tail -n 1)" = 'Print nothing.'
+    judge 'in the synopsis of each command' test "$(grep -c '^\.Op Fl Fl another$' another/man/cdpatch.1)" = 5
     judge 'with the new command' grep -q '^| `cdpatch repair IMAGE SCRIPT OUT` | Repair an image |$' another/README.md
     judge 'and all prose as it was' test -z "$(diff "$top/man/cdpatch.1" another/man/cdpatch.1 | grep '^<')"
     if ! missing mandoc mandoc 'the form of a made man page'; then
@@ -55,7 +55,7 @@ END
     fi
     python3 -B "$top/tools/options.py" completions wide ./wider
     for name in cdpatch.bash _cdpatch cdpatch.fish; do
-        judge "$name has both" eval "grep -q 'repair' wide/$name && grep -q 'quiet' wide/$name"
+        judge "$name has both" eval "grep -q 'repair' wide/$name && grep -q 'another' wide/$name"
     done
 fi
 
