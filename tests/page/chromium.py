@@ -193,10 +193,11 @@ class Chromium:
         self.find(css).send_keys('\n'.join(map(str, files)))
 
     def drop(self, css: str, files: Sequence[Path]) -> None:
-        """Drops files on an element as soon as it is shown, as from a file manager."""
+        """Drops files on what is seen of an element as soon as it is shown, as from a file manager."""
         self.wait(css)
-        script = '''const box = document.querySelector(arguments[0]).getBoundingClientRect();
-            return [box.left + box.width / 2, box.top + Math.min(box.height, innerHeight - box.top) / 2]'''
+        script = '''const { left, right, top, bottom } = document.querySelector(arguments[0]).getBoundingClientRect();
+            const middle = (from, to, end) => (Math.max(from, 0) + Math.min(to, end)) / 2;
+            return [middle(left, right, innerWidth), middle(top, bottom, innerHeight)]'''
         x, y = self.run(script, css)
         data = {'items': [], 'files': list(map(str, files)), 'dragOperationsMask': 1}
         for _ in range(DROPS):

@@ -254,6 +254,7 @@ class Script(PageTest):
         files = discs.written(game=discs.scratched(), english=discs.script())
         self.open_image(files['game'])
         self.open_script(files['english'])
+        self.browser.wait('.tally')
         for name, shown, then in (('Check', '.tally', 'Check: Go to line'), ('Apply and save', '#saved-sha1', 'Check: Save a cue sheet')):
             self.browser.run(f'{BUTTON}.focus()', name)
             self.browser.press(Keys.ENTER)
