@@ -234,6 +234,24 @@ test('what readers lend is read by hands, and if one can not read it, by this th
     await assert.rejects(survey(new Crew([hand]), [readerOf(small), readerOf(small)]), Gone);
 });
 
+test('bytes are read by a hand that has nothing to do, and by none if all work, or if one can not read', async () => {
+    const { lent } = lendingReader(small);
+    const crew = new Crew([readingHand(9), readingHand(9)], true);
+    const [one, two, three] = await Promise.all([0, 3000, 6000].map(at => crew.readLent(lent(at, 3000))));
+    sameBytes(one, small.subarray(0, 3000), 'the first hand');
+    sameBytes(two, small.subarray(3000, 6000), 'the second hand');
+    assert.equal(three, null, 'all hands work');
+    sameBytes(await crew.readLent(lent(9, 5)), small.subarray(9, 14), 'a hand that is free again');
+    const unable = new Crew([readingHand(0)], true);
+    assert.equal(await unable.readLent(lent(0, 5)), null, 'the hand can not read');
+    assert.equal(unable.lends, false);
+    assert.equal(await new Crew([readingHand(9)]).readLent(lent(0, 5)), null, 'a crew that lends nothing');
+    const hand = { post: message => hand.onreply({ number: message.number, fault: new Error('gone') }) };
+    const failing = new Crew([hand], true);
+    assert.equal(await failing.readLent(lent(0, 5)), null, 'the hand is gone');
+    assert.equal(failing.lends, true);
+});
+
 test('an image without sectors has no answer', async () => {
     assert.deepEqual(await answersOf(localCrew(), 'survey', [readerOf(small.subarray(0, 2351))], {}, {}), []);
 });

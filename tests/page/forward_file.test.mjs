@@ -79,6 +79,21 @@ test('of reads that are far apart, or go back, no more is read than is asked for
     assert.deepEqual(await cutsFor(places), places.map(([, length]) => length));
 });
 
+test('hands that are free read whole slices ahead, and the page all else', async () => {
+    const file = fileOf();
+    const asked = [];
+    const crew = {
+        async readLent({ file: { name }, from, size }) {
+            asked.push([name, from, size]);
+            return asked.length === 2 ? null : new Uint8Array(bytes.subarray(from, from + size));
+        },
+    };
+    const reader = forwardOf(fileReader(file, crew));
+    for (const [at, length] of rowOf(73)) assert.ok(Buffer.from(await reader.read(at, length)).equals(bytes.subarray(at, at + length)), `${at}`);
+    assert.deepEqual(asked, [1, 17, 33, 49].map(at => ['game.bin', at * MiB, 16 * MiB]));
+    assert.deepEqual(file.cuts, [MiB, 16 * MiB, 7 * MiB + 7]);
+});
+
 test('a file that is gone says so, whichever way it is read', async () => {
     const file = fileOf();
     const reader = forwardOf(fileReader(file));

@@ -50,6 +50,7 @@ export const JOBS = {
     replace: (calls, [sectors, wanted], first, args) => replaceRange(calls, sectors, wanted, first, args),
     user: (calls, [bytes], first) => userRange(calls, bytes, first),
     raw: (calls, [user], first) => calls.encodeBlocks(first, user),
+    read: (_, [bytes]) => bytes,
 };
 
 /** Sectors per range. */
@@ -210,6 +211,18 @@ export class Crew {
         } catch (error) {
             return { number: reply.number, fault: /** @type {Error} */ (error) };
         }
+    }
+
+    /**
+     * What is lent, read by a hand that has nothing to do, so that this thread has less to do. Null if no hand is free, or can read it.
+     * @param {unknown} lent
+     * @returns {Promise<Uint8Array | null>}
+     */
+    async readLent(lent) {
+        if (!this.lends || Math.min(...this.loads.values()) > 0) return null;
+        const { answer, fault } = await this.reply({ job: 'read', pieces: [lent], first: 0, args: {} });
+        if (fault && fault.code === FAULT.UNREAD) this.lends = false;
+        return fault ? null : answer;
     }
 
     /**

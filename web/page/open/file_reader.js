@@ -6,6 +6,7 @@ import { told } from '../texts/index.js';
 import { shownName } from '../ui/index.js';
 
 /** @typedef {import('../../core/bytes.js').Reader} Reader */
+/** @typedef {Pick<import('../../core/jobs.js').Crew, 'readLent'>} Crew */
 
 /** Bytes of a slice if reads follow one another, and how many slices are asked for while one is used. */
 const SLICE_SIZE = 1 << 24;
@@ -25,16 +26,22 @@ function fileGone(name) {
 /**
  * A reader of a file's bytes.
  * @param {File} file
+ * @param {Crew | null} [crew] whose hands read slices for one who reads forward, if they have nothing else to do
  * @returns {Reader & { file: File }}
  */
-export function fileReader(file) {
+export function fileReader(file, crew = null) {
     const { size } = file;
+    const lent = (/** @type {number} */ at, /** @type {number} */ length) => ({ file, from: at, size: length });
     const read = async (/** @type {number} */ at, /** @type {number} */ length) => {
         return new Uint8Array(await file.slice(at, at + length).arrayBuffer());
     };
-    return { file, size, lent: (at, length) => ({ file, from: at, size: length }), read: readingOf(file, read),
+    const cut = async (/** @type {number} */ at, /** @type {number} */ length) => {
+        const given = crew !== null && length === SLICE_SIZE && at + length <= size ? await crew.readLent(lent(at, length)) : null;
+        return given || read(at, length);
+    };
+    return { file, size, lent, read: readingOf(file, read),
         forward: () => {
-            const slices = new SlicesAhead(size, read);
+            const slices = new SlicesAhead(size, cut);
             return { size, read: readingOf(file, (at, length) => slices.read(at, length)) };
         } };
 }

@@ -1,0 +1,82 @@
+"""Seconds of the page in Chromium, and its longest task in milliseconds: `page.py PAGE IMAGE SCRIPT [WORK..]`. All patches of the script must
+fit the image. A server on loopback gives the directory of the page."""
+
+import sys
+import time
+from pathlib import Path
+
+sys.path.insert(0, str(Path(__file__).resolve().parent.parent / 'tests' / 'page'))
+import chromium  # noqa: E402
+import common  # noqa: E402
+
+# A chosen file is one of the origin's own, and the longest task is noted.
+BEFORE = '''
+globalThis.showSaveFilePicker = async ({ suggestedName }) =>
+    (await navigator.storage.getDirectory()).getFileHandle(suggestedName, { create: true });
+globalThis.longest = 0;
+new PerformanceObserver(list => {
+    for (const { duration } of list.getEntries()) globalThis.longest = Math.max(globalThis.longest, duration);
+}).observe({ type: 'longtask', buffered: true });'''
+
+# From the press of a button until it is said that all is well.
+TIMED = '''const [buttons, done] = arguments, began = performance.now();
+globalThis.longest = 0;
+const found = [...document.querySelectorAll('button')].find(it =>
+    it.checkVisibility() && buttons.some(text => it.innerText.trim().startsWith(text)));
+if (!found) return void done('no button ' + buttons);
+const parts = () => [...document.querySelectorAll('.tally, .say.good')].filter(it => it.checkVisibility());
+const before = new Set(parts());
+found.click();
+const look = () => {
+    if (parts().some(it => !before.has(it))) done([(performance.now() - began) / 1000, globalThis.longest]);
+    else setTimeout(look, performance.now() - began > 120000 ? done('nothing new: ' + document.body.innerText) : 5);
+};
+look()'''
+
+# The panel of each work, and how its button begins.
+WORKS = {
+    'check': ('script', ['Check']),
+    'undo': ('script', ['Save a script that takes it back', 'Make the undo script']),
+    'save': ('script', ['Apply and save']),
+    'publish': ('publish', ['Save as a patcher']),
+}
+
+
+def opened(page: chromium.Chromium, name: str, shown: str, text: str, file: Path) -> None:
+    """Gives the page a file, and prints how long it takes until something is shown."""
+    page.run('globalThis.longest = 0')
+    began = time.monotonic()
+    page.give('#files', [file])
+    page.wait(shown, text, seconds=300)
+    print(f'{name}: {time.monotonic() - began:.2f} s, longest task {page.run("return longest"):.0f} ms', flush=True)
+
+
+def main(where: str, image: str, script: str, *works: str) -> None:
+    path = Path(where).resolve()
+    server, page = common.Server(path.parent), chromium.Chromium()
+    page.before_pages(BEFORE)
+    page.driver.set_script_timeout(600)
+    page.open(f'{server.url}/{path.name}')
+    page.wait('#start h1')
+    opened(page, 'hashes known', '#disc-line .sha1', '', Path(image).resolve())
+    opened(page, 'script open', '#panel-script header', Path(script).name, Path(script).resolve())
+    time.sleep(5)
+    for name in works or WORKS:
+        panel, buttons = WORKS[name]
+        page.click(f'#tab-{panel}')
+        if name == 'publish':
+            began = time.monotonic()
+            page.wait('#panel-publish .good-ink', seconds=300)
+            print(f'trial: {time.monotonic() - began:.2f} s', flush=True)
+            page.type('#patcher-title', 'Title')
+        time.sleep(2)
+        answer = page.driver.execute_async_script(TIMED, buttons)
+        if isinstance(answer, str):
+            sys.exit(f'{name}: {answer}')
+        print(f'{name}: {answer[0]:.2f} s, longest task {answer[1]:.0f} ms', flush=True)
+        time.sleep(2)
+    page.quit()
+
+
+if __name__ == '__main__':
+    main(*sys.argv[1:])
