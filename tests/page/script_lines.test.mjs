@@ -199,20 +199,29 @@ test('lines that come a second time take the place of those that set the same by
 });
 
 test('a file that is replaced once more leaves no line of its earlier replacement', () => {
-    const [lines, files] = [linesOf('cdpatch 1\n# mine\n'), new ReplacedFiles()];
-    assert.equal(files.replace(lines, '/A', ['set 5 0 4141 was 2020', 'set 6 0 41 was 20']), 0);
-    assert.equal(files.replace(lines, '/B', ['set 9 0 42 was 20']), 0);
+    const [lines, files, disc] = [linesOf('cdpatch 1\n# mine\n'), new ReplacedFiles(), {}];
+    assert.equal(files.replace(lines, disc, '/A', ['set 5 0 4141 was 2020', 'set 6 0 41 was 20']), 0);
+    assert.equal(files.replace(lines, disc, '/B', ['set 9 0 42 was 20']), 0);
     lines.add(['set 5 0 5A was 41'], 'bytes');
     const before = lines.text();
-    assert.equal(files.replace(lines, '/A', ['set 5 1 43 was 20']), 2);
+    assert.equal(files.replace(lines, disc, '/A', ['set 5 1 43 was 20']), 2);
     const after = 'cdpatch 1\n# mine\nset 9 0 42 was 20\nset 5 0 5A was 41\n';
     assert.equal(lines.text(), `${after}set 5 1 43 was 20\n`);
     lines.undo();
     assert.equal(lines.text(), before);
     lines.redo();
-    assert.equal(files.replace(lines, '/A', []), 1, 'the file is as on the disc');
+    assert.equal(files.replace(lines, disc, '/A', []), 1, 'the file is as on the disc');
     assert.equal(lines.text(), after);
-    assert.equal(files.replace(lines, '/A', []), 0);
+    assert.equal(files.replace(lines, disc, '/A', []), 0);
+});
+
+test('a file of another disc leaves the lines for a file of the same path', () => {
+    const [lines, files] = [linesOf('cdpatch 1\n'), new ReplacedFiles()];
+    const [first, second] = [{}, {}];
+    files.replace(lines, first, '/A', ['set 5 0 41 was 20']);
+    assert.equal(files.replace(lines, second, '/A', ['set 7 0 42 was 20']), 0);
+    assert.equal(files.replace(lines, first, '/A', ['set 5 0 43 was 20']), 1);
+    assert.equal(lines.text(), 'cdpatch 1\nset 7 0 42 was 20\nset 5 0 43 was 20\n');
 });
 
 test('what an import or a replacement made gives way where it is met in part, and what was typed does not', () => {

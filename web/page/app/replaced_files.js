@@ -2,24 +2,35 @@
 
 import { linesOfText } from '../../core/script/line_words.js';
 
+/** @typedef {import('../../core/bytes.js').Reader} Reader */
 /** @typedef {import('./script_lines.js').ScriptLines} ScriptLines */
 
+/** The lines that were added last for each file of a disc. Those for the files of another disc stay. */
 export class ReplacedFiles {
     constructor() {
-        /** @type {Map<string, string[]>} the lines that were added last for a file, by its path */
-        this.lines = new Map();
+        /** @type {WeakMap<Reader, Map<string, string[]>>} by the image of the disc, and by the file's path */
+        this.discs = new WeakMap();
+    }
+
+    /** @param {Reader} disc */
+    linesOf(disc) {
+        const known = this.discs.get(disc) || new Map();
+        this.discs.set(disc, known);
+        return known;
     }
 
     /**
      * Adds lines that replace a file, none if it is as on the disc, in place of those that were added for it before. Returns how many of
      * these went.
      * @param {ScriptLines} script
+     * @param {Reader} disc the image of it
      * @param {string} path
      * @param {string[]} texts
      */
-    replace(script, path, texts) {
-        const before = new Set(this.lines.get(path));
-        this.lines.set(path, texts);
+    replace(script, disc, path, texts) {
+        const known = this.linesOf(disc);
+        const before = new Set(known.get(path));
+        known.set(path, texts);
         const lines = linesOfText(script.text());
         const kept = lines.filter(text => !before.has(text));
         if (kept.length === lines.length) {

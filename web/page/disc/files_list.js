@@ -219,24 +219,25 @@ export class FilesList {
         this.input.value = '';
         const { chosen, app: { files } } = this;
         if (!fresh || chosen === null || files === null) return;
-        await this.work(texts.makingLines, texts.nothingAdded, async ({ part }, watch) => {
+        await this.work(texts.makingLines, texts.nothingAdded, async ({ part, reader }, watch) => {
             const file = { ...wholeFile(chosen.entries), names: files };
             const made = await replaceFile(this.app.calls, this.app.crew, part, file, fileReader(fresh), watch);
             if (made.script === null) throw new Fault(leftText(made.left, part.name, MOST_RUNS));
-            return this.added(made.script, chosen, fresh.size);
+            return this.added(made.script, reader, chosen, fresh.size);
         });
     }
 
     /**
      * Adds the lines that replace a file, in place of those that did before.
      * @param {Script} script
+     * @param {import('../../core/bytes.js').Reader} disc
      * @param {Listed} file
      * @param {number} size the new one
      */
-    added(script, { path, size: before }, size) {
+    added(script, disc, { path, size: before }, size) {
         const [{ app }, { patches, long }] = [this, script];
         if (long) throw new Fault(texts.scriptTooLongToReplace);
-        const gone = app.changeScript(lines => this.replaced.replace(lines, path, linesMade(script)));
+        const gone = app.changeScript(lines => this.replaced.replace(lines, disc, path, linesMade(script)));
         const earlier = gone > 0 ? told(texts.earlierLinesGone, { n: gone }) : '';
         if (patches === 0) return notice('plain', earlier || texts.nothingAdded, texts.newFileIsSame);
         const head = told(texts.linesAdded, { n: patches });
