@@ -1,12 +1,12 @@
 // Reading the files that were opened.
 
-import { Fault } from '../../core/faults.js';
+import { Fault, cancelled } from '../../core/faults.js';
 import * as texts from '../texts/index.js';
 import { told } from '../texts/index.js';
-import { shownName } from '../ui/index.js';
+import { isCancelled, shownName } from '../ui/index.js';
 
 /** @typedef {import('../../core/bytes.js').Reader} Reader */
-/** @typedef {Pick<import('../../core/jobs.js').Crew, 'readLent'>} Crew */
+/** @typedef {import('../../core/jobs.js').Crew} Crew */
 
 /** Bytes of a slice if reads follow one another, and how many slices are asked for while one is used. */
 const SLICE_SIZE = 1 << 24;
@@ -26,24 +26,67 @@ function fileGone(name) {
 /**
  * A reader of a file's bytes.
  * @param {File} file
- * @param {Crew | null} [crew] whose hands read slices for one who reads forward, if they have nothing else to do
  * @returns {Reader & { file: File }}
  */
-export function fileReader(file, crew = null) {
+export function fileReader(file) {
     const { size } = file;
-    const lent = (/** @type {number} */ at, /** @type {number} */ length) => ({ file, from: at, size: length });
-    const read = async (/** @type {number} */ at, /** @type {number} */ length) => {
-        return new Uint8Array(await file.slice(at, at + length).arrayBuffer());
-    };
-    const cut = async (/** @type {number} */ at, /** @type {number} */ length) => {
-        const given = crew !== null && length === SLICE_SIZE && at + length <= size ? await crew.readLent(lent(at, length)) : null;
-        return given || read(at, length);
-    };
-    return { file, size, lent, read: readingOf(file, read),
-        forward: () => {
-            const slices = new SlicesAhead(size, cut);
-            return { size, read: readingOf(file, (at, length) => slices.read(at, length)) };
-        } };
+    const read = cutting(file);
+    return { file, size, lent: (from, length) => ({ file, from, size: length }), read: readingOf(file, read),
+        forward: () => forwardReader(file, read) };
+}
+
+/**
+ * The same reader. But for one who reads forward, hands of the crew that have nothing else to do read whole slices.
+ * @param {Reader} reader
+ * @param {Pick<Crew, 'readLent'>} crew
+ * @param {{ aborted: boolean }} signal which ends a read even if no hand answers
+ * @returns {Reader}
+ */
+export function readByHands(reader, crew, signal) {
+    const { lent } = reader;
+    const file = fileOf(reader);
+    if (file === null || lent === undefined) return reader;
+    const read = cutting(file);
+    return { ...reader, forward: () => forwardReader(file, async (at, length) => {
+        if (length < SLICE_SIZE || at + length > file.size) return read(at, length);
+        return await unlessEnded(/** @type {AbortSignal} */ (signal), crew.readLent(lent(at, length))) || read(at, length);
+    }) };
+}
+
+/**
+ * What cuts a file.
+ * @param {File} file
+ * @returns {Reader['read']}
+ */
+function cutting(file) {
+    return async (at, length) => new Uint8Array(await file.slice(at, at + length).arrayBuffer());
+}
+
+/**
+ * A reader of a file for one who reads forward.
+ * @param {File} file
+ * @param {Reader['read']} cut
+ * @returns {Reader}
+ */
+function forwardReader(file, cut) {
+    const slices = new SlicesAhead(file.size, cut);
+    return { size: file.size, read: readingOf(file, (at, length) => slices.read(at, length)) };
+}
+
+/**
+ * What comes of a work, or CANCELLED as soon as a signal says so.
+ * @template T
+ * @param {AbortSignal} signal
+ * @param {Promise<T>} work
+ * @returns {Promise<T>}
+ */
+function unlessEnded(signal, work) {
+    if (!signal.addEventListener) return work;
+    return new Promise((resolve, reject) => {
+        const stop = () => reject(cancelled());
+        signal.addEventListener('abort', stop, { once: true });
+        void work.then(resolve, reject).then(() => signal.removeEventListener('abort', stop));
+    });
 }
 
 /** @typedef {{ from: number, to: number, bytes: Promise<Uint8Array> }} Slice */
@@ -104,7 +147,7 @@ class SlicesAhead {
 }
 
 /**
- * The same reading, whose failure says that the file is gone.
+ * The same reading, whose failure says that the file is gone, unless it was cancelled.
  * @param {File} file
  * @param {Reader['read']} read
  * @returns {Reader['read']}
@@ -113,8 +156,8 @@ function readingOf(file, read) {
     return async (at, length, room) => {
         try {
             return await read(at, length, room);
-        } catch {
-            throw fileGone(file.name);
+        } catch (error) {
+            throw isCancelled(error) ? error : fileGone(file.name);
         }
     };
 }

@@ -170,7 +170,7 @@ async function isRawImage({ calls }, file) {
  * @param {File[]} files
  */
 async function openedImage(app, files) {
-    const disc = await openDisc(app.calls, files.map(file => ({ name: file.name, reader: fileReader(file, app.crew) })));
+    const disc = await openDisc(app.calls, files.map(file => ({ name: file.name, reader: fileReader(file) })));
     const sheet = files.find(file => file.name === disc.sheet);
     return imageOfTrack(disc, sheet ? textOfFile(await readBytes(fileReader(sheet), 0, sheet.size)) : '', null);
 }

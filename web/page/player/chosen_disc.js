@@ -44,8 +44,7 @@ export class ChosenDisc {
 
     /** @param {File[]} files */
     async opened(files) {
-        const named = files.map(file => ({ name: file.name, reader: fileReader(file, this.app.crew) }));
-        return { disc: await openDisc(this.app.calls, named), files };
+        return { disc: await openDisc(this.app.calls, files.map(file => ({ name: file.name, reader: fileReader(file) }))), files };
     }
 
     /**

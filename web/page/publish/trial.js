@@ -3,6 +3,7 @@
 import { RESULT } from '../../core/module/records.js';
 import { pieceReader } from '../../core/piece_reader.js';
 import { applyPatches } from '../../core/script/patches.js';
+import { readByHands } from '../open/index.js';
 import { isImageName } from '../player/index.js';
 import { patchedName, scriptFor } from '../save/index.js';
 import { stemOf } from '../ui/index.js';
@@ -38,7 +39,8 @@ const LONGEST_PROPOSED = 100;
  */
 export async function triedOn(app, image, carry) {
     const script = app.script.text();
-    const made = await applyPatches(app.calls, image.reader, await scriptFor(app, script, image.base), { base: image.base, carry });
+    const reader = readByHands(image.reader, app.crew, { aborted: false });
+    const made = await applyPatches(app.calls, reader, await scriptFor(app, script, image.base), { base: image.base, carry });
     const refused = made.outcomes.filter(it => it.result !== RESULT.OK);
     return {
         script,

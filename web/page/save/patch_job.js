@@ -10,6 +10,7 @@ import { passPatched } from '../../core/script/patches.js';
 import { Refusal, readScript } from '../../core/script/script.js';
 import { MOST_SECTORS, imageTooLong } from '../../core/sectors/sector.js';
 import { RunningHash } from '../app/index.js';
+import { readByHands } from '../open/index.js';
 import * as texts from '../texts/index.js';
 import { told } from '../texts/index.js';
 import { capital, nextTurn } from '../ui/index.js';
@@ -80,7 +81,7 @@ export function watched(reader, { signal, progress }) {
 export async function checkWork(app, { reader, base, script, carry }, watch) {
     const read = await scriptFor(app, script, base);
     assertNotTooLong(reader);
-    return passPatched(app.calls, watched(reader, watch), read, { base, carry });
+    return passPatched(app.calls, watched(readByHands(reader, app.crew, watch.signal), watch), read, { base, carry });
 }
 
 /**
@@ -116,7 +117,8 @@ export async function saveWork(app, { reader, base, carry, script, opened = [] }
     const making = async () => {
         const read = await scriptFor(app, script, base);
         // The pieces of a download are held, and nothing is written before it: what is read shows how far it has come.
-        const [source, near] = canStream() ? [reader, NEAR_WRITTEN] : [watched(reader, watch), NEAR_HELD];
+        const byHands = readByHands(reader, app.crew, watch.signal);
+        const [source, near] = canStream() ? [byHands, NEAR_WRITTEN] : [watched(byHands, watch), NEAR_HELD];
         return async (/** @type {Take} */ take) => void made.push(await passPatched(app.calls, source, read, { base, carry, near }, take));
     };
     const hash = wanted === '' ? null : new RunningHash(app.parts);
