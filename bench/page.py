@@ -1,5 +1,5 @@
-"""Seconds of the page in Chromium, and its longest task in milliseconds: `page.py PAGE IMAGE SCRIPT [WORK..]`. All patches of the script must
-fit the image. A server on loopback gives the directory of the page."""
+"""Seconds of the page in Chromium, and its longest task in milliseconds: `page.py PAGE IMAGE SCRIPT [WORK..]`. All patches of the script
+must fit the image. A server on loopback gives the directory of the page."""
 
 import sys
 import time
@@ -29,7 +29,8 @@ const before = new Set(parts());
 found.click();
 const look = () => {
     if (parts().some(it => !before.has(it))) done([(performance.now() - began) / 1000, globalThis.longest]);
-    else setTimeout(look, performance.now() - began > 120000 ? done('nothing new: ' + document.body.innerText) : 5);
+    else if (performance.now() - began > 120000) done('nothing new: ' + document.body.innerText);
+    else setTimeout(look, 5);
 };
 look()'''
 

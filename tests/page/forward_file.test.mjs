@@ -102,9 +102,11 @@ test('Cancel ends a read that no hand answers', async () => {
             return new Promise(() => {});
         },
     };
-    const reader = forwardOf(readByHands(fileReader(fileOf()), crew, cancelling.signal));
-    await reader.read(0, MiB);
-    await assert.rejects(reader.read(MiB, MiB), { code: 'cancelled' });
+    for (const when of ['while it waits', 'before it']) {
+        const reader = forwardOf(readByHands(fileReader(fileOf()), crew, cancelling.signal));
+        await reader.read(0, MiB);
+        await assert.rejects(reader.read(MiB, MiB), { code: 'cancelled' }, when);
+    }
 });
 
 test('a file that is gone says so, whichever way it is read', async () => {

@@ -81,6 +81,7 @@ function forwardReader(file, cut) {
  * @returns {Promise<T>}
  */
 function unlessEnded(signal, work) {
+    if (signal.aborted) return Promise.reject(cancelled());
     if (!signal.addEventListener) return work;
     return new Promise((resolve, reject) => {
         const stop = () => reject(cancelled());
