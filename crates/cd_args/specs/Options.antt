@@ -4,6 +4,7 @@ use Rattle.std.specs.Prelude.{◌≡◌, ℕ, Bool, false, List, [], ◌∷◌, 
 use Rattle.std.specs.Str.Parse.{digits_value, without_leading_plus}
 use Rattle.clap.specs.Words.{IsSignedIn, Row, Rule, Text, new_rule, one_of, without_minus}
 use Rattle.clap.specs.declared.builder.value_parser.ValueParser.TheVariants as vp
+use Rattle.cd_address.specs.Address.{last_block}
 use Rattle.cd_args.specs.Arguments.{flag_of, flag_rule}
 use Rattle.cd_args.specs.Task.{Task}
 use Rattle.cd_args.specs.declared.job.Job.{Job}
@@ -12,9 +13,9 @@ use Rattle.cd_args.specs.declared.settings.Settings.{Settings}
 
 -- ---- on the command line
 
--- the largest block number that has an address
+-- the largest number that an image's first block may have
 abbrev pub max_base : ℕ
-max_base = 449849
+max_base = last_block
 
 -- the option `--base N`, a number of 0 to 449849; 0 if it is not used
 abbrev pub base_rule : Rule

@@ -7,7 +7,7 @@ ghost use Rattle.cd_args.specs.Arguments.{flag_of, is_set, with_rules};
 ghost use Rattle.cd_args.specs.Options.{HasBase, HasSettings, base_of, base_rule, option_rules, settings_of};
 
 use crate::arguments::{flag_argument, with_argument};
-use cd_sector::MAX_BLOCK;
+use cd_address::MAX_BLOCK;
 use clap::{Arg, ArgMatches, Command, value_parser};
 use std::alloc::{AllocError, Global};
 

@@ -3,7 +3,7 @@
 ghost use Rattle.std.specs.Prelude.{◌≡◌, ℕ, ◌++◌, ◌≤◌, ◌<◌, ◌↔◌, [], ◌∷◌, IsTrue, List, Some, None, count_by, false, slice_index, true};
 ghost use Rattle.std.specs.List.{list_any};
 ghost use Rattle.cd_code.specs.Edc.{IsEdc};
-ghost use Rattle.cd_sector.specs.Address.{address, last_block};
+ghost use Rattle.cd_address.specs.Address.{address, last_block};
 ghost use Rattle.cd_code.specs.CodeWords.{AllCodeWords};
 ghost use Rattle.cd_sector.specs.Consistent.{IsConsistent, consistent, header_of, user_of};
 ghost use Rattle.cd_sector.specs.Defect.{defect_of, is_broken, is_nonzero};
@@ -11,10 +11,9 @@ ghost use Rattle.cd_sector.specs.Kind.{kind_number, kind_of};
 ghost use Rattle.cd_c.specs.Results.{as_byte};
 
 use crate::kinds::kind_number;
+use cd_address::address_of;
 use cd_lanes::edc_of;
-use cd_sector::{
-    Sector, USER_SIZE, address_of, defect, encode_into, fill_parity, is_consistent, kind,
-};
+use cd_sector::{Sector, USER_SIZE, defect, encode_into, fill_parity, is_consistent, kind};
 
 /// Which parts of a sector are wrong, as C's `struct cdpatch_defect`. Its two `bool`s are bytes 0
 /// and 1 here, so that what C left in them unset is a value too.

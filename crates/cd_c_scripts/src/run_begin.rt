@@ -12,9 +12,9 @@ ghost use Rattle.cd_c_scripts.specs.Runs.{IsBegun, IsFaulty, refusal};
 
 use crate::entries::{Entry, index_script, version_number};
 use crate::run_state::{FAULTY, FLAGS, NOTHING, STOPPED, ScriptRun, TOO_LONG};
+use cd_address::MAX_BLOCK;
 use cd_run::PatchRun;
 use cd_script::MAX_TEXT;
-use cd_sector::MAX_BLOCK;
 
 /// No run begins from such a block, or with such flags.
 const REFUSED: usize = 18_446_744_073_709_551_615;

@@ -9,7 +9,8 @@ use Rattle.std.proofs.lemmas.Bool.{cases_lt}
 use Rattle.std.proofs.lemmas.List.{get_or_past, length-replicate}
 use Rattle.std.proofs.lemmas.List.Elements.{All-cons, All-nil, All-replicate}
 use Rattle.cd_code.specs.Field.{AreBytes}
-use Rattle.cd_script.specs.Address.{IsAddress, packed_bcd}
+use Rattle.cd_address.specs.Address.{bcd}
+use Rattle.cd_script.specs.Address.{IsAddress}
 use Rattle.cd_script.specs.Limits.{offset_limit}
 use Rattle.cd_script.specs.Patch.{IsBytes, IsEditAt, IsPatch}
 use Rattle.cd_script.specs.declared.patch.Edit.TheVariants.{Put, Fill, Rebuild, Address}
@@ -45,7 +46,7 @@ AreBytes-all v h = λ i. elim (cases_lt i (length v)) [
 ]
 
 -- the three bytes of an address
-bcd-byte : (n : ℕ) → n < 100 → packed_bcd n < 256
+bcd-byte : (n : ℕ) → n < 100 → bcd n < 256
 bcd-byte n lt = omega arith
 
 pub AreBytes-address : (bytes : List ℕ) → IsAddress bytes → AreBytes bytes
@@ -55,10 +56,10 @@ AreBytes-address bytes h =
     let second = bcd-byte h.second (omega (arith, h.is_second)) in
     let fraction = bcd-byte h.fraction (omega (arith, h.is_fraction)) in
     subst AreBytes (sym h.are)
-    (AreBytes-all (packed_bcd h.minute ∷ packed_bcd h.second ∷ packed_bcd h.fraction ∷ [])
-    (All-cons P (packed_bcd h.minute) (packed_bcd h.second ∷ packed_bcd h.fraction ∷ []) minute
-    (All-cons P (packed_bcd h.second) (packed_bcd h.fraction ∷ []) second
-    (All-cons P (packed_bcd h.fraction) [] fraction (All-nil P)))))
+    (AreBytes-all (bcd h.minute ∷ bcd h.second ∷ bcd h.fraction ∷ [])
+    (All-cons P (bcd h.minute) (bcd h.second ∷ bcd h.fraction ∷ []) minute
+    (All-cons P (bcd h.second) (bcd h.fraction ∷ []) second
+    (All-cons P (bcd h.fraction) [] fraction (All-nil P)))))
 
 -- as many old bytes are asked for as new ones are written, or none
 length-asked : (bytes : List ℕ) (was : Option (List ℕ))

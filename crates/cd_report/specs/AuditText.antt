@@ -3,7 +3,7 @@ use Rattle.std.specs.Prelude.{◌≡◌, ℕ, ◌+◌, ◌≤◌, Bool, false, n
 use Rattle.std.specs.Prelude.{[], ◌∷◌, ◌++◌, length, count_by, codes, decimal, nat_eq, Option, None}
 use Rattle.std.specs.Prelude.{Some}
 use Rattle.std.specs.List.{list_any, starts_with}
-use Rattle.cd_sector.specs.Address.{address}
+use Rattle.cd_address.specs.Address.{address}
 use Rattle.cd_sector.specs.Consistent.{header_of, is_mode1}
 use Rattle.cd_sector.specs.Defect.{defect_of, is_broken, is_nonzero, is_sound}
 use Rattle.cd_sector.specs.Kind.{kind_of}

@@ -1,7 +1,7 @@
 //! What is found of one sector of an image, and its line.
 
 ghost use Rattle.std.specs.Prelude.{◌≡◌, ◌+◌, ◌<◌, ◌≤◌, ◌++◌, Some, length};
-ghost use Rattle.cd_sector.specs.Address.{address};
+ghost use Rattle.cd_address.specs.Address.{address};
 ghost use Rattle.cd_sector.specs.Consistent.{header_of};
 ghost use Rattle.cd_report.specs.AuditText.{count_if, finding_line, findings_of, is_any, is_damage};
 ghost use Rattle.cd_report.specs.AuditText.{is_other_address, line_of, name_if, report_of};
@@ -9,8 +9,9 @@ ghost use Rattle.cd_report.specs.Lines.{text_of};
 ghost use Rattle.cd_stream.specs.Transfer.{Counts, Sends};
 ghost use Rattle.cd_stream.specs.Stream.{CanCountFailure};
 
+use cd_address::address_of;
 use cd_line::{LINE_SIZE, Line};
-use cd_sector::{DefectReport, Sector, SectorKind, address_of, defect, kind};
+use cd_sector::{DefectReport, Sector, SectorKind, defect, kind};
 use cd_stream::{Sink, SinkFailed, write_all};
 
 /// What is found of a Mode 1 sector (ECMA-130, 14 and Annex A).

@@ -29,7 +29,7 @@ mod listing;
 mod scan;
 
 pub use auditing::{AuditTally, audit, audit_end};
-use cd_sector::MAX_BLOCK;
+use cd_address::MAX_BLOCK;
 pub use findings::{Findings, finding_line, has_other_address, is_any};
 pub use laws::{audit_counts_lines, runs_spell_kinds};
 pub use listing::{ListTally, list, list_end, run_line};

@@ -17,7 +17,8 @@ use Rattle.hex.specs.Hex.{decode_of, encode_lower}
 use Rattle.hex.proofs.HexLemmas.{decode_of-encode_lower, decode_of-ok}
 use Rattle.cd_script.specs.declared.fault.ScriptFault.{ScriptFault}
 use Rattle.cd_script.specs.declared.fault.ScriptFault.TheVariants.{Address, Number, Hex}
-use Rattle.cd_script.specs.Address.{IsAddress, address_bytes, bcd_below, header_bytes, packed_bcd}
+use Rattle.cd_address.specs.Address.{bcd}
+use Rattle.cd_script.specs.Address.{IsAddress, address_bytes, bcd_below, header_bytes}
 use Rattle.cd_script.specs.Hex.{hex_bytes}
 use Rattle.cd_script.specs.Limits.{bytes_limit, digit_limit, fraction_limit, minute_limit, number_limit, offset_limit, second_limit}
 use Rattle.cd_script.specs.Value.{address_at, number_at, hex_at, offset_at, count_at, new_at, old_at, byte_at, only_byte}
@@ -229,7 +230,7 @@ byte-kind line = record {
 -- ---- addresses
 
 bcd_below-keeps : (limit high low : ℕ)
-    → IfSome (bcd_below limit high low) (λ b. (n : ℕ) × (n < limit) × (packed_bcd n ≡ b))
+    → IfSome (bcd_below limit high low) (λ b. (n : ℕ) × (n < limit) × (bcd n ≡ b))
 unfolding bcd_below
 bcd_below-keeps limit high low =
     let n = digits_value (high ∷ low ∷ []) in
@@ -259,7 +260,7 @@ unfolding address_bytes
 address-keeps word = grind (arith, header_bytes-keeps)
 
 bcd_below-digits : (limit n : ℕ) → n < limit → limit ≤ minute_limit
-    → bcd_below limit (high_digit (packed_bcd n)) (low_digit (packed_bcd n)) ≡ Some (packed_bcd n)
+    → bcd_below limit (high_digit (bcd n)) (low_digit (bcd n)) ≡ Some (bcd n)
 unfolding bcd_below
 bcd_below-digits limit n lt most = grind (arith, nat_tests)
 
@@ -287,7 +288,7 @@ address-kind line = record {
   spells = λ bytes fits. record {
     plain =
         subst (λ (bs : List ℕ). IsPlainWord (address_word bs)) (sym fits.are)
-        (plain_bytes (packed_bcd fits.minute) (packed_bcd fits.second) (packed_bcd fits.fraction));
+        (plain_bytes (bcd fits.minute) (bcd fits.second) (bcd fits.fraction));
     reads = rw (address-reads bytes fits) refl;
   };
 }

@@ -1,19 +1,16 @@
 -- Header addresses, as words spell them.
 use Rattle.std.specs.Prelude.{◌≡◌, ℕ, ◌+◌, ◌*◌, ◌/◌, ◌%◌, ◌<◌, ◌==◌, ◌&&◌, nat_lt, if◌then◌else◌, List, [], ◌∷◌, Option, Some, None}
 use Rattle.std.specs.Char.{is_ascii_digit}
+use Rattle.cd_address.specs.Address.{bcd}
 use Rattle.cd_script.specs.Hex.{◌>>=◌}
 use Rattle.cd_script.specs.Limits.{minute_limit, second_limit, fraction_limit}
 use Rattle.cd_script.specs.Number.{digits_value}
-
--- two decimal digits in one byte
-abbrev pub packed_bcd : ℕ → ℕ
-packed_bcd n = 16 * (n / 10) + n % 10
 
 -- the number below a limit that two decimal digits spell, in BCD
 unfoldable pub bcd_below : ℕ → ℕ → ℕ → Option ℕ
 bcd_below limit high low =
     if is_ascii_digit high && is_ascii_digit low && nat_lt (digits_value (high ∷ low ∷ [])) limit
-    then Some (packed_bcd (digits_value (high ∷ low ∷ []))) else None
+    then Some (bcd (digits_value (high ∷ low ∷ []))) else None
 
 -- the minute 0 to 99, the second 0 to 59 and the fraction 0 to 74, two digits each
 unfoldable pub header_bytes : ℕ → ℕ → ℕ → ℕ → ℕ → ℕ → Option (List ℕ)
@@ -37,10 +34,10 @@ pub record IsAddress (bytes : List ℕ) : Type 0 where
   pub is_minute : minute < minute_limit
   pub is_second : second < second_limit
   pub is_fraction : fraction < fraction_limit
-  pub are : bytes ≡ packed_bcd minute ∷ packed_bcd second ∷ packed_bcd fraction ∷ []
+  pub are : bytes ≡ bcd minute ∷ bcd second ∷ bcd fraction ∷ []
 
 -- the byte is a number below a limit, in BCD
 pub record IsBcd (limit byte : ℕ) : Type 0 where
   pub number : ℕ
   pub below : number < limit
-  pub is : byte ≡ packed_bcd number
+  pub is : byte ≡ bcd number

@@ -3,7 +3,7 @@
 use Rattle.std.specs.Prelude.{◌≡◌, ℕ, ◌*◌, ◌/◌, ◌<◌, ◌++◌, All, List, length, drop}
 use Rattle.std.specs.List.{flat_map}
 use Rattle.std.specs.Simd.{first_chunks}
-use Rattle.cd_sector.specs.Address.{last_block}
+use Rattle.cd_address.specs.Address.{last_block}
 use Rattle.cd_sector.specs.declared.sector.TheConstants.{SECTOR_SIZE}
 
 -- the whole sectors, in order

@@ -1,4 +1,3 @@
-pub mod Address
 pub mod Carried
 pub mod Consistent
 pub mod Defect

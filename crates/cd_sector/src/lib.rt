@@ -20,13 +20,12 @@
 //! ```
 //!
 //! A sector of any other kind is only named ([`kind`]): the two forms of Mode 2 are not in
-//! ECMA-130. Blocks have an address up to [`MAX_BLOCK`], and an image has at most [`MAX_SECTORS`] whole
-//! sectors, then a tail that is shorter. No call takes memory.
+//! ECMA-130. An image has at most [`MAX_SECTORS`] whole sectors, then a tail that is shorter. No call
+//! takes memory.
 //!
 //! Tests: `crates/cd_low_tests/src/tests/sectors.rt`.
 #![tactic(auto)]
 
-mod addresses;
 mod defects;
 mod edc_field;
 mod encoding;
@@ -37,7 +36,6 @@ mod parity;
 mod sector;
 mod sums;
 
-pub use addresses::{MAX_BLOCK, address_of};
 pub use cd_code::{
     COLUMNS, DIAGONAL_SIZE, DIAGONALS, FIRST_P, FIRST_P_ROW, FIRST_Q, PLANE_COLUMNS, ROWS,
     SECOND_P, SECOND_P_ROW, SECOND_Q,

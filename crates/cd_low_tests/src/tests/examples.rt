@@ -1,5 +1,6 @@
-//! The examples of the rustdoc of cd_code, cd_lanes, cd_sector, cd_delta, cd_patch and cd_script.
+//! The examples of the rustdoc of cd_address, cd_code, cd_lanes, cd_sector, cd_delta, cd_patch and cd_script.
 
+use cd_address::{MAX_BLOCK, address_of};
 use cd_code::{
     COLUMNS, ColumnSums, LaneSums, ROWS_SIZE, alpha_power, column_lanes, column_sums,
     edc_by_tables, edc_moved, edc_of, lanes_at, pair_change, pair_from, parity_pair, put_lanes,
@@ -13,8 +14,8 @@ use cd_script::{
     read_line, without_old,
 };
 use cd_sector::{
-    DIAGONALS, EDC, HEADER, SECTOR_SIZE, Sector, SectorKind, USER_SIZE, address_of, count_broken,
-    defect, edc_bytes, encode, encode_into, fill_edc, fill_parity, has_zeros, is_consistent, kind,
+    DIAGONALS, EDC, HEADER, SECTOR_SIZE, Sector, SectorKind, USER_SIZE, count_broken, defect,
+    edc_bytes, encode, encode_into, fill_edc, fill_parity, has_zeros, is_consistent, kind,
     mark_broken, mark_columns, mark_diagonals, put_edc, put_part, rebuild, same_defect, stored_edc,
     sum_of,
 };
@@ -297,6 +298,12 @@ fn addresses(rt: HostRuntime) {
     assert_eq!(rt; address_of(0), Some([0x00, 0x02, 0x00])); // 00:02:00
     assert_eq!(rt; address_of(449_849), Some([0x99, 0x59, 0x74])); // 99:59:74
     assert_eq!(rt; address_of(449_850), None);
+}
+
+#[test]
+fn the_address_of_block_16(rt: HostRuntime) {
+    assert_eq!(rt; address_of(16), Some([0x00, 0x02, 0x16])); // 00:02:16
+    assert_eq!(rt; address_of(MAX_BLOCK + 1), None);
 }
 
 #[test]

@@ -1,6 +1,7 @@
 //! Sectors made of user data and of other sectors.
 
-use cd_sector::{Sector, address_of, encode, sum_of};
+use cd_address::address_of;
+use cd_sector::{Sector, encode, sum_of};
 use std::alloc::{AllocError, Global};
 
 /// The consistent sector of a block with this user data.

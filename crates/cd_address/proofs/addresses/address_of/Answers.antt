@@ -1,6 +1,6 @@
 use Rattle.std.proofs.Common.{◌≡◌, ℕ, ◌+◌, ◌/◌, ◌%◌, ◌<◌, ◌≤◌, [], ◌∷◌, Some, None, rules}
-use Rattle.cd_sector.specs.Address.{address, bcd}
-use Rattle.cd_sector.proofs.addresses.address_of.Goals as goal
+use Rattle.cd_address.specs.Address.{address, bcd}
+use Rattle.cd_address.proofs.addresses.address_of.Goals as goal
 
 none_past : (block : ℕ) → 449849 < block → None ≡ address block
 unfolding address

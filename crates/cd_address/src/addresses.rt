@@ -1,7 +1,7 @@
 //! The address of a block, as a header has it.
 
 ghost use Rattle.std.specs.Prelude.{◌≡◌, ◌+◌, ◌*◌, ◌/◌, ◌%◌, ◌<◌, ◌≤◌, ◌↔◌, IsSome};
-ghost use Rattle.cd_sector.specs.Address.{address, bcd};
+ghost use Rattle.cd_address.specs.Address.{address, bcd};
 
 /// The last block that has an address, which is 99:59:74.
 pub const MAX_BLOCK: u32 = 449_849;
