@@ -30,7 +30,7 @@ ifeq ($(SIMPLE),1)
 	    (cd crates/$$crate && rt lib --cpu x86-64-v3 > /dev/null && mv out/lib$$crate.a out/lib$$crate-x86-64-v3.a && \
 	    rt lib $(CPU:%=--cpu %) > /dev/null) || exit; \
 	done
-	$(if $(MODULES),bash tools/wasm.sh library)
+	$(if $(MODULES),python3 tools/prove.py wasm)
 else
 	@python3 tools/prove.py '$(strip cdpatch $(LIBRARY_CRATES) $(MODULES))' '$(AT_ONCE)' '$(CPU)'
 endif

@@ -19,7 +19,7 @@ fit() {
 }
 
 committed() { git status --porcelain > "$scratch/changes" && [ ! -s "$scratch/changes" ]; }
-has_version() { [ "$("$program" --help | tail -n 1)" = "cdpatch $version" ] && grep -q "^## $version (20[0-9-]*)$" CHANGELOG.md; }
+has_version() { [ "$("$program" --help | tail -n 1)" = "cdpatch $version" ] && grep -m 1 '^## ' CHANGELOG.md | grep -q "^## $version (20[0-9-]*)$"; }
 has_tools() { { python3 -B tools/pack.py --versions && cat "$library/cdpatch.wasm.txt"; } | cmp -s tools/versions.txt -; }
 # made FILE COMMAND..: whether a command makes a file like this one in the scratch directory.
 made() { "${@:2}" && cmp -s "$1" "$scratch/$(basename "$1")"; }

@@ -26,40 +26,44 @@ from pathlib import Path
 sys.path.insert(0, str(Path(shutil.which('rt') or sys.exit('There is no rt on the path.')).resolve().parent))
 import rtlib  # noqa: E402
 
-TOP = Path(os.environ.get('TREE') or Path(__file__).resolve().parent.parent)
+TOP = Path(__file__).resolve().parent.parent
 MEMORY = 2_000_000_000  # bytes, the most that the proof of a crate takes
+MODULES = 'wasm'
+ROOM = TOP / 'crates/cd_words/out/wasm64'
+
+
+def crates_for_modules():
+    """The crates that are proved once more for the modules, by names of their own, that of exports by MODULES: tools/wasm.sh says why."""
+    subprocess.run(['bash', TOP / 'tools/wasm.sh', ROOM], check=True)
+    own = [crate for crate in rtlib.crates_below(str(ROOM)) if not os.path.islink(f'{crate.folder}/out')]
+    return {MODULES if crate.is_static else f'{crate.name} over words': crate for crate in own}
 
 
 def crates_of(goals):
-    """Each crate that the goals need, and the names of those that it stands on. The modules have cd_words in place of cd_lanes, and prove
-    all above that themselves."""
+    """Each crate, and of those that the goals need the names of those that it stands on."""
     crates = {crate.name: crate for crate in rtlib.crates_below(str(TOP))}
-    needs = {name: {low.name for low in crate.deps} for name, crate in crates.items()}
-    below = {}
-    for name in TopologicalSorter(needs).static_order():
-        below[name] = needs[name].union(*(below[low] for low in needs[name]))
-    exporting = (name for name, crate in crates.items() if crate.is_static and name != 'cd_c_images')
-    needs['wasm'] = {'cd_words'} | {low for name in exporting for low in below[name] if 'cd_lanes' not in {low} | below[low]}
+    crates |= crates_for_modules() if MODULES in goals else {}
+    names = {crate.folder: name for name, crate in crates.items()}
     graph = {}
     while goals:
-        for name in goals - set(needs):
+        for name in goals - set(crates):
             sys.exit(f'crates.txt has no {name}')
-        graph |= {name: needs[name] for name in goals}
+        graph |= {name: {names.get(low.folder, low.name) for low in crates[name].deps} for name in goals}
         goals = set().union(*graph.values()) - set(graph)
     return crates, graph
 
 
-def size(name):
+def size(crate):
     """The bytes of a crate's text: roughly how long its proof takes."""
-    folders = [Path('crates', name)] if name != 'wasm' else Path('crates').glob('cd_c*')
-    return 1 + sum(file.stat().st_size for folder in folders for end in ('src/**/*.rt', '*/**/*.antt') for file in folder.glob(end))
+    parts = (Path(crate.folder, part) for part in ('src', 'specs', 'proofs'))
+    return 1 + sum(file.stat().st_size for part in parts for end in ('rt', 'antt') for file in part.rglob(f'*.{end}'))
 
 
-def ways(graph):
+def ways(crates, graph):
     """The bytes of the crates on the longest way from each up to a goal."""
     longest = {}
     for name in reversed(list(TopologicalSorter(graph).static_order())):
-        longest[name] = size(name) + max((longest[above] for above in longest if name in graph[above]), default=0)
+        longest[name] = size(crates[name]) + max((longest[above] for above in longest if name in graph[above]), default=0)
     return longest
 
 
@@ -85,41 +89,71 @@ def prove_static(crate, jobs, cpu):
     return status or crate.build_static([*jobs, *cpu])
 
 
+def prove_modules(crate, jobs):
+    """Leaves the modules in library/, and the verdict, if they are not there or are of something else."""
+    made, kept = 'library/cdpatch', Path(crate.folder, 'out/made_of')
+    made_of = crate.stamp() + Path('tools/lower.sh').read_text(encoding='utf-8')
+    files = [Path(f'{made}{end}') for end in ('-wasm64.wasm', '-wasm64.txt', '.wasm', '.wasm.txt')]
+    if all(file.exists() for file in [kept, *files]) and kept.read_text(encoding='utf-8') == made_of:
+        return 0
+    status = crate.build_static(jobs)
+    if status == 0:
+        os.makedirs('library', exist_ok=True)
+        os.replace(f'{crate.folder}/out/{crate.name}.wasm', f'{made}-wasm64.wasm')
+        os.chmod(f'{made}-wasm64.wasm', 0o644)
+        crate.out.seek(0)
+        Path(f'{made}-wasm64.txt').write_text(''.join(line for line in crate.out if line.startswith('logic=proved ')), encoding='utf-8')
+        words = [*rtlib.guarded(), 'bash', 'tools/lower.sh', f'{made}-wasm64.wasm', f'{made}.wasm']
+        status = subprocess.run(words, stdout=crate.out, stderr=crate.out).returncode
+    if status == 0:
+        kept.write_text(made_of, encoding='utf-8')
+    return status
+
+
 def prove(name, crate, jobs, cpu):
     """The status of a crate's proof, and what it printed: nothing if nothing has changed."""
     with tempfile.TemporaryFile('w+', errors='replace') as out:
-        if name == 'wasm':
-            status = subprocess.run([*rtlib.guarded(), 'bash', 'tools/wasm.sh', 'library'], stdout=out, stderr=out).returncode
-        elif crate.is_program:
+        if crate.is_program:
             # One short function is left to prove: copies of rattle that share the work would make it longer.
             words = [*rtlib.guarded(), 'rt', 'run', '--jobs', '1', *cpu]
             status = subprocess.run(words, cwd=crate.folder, stdin=subprocess.DEVNULL, stdout=subprocess.DEVNULL, stderr=out).returncode
         else:
             crate, held = copy.copy(crate), rtlib.lock([crate])
             crate.out = out
-            status = prove_static(crate, jobs, cpu) if crate.is_static else prove_library(crate, jobs)
+            if name == MODULES:
+                status = prove_modules(crate, jobs)
+            else:
+                status = prove_static(crate, jobs, cpu) if crate.is_static else prove_library(crate, jobs)
             os.close(*held)
         out.seek(0)
         return status, re.sub('rt: (nothing has changed|running|chose) .*\n', '', out.read())
 
 
+def share(name, others, at_once, longest):
+    """The processors for a crate beside others, and what is left over for the one on the longest way: several at one proof take more of them
+    in all, so only what nothing else wants."""
+    side_by_side = min(1 + len(others), at_once)
+    over = rtlib.cores() % side_by_side if all(longest[name] >= longest[other] for other in others) else 0
+    return rtlib.share(side_by_side) + over
+
+
 def prove_all(crates, graph, at_once, cpu):
     """Whether all crates are proved. After one that is not, none begins."""
-    sorter, longest, ready, running, proved = TopologicalSorter(graph), ways(graph), [], {}, 0
+    sorter, longest, ready, running, proved = TopologicalSorter(graph), ways(crates, graph), [], {}, 0
     sorter.prepare()
     with ThreadPoolExecutor(at_once) as pool:
         while sorter.is_active():
             ready = sorted([*ready, *sorter.get_ready()], key=lambda name: (longest[name], name))
             while ready and len(running) < at_once:
-                # Several processors at one proof take more of them in all: only what nothing else wants.
-                jobs = ['--jobs', str(rtlib.share(min(len(running) + len(ready), at_once)))]
                 name = ready.pop()
-                running[pool.submit(prove, name, crates.get(name), jobs, cpu)] = name
+                jobs = ['--jobs', str(share(name, [*running.values(), *ready], at_once, longest))]
+                running[pool.submit(prove, name, crates[name], jobs, cpu)] = name
             for future in wait(running, return_when=FIRST_COMPLETED).done:
                 name, (status, text) = running.pop(future), future.result()
                 if status:
                     said = re.search('^.*: error.*', text, re.MULTILINE) or re.search('.*$', text.strip())
-                    print(f'FAILED {name}: {said[0][:240]}\n  all of it: (cd crates/{name} && rt check)', flush=True)
+                    folder = os.path.relpath(crates[name].folder)
+                    print(f'FAILED {name}: {said[0][:240]}\n  all of it: (cd {folder} && rt check)', flush=True)
                     return False
                 proved += 1
                 print('proved' if text else 'unchanged', f'{name}, {proved} of {len(graph)}', flush=True)

@@ -10,7 +10,7 @@ if missing make make 'the Makefile' || missing python3 python3 'the Makefile'; t
     exit
 fi
 
-# A repository whose rt, tools/prove.py, tools/library.sh, tools/wasm.sh and tests/run write into `called` what they are called for,
+# A repository whose rt, tools/prove.py, tools/library.sh and tests/run write into `called` what they are called for,
 # and of whose toolchain tools/toolchain.sh says that its logic is another.
 mkdir -p crates/cdpatch crates/cd_c crates/cd_c_images tools tests/lib bin
 cp "$top/Makefile" "$top/install.mk" .
@@ -44,7 +44,6 @@ os.chmod("crates/cdpatch/out/cdpatch", 0o755)
 EOF_PROVE
 echo 'echo "library.sh: $*" >> "$CALLED"' > tools/library.sh
 echo 'echo "another logic"; exit 1' > tools/toolchain.sh
-echo 'echo "wasm.sh: $*" >> "$CALLED"' > tools/wasm.sh
 echo 'echo "web.sh: $*" >> "$CALLED"' > tools/web.sh
 echo 'echo "notices.sh: $*" >> "$CALLED"' > tools/notices.sh
 echo 'echo "tests: $* ${WHOLE-} ${WRONG_VERSIONS-}" >> "$CALLED"' > tests/run
@@ -123,7 +122,7 @@ if ! missing make make 'what the Makefile does'; then
         'made: cdpatch library/libcdpatch.a library/libcdpatch.so.1 library/cdpatch.wasm cdscript cdpatch.html' \
         'try:  ./cdpatch audit crates/cd_low_tests/data/cdrkit-8.bin' '      or open cdpatch.html in a browser' 'then: make check, sudo make install'
     MODULES=wasm DOORS=web makes SIMPLE=1
-    judge 'with SIMPLE they come after the libraries' called 'rt in cdpatch: run' "${libraries[@]:0:4}" 'wasm.sh: library' \
+    judge 'with SIMPLE they come after the libraries' called 'rt in cdpatch: run' "${libraries[@]:0:4}" 'prove.py: wasm' \
         'library.sh: library' 'web.sh: library .'
     MODULES=wasm makes wasm
     judge 'make wasm makes only the modules' called 'prove.py: wasm '

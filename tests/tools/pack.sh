@@ -165,7 +165,7 @@ test_refusals() {
         grep -qF "package esbuild" errors'
 }
 
-# A tree `release` whose sources are a commit, with stand-ins for rt and for what `make` leaves.
+# A tree `release` whose sources are a commit, with stand-ins for rt, for tsc, and for what `make` leaves.
 release_tree() {
     local name
     mkdir -p release/library/x86-64-v3 kit/rattle stubs
@@ -177,11 +177,15 @@ release_tree() {
     done < <(sed 's/#.*//; s/:/ /' release/crates.txt | tr -s ' ' '\n')
     printf '%s\n' '#!/bin/sh' "case \$1 in version) echo \"a-kit logic \$LOGIC\" ;; doc) echo '$PWD/kit/START' ;; esac" > stubs/rt
     printf '%s\n' '#!/bin/sh' "echo 'cdpatch $version'" > release/cdpatch
-    chmod +x stubs/rt release/cdpatch
+    # Which types tsc makes is no matter of these tests.
+    printf '%s\n' '#!/bin/sh' 'while [ "$1" != --outDir ]; do shift; done' 'cd web' \
+        'find npm core -name "*.js" | while read -r file; do mkdir -p "$2/${file%/*}" && : > "$2/${file%.js}.d.ts"; done' > stubs/tsc
+    chmod +x stubs/rt stubs/tsc release/cdpatch
     ssh-keygen -q -t ed25519 -N '' -f owner && ssh-keygen -q -t ed25519 -N '' -f another || return
     sed -i -e 's/^\(address\|toolchain\|questions\):$/& a@localhost/' -e 's/^licence:$/& none/' \
         -e "s|^key:\$|& $(cut -d ' ' -f 1,2 owner.pub)|" release/tools/owner.txt
     echo terms > release/LICENSE
+    sed -i '/^## Unreleased$/d' release/CHANGELOG.md
     mkdir release/completions
     : | tee release/completions/{_cdpatch,cdpatch.bash,cdpatch.fish,_cdscript,cdscript.bash} > release/completions/cdscript.fish
     : | tee release/library/{libcdpatch.a,libcdpatch.so.1,x86-64-v3/libcdpatch.so.1} > release/library/libcdpatch.a
@@ -237,6 +241,7 @@ test_release() {
     unfit 'there is no LICENSE' rm LICENSE
     unfit 'is not of version 9.9.9' sed -i '0,/^## [0-9.]* /s//## 9.9.9 /' CHANGELOG.md
     unfit "is not of version $version with a date" sed -i '0,/^## [0-9.]* .*/s//## '"$version"' (soon)/' CHANGELOG.md
+    unfit "is not of version $version with a date" sed -i '0,/^## /s//## Unreleased\n\n&/' CHANGELOG.md
     LOGIC=0123456789abcdef unfit 'logic is not the one that docs/TRUST.md names' true
     unfit "verdict 'logic=proved'" sed -i s/proved/not-proved/ library/cdpatch-wasm64.txt
     unfit 'the notices' sed -i 1d library/NOTICES
@@ -269,34 +274,31 @@ lint() { (cd "$1" && NODE_PATH=/usr/share/nodejs eslint -f unix --rulesdir "$tre
 lint_tools() { lint "$tree/tools" --no-eslintrc -c "$tree/web/.eslintrc.json" --env browser,node --parser-options sourceType:module . ; }
 
 # refuses_form TEXT FILE LINE: notes a line more in a module of web/, of which eslint has to say this text. Each line of a module stands in
-# another copy of web/, so that eslint reads all copies in a few runs.
-forms=()
-declare -A lines_of=() linted=()
+# another copy of web/, so that eslint reads all in one run.
+forms=() linted=()
+declare -A lines_of=()
 refuses_form() {
     local name="eslint refuses $2 with ${3%;}: $1" copy=$((lines_of[$2]))
     [ "${CASE-$name}" = "$name" ] || return 0
     [ -d "forms.$copy" ] || cp -r "$tree/web" "forms.$copy"
     printf '%s\n' "$3" >> "forms.$copy/$2"
     lines_of[$2]=$((copy + 1))
-    linted[$copy]+=" $2"
-    forms+=("$name" "$1" "forms.$copy" "$2")
+    linted+=("forms.$copy/$2")
+    forms+=("$name" "$1" "forms.$copy/$2")
 }
 judge_forms() {
-    local copy i files
-    for copy in "${!linted[@]}"; do
-        read -ra files <<< "${linted[$copy]}"
-        lint "forms.$copy" "${files[@]}" > "forms.$copy.log"
-    done
-    for ((i = 0; i < ${#forms[@]}; i += 4)); do
-        judge "${forms[i]}" is_said "${forms[@]:i + 1:3}"
+    local i
+    lint . "${linted[@]}" > forms.log
+    for ((i = 0; i < ${#forms[@]}; i += 3)); do
+        judge "${forms[i]}" is_said "${forms[@]:i + 1:2}"
     done
 }
-is_said() { grep -F "/$2/$3:" "$2.log" | grep -qF "$1"; }
+is_said() { grep -F "/$2:" forms.log | grep -qF "$1"; }
 
 # of_header NAME: the number CDPATCH_NAME of the header.
 of_header() { sed -nE "s/.*\bCDPATCH_$1 = ([0-9]+).*/\1/p" "$top/include/cdpatch.h"; }
 
-# lacks_numbers WEB: whether no code there has a number of cdpatch.h that nothing else is likely to be.
+# lacks_numbers WEB FILE..: whether no code in these has a number of cdpatch.h that nothing else is likely to be.
 lacks_numbers() {
     local number rule='error' sector base
     sector=$(of_header SECTOR_SIZE)
@@ -306,18 +308,18 @@ lacks_numbers() {
         rule+=",\"Literal[value=$number]\""
     done
     (cd "$1" && NODE_PATH=/usr/share/nodejs eslint -f unix --no-eslintrc --parser-options=ecmaVersion:2020,sourceType:module \
-        --ignore-pattern core/module/numbers.js --rule "no-restricted-syntax: [$rule]" .)
+        --ignore-pattern core/module/numbers.js --rule "no-restricted-syntax: [$rule]" "${@:2}")
 }
 has_number() {
     rm -rf other
     cp -r "$tree/web" other
     echo 'export const LAST = 449849;' >> other/core/bytes.js
-    ! lacks_numbers other > log && grep -qF core/bytes.js log
+    ! lacks_numbers other core/bytes.js > log && grep -qF core/bytes.js log
 }
 
 test_forms() {
     missing eslint eslint 'the forms of web/' && return
-    wanted 'the numbers of cdpatch.h stand nowhere else in web/' lacks_numbers "$tree/web"
+    wanted 'the numbers of cdpatch.h stand nowhere else in web/' lacks_numbers "$tree/web" .
     wanted 'a number of cdpatch.h in the core is refused' has_number
     wanted 'the forms of web/' lint "$tree/web" .
     wanted "the forms of the tools' JavaScript" lint_tools

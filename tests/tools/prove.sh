@@ -12,7 +12,7 @@ if ! command -v python3 > /dev/null; then
 fi
 
 # A repository in which `right` and `left` stand on `low`, the program on all three, tests on the program, and a static library on
-# `left`; and one for the modules, which stands on `right` and, below `sector`, on cd_lanes.
+# `left`; and one whose calls are those of the modules, which stands on `right` and, below `sector`, on cd_lanes.
 mkdir -p tools kit/bin crates/{low,left,right,program,tests,for_c,cd_lanes,cd_words,sector,exports}/src
 cp "$top/tools/prove.py" tools
 touch crates/program/src/main.rt
@@ -36,6 +36,8 @@ from pathlib import Path
 
 STANDS_ON = {"low": [], "left": ["low"], "right": ["low"], "program": ["left", "right"], "tests": ["program"], "for_c": ["left"],
              "cd_lanes": [], "cd_words": [], "sector": ["cd_lanes", "low"], "exports": ["right", "sector"]}
+OVER_WORDS = {"low": [], "right": ["low"], "cd_words": [], "cd_lanes": ["cd_words"], "sector": ["cd_lanes", "low"],
+              "joined": ["right", "sector"]}
 
 
 def say(text):
@@ -45,7 +47,7 @@ def say(text):
 
 def crates_below(top):
     crates = {}
-    for name, below in STANDS_ON.items():
+    for name, below in (OVER_WORDS if top.endswith("wasm64") else STANDS_ON).items():
         crates[name] = Crate(f"{top}/crates/{name}", name, [crates[low] for low in below])
     return list(crates.values())
 
@@ -62,6 +64,10 @@ def fits(*needs):
     return len(needs) <= 4
 
 
+def cores():
+    return 4
+
+
 def share(runs):
     return 4 // runs
 
@@ -71,7 +77,7 @@ class Crate:
 
     def __init__(self, folder, name, deps):
         self.folder, self.name, self.deps = folder, name, deps
-        self.is_program, self.is_static, self.out = name in ("program", "tests"), name in ("for_c", "exports"), sys.stdout
+        self.is_program, self.is_static, self.out = name in ("program", "tests"), name in ("for_c", "exports", "joined"), sys.stdout
         self.rlib = f"{folder}/out/rlib/it.rlib"
 
     def stamp(self):
@@ -107,6 +113,8 @@ class Crate:
     def build_static(self, flags):
         os.makedirs(f"{self.folder}/out", exist_ok=True)
         Path(self.folder, "out", f"lib{self.name}.a").write_text(f"for {' '.join(flags)}\n", encoding="utf-8")
+        Path(self.folder, "out", f"{self.name}.wasm").write_text("a module\n", encoding="utf-8")
+        print("a line", "logic=proved functions=7", sep="\n", file=self.out)
         return self.build("static", [*flags])
 EOF_RTLIB
 chmod +x kit/bin/rt
@@ -158,18 +166,37 @@ goals=for_c prove 2
 judge 'what a static library does not need is not proved' test "$(begun)" = 'low left for_c for_c'
 
 rm -r crates/*/out
-echo 'echo "wasm begins: $*" >> "$CALLS"' > tools/wasm.sh
+# The repository for the modules, in which what stands on cd_lanes has no link.
+cat > tools/wasm.sh << 'EOF_WASM'
+for name in cd_lanes sector joined; do
+    mkdir -p "$1/crates/$name/src"
+done
+for name in low right cd_words; do
+    mkdir -p "$1/crates/$name"
+    ln -sfnT "$PWD/crates/$name/out" "$1/crates/$name/out"
+done
+EOF_WASM
+echo 'cp "$1" "$2" && echo lowered >> "$2" && touch "$2.txt"' > tools/lower.sh
 goals=wasm prove 1
-judge 'the modules wait for cd_words, and for no crate above cd_lanes' test "$status" = 0 -a \
-    "$(begun | tr ' ' '\n' | sort | paste -sd ' ')" = 'cd_words left low right wasm' -a "$(tail -n 1 calls)" = 'wasm begins: library'
+judge 'the modules want what stands on cd_lanes once more, and nothing else twice' test "$status" = 0 -a \
+    "$(begun | tr ' ' '\n' | sort | paste -sd ' ')" = 'cd_lanes cd_words joined low right sector'
+judge 'each after those below it' never lacks
+judge 'what is proved once more is named so' grep -q '^proved sector over words, ' log
+judge 'the module, its verdict, and what wasm-opt makes of it' test \
+    "$(cat library/cdpatch{-wasm64.wasm,-wasm64.txt,.wasm} | paste -sd ' ')" = 'a module logic=proved functions=7 a module lowered'
+goals=wasm prove 1
+judge 'modules that are there are not made again' test "$status" = 0 -a "$(begun)" = '' -a "$(grep -c '^unchanged ' log)" = 6
+rm library/cdpatch.wasm
+goals=wasm prove 1
+judge 'but for one that is gone' test "$(begun)" = joined -a -e library/cdpatch.wasm
+echo 'cp "$1" "$2" && touch "$2.txt"' > tools/lower.sh
+goals=wasm prove 1
+judge 'and if they are lowered in another way' cmp -s library/cdpatch{-wasm64,}.wasm
+rm -r crates/*/out
+goals='wasm exports' prove 4
+judge 'beside the others it has its own place' test "$(begun | tr ' ' '\n' | grep -cx sector)" = 2
 
 rm -r crates/*/out
-mkdir tree
-cp -r crates tree
-TREE=$scratch/tree goals=right prove 1
-judge 'another tree is proved' test "$status" = 0 -a -e tree/crates/right/out/rlib/stamp
-judge 'and this one is not' test ! -e crates/right/out
-
 mkdir -p crates/{low,left,right}/out/rlib/it.rlib
 prove 2
 judge 'what rt ci has left is proved again' test "$(begun | tr ' ' '\n' | sort | paste -sd ' ')" = 'left low program right'
@@ -203,6 +230,11 @@ rm -rf crates/*/out
 yes '// long' | head -n 100 > crates/left/src/lib.rt
 prove 1
 judge 'the crates on the longest way come first' test "$(begun)" = 'low left right program'
+
+rm -rf crates/*/out
+yes '// long' | head -n 9 > crates/cd_words/src/lib.rt
+goals='low cd_lanes cd_words' prove 4
+judge 'of three that one takes what is left over' test "$(sed -n 's/ takes / /p' calls | sort | paste -sd ' ')" = 'cd_lanes 1 cd_words 2 low 1'
 
 python=$(command -v python3)
 PATH=/usr/bin:/bin "$python" tools/prove.py program > log 2> errors

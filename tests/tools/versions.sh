@@ -34,9 +34,6 @@ test_versions() {
         /usr/bin/python3 -B "$tests/wrong/versions.py" --edits edits --passed none core another_name | grep -q "^wrong .*has not passed"'
 }
 
-if [ ! -f "$top/library/cdpatch.wasm" ]; then
-    skip "wrong versions of the core, whose module tools/wasm.sh makes with wasm-opt (Debian's package binaryen)"
-elif ! missing node nodejs 'wrong versions of the core' && ! missing python3 python3 'wrong versions of the core'; then
+without_module 'the core' || missing node nodejs 'wrong versions of the core' || missing python3 python3 'wrong versions of the core' ||
     test_versions
-fi
 finish
