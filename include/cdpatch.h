@@ -161,9 +161,9 @@ enum cdpatch_result cdpatch_carry_address(uint8_t sector[CDPATCH_AT_LEAST 2352],
 
 /** @}
  * @name A script line by line
- * For an image that need not be in memory. Cut the text with cdpatch_first_line, and read each line with cdpatch_read_line: `version`
- * is 0 until a head line is read, and then the content of that line; `earlier` counts the patches. The first error makes the script
- * invalid. So does a text that ends while `version` is 0: CDPATCH_NO_HEAD, in the line after the last one.
+ * Most programs want a run of patches, below, which also needs no image in memory. Cut the text with cdpatch_first_line, and read each
+ * line with cdpatch_read_line: `version` is 0 until a head line is read, and then the content of that line; `earlier` counts the patches.
+ * The first error makes the script invalid. So does a text that ends while `version` is 0: CDPATCH_NO_HEAD, in the line after the last one.
  *
  * Then sort the patches by `block`; those of equal blocks stay in their order. No call here knows the base of an image, 0 to 449849:
  * block B is its sector B - base. Give each patch to cdpatch_apply_patch, with the sectors from its block on as the earlier patches
@@ -191,8 +191,9 @@ enum cdpatch_content cdpatch_read_line(uint32_t version, uint32_t number, size_t
                                        uint8_t old_bytes[CDPATCH_AT_LEAST 4096]);
 /** Makes a patch, whose bytes are the first of `new_bytes` and of `old_bytes`, on `count` sectors from its block on; no more than three are
  * looked at. CDPATCH_NO_BLOCK, CDPATCH_NOT_MODE1, CDPATCH_DAMAGED, CDPATCH_DIFFERS: it is refused, and `place` becomes the place that
- * refuses it; else that stays. CDPATCH_NO_PATCH: a field that its verb reads has a value that no line of a script gives it. The sectors
- * stay unless the result is CDPATCH_OK. With `carry` damage is no reason to refuse a patch, and stays; a CDPATCH_REBUILD removes it, with
+ * refuses it; else that stays. Its blocks are tested one after the other, each in this order, and the first that refuses is named; only
+ * then the old bytes. CDPATCH_NO_PATCH: a field that its verb reads has a value that no line of a script gives it. The sectors stay
+ * unless the result is CDPATCH_OK. With `carry` damage is no reason to refuse a patch, and stays; a CDPATCH_REBUILD removes it, with
  * `carry` and without. */
 enum cdpatch_result cdpatch_apply_patch(const struct cdpatch_patch patch[CDPATCH_AT_LEAST 1],
                                         const uint8_t new_bytes[CDPATCH_AT_LEAST 4096], const uint8_t old_bytes[CDPATCH_AT_LEAST 4096],
@@ -214,14 +215,18 @@ enum cdpatch_result cdpatch_apply_patch(const struct cdpatch_patch patch[CDPATCH
  *     }
  *
  * What goes out is then the image that cdpatch_apply makes, the lines are its log in its order, and the status is its status. READ
- * and COPY go forward once over the image, and a sector is read only if a patch looks at it. An invalid or too long script, and an
- * image of more than 2352000000 bytes, are told by a line, and CDPATCH_FAILED. A client that wants only the log drops what goes out.
+ * and COPY go forward once over the image, and a sector is read only if a patch looks at it. An image of more than 2352000000 bytes is
+ * told by a line, and CDPATCH_FAILED. An invalid or too long script is so too, before any byte is asked for: a client that makes its output
+ * at the first READ, COPY or WRITE, or at an END that is not CDPATCH_FAILED, makes none for such a script. A client that wants only the
+ * log drops what goes out.
  * @{ */
 
 /** Begins a run over an image whose first sector is block `base`, and which has `image_size` bytes, or CDPATCH_UNKNOWN_SIZE. `flags`
  * is 0 or a sum of CDPATCH_CARRY, CDPATCH_NO_COPY and CDPATCH_WITHOUT_OLD. Reads the whole script, puts an entry for each patch into
  * the first of `room` entries, and returns how many they are, at most 65535. If they are more than `room`, nothing was begun: a call
- * with as many may follow. A base above 449849 and other flags are refused: returns CDPATCH_REFUSED, and the entries stay. */
+ * with as many may follow. For an invalid or too long script returns 0, as for one without patches: then the first step is LOG with the
+ * line that says so, and the next is END with CDPATCH_FAILED. A base above 449849 and other flags are refused: returns CDPATCH_REFUSED,
+ * and the entries stay. */
 size_t cdpatch_run_begin(struct cdpatch_run run[CDPATCH_AT_LEAST 1], const uint8_t *script, size_t script_size, uint32_t base,
                          uint64_t image_size, uint32_t flags, struct cdpatch_entry *entries, size_t room);
 /** Notes that `done` bytes of the last step were moved, at first 0, and writes the next step. READ `size` bytes of the image to `place`

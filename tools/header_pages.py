@@ -2,7 +2,7 @@
 """Makes what man pages repeat of include/cdpatch.h: `header_pages.py make` makes it anew, and `check` prints which pages differ. With a
 DIRECTORY as the next word it does so in that tree.
 
-In a page a part stands between marks, as `made: declarations` and `end of declarations`, which has the versions, enums and structs of the
+In a page a part stands between marks, as `made: declarations` and `end of declarations`, which has the defines, enums and structs of the
 header, `made: prototypes`, which has its calls, and `made: LAST_BASE` and `end of LAST_BASE`, in which each number is CDPATCH_LAST_BASE."""
 
 import re
@@ -17,7 +17,7 @@ LONGEST_LINE = 76
 
 
 def declarations(code: str) -> str:
-    found = re.findall(r'^(?:#define CDPATCH_V.*?$|(?:enum|struct) [^;{]*\{.*?\};)', code, re.S | re.M)
+    found = re.findall(r'^(?:#define CDPATCH_(?!H$|AT_LEAST).*?$|(?:enum|struct) [^;{]*\{.*?\};)', code, re.S | re.M)
     # A line ends only between two enumerators or two fields.
     whole = [re.sub('(?<![,;{]) ', '\0', ' '.join(each.split())) for each in found]
     lines = [line for each in whole for line in textwrap.wrap(each, LONGEST_LINE, subsequent_indent='    ')]

@@ -165,5 +165,4 @@ def run(path, command, image, base, carry, script):
     library = opened(path)
     if command in ('list', 'audit'):
         return (listed if command == 'list' else audited)(library, image, base)
-    status, text, out = patched(library, image, base, carry, script)
-    return status, text, out if command == 'apply' else None
+    return patched(library, image, base, carry, script)

@@ -18,11 +18,16 @@ install_tarball() {
     documents=$PWD/root/usr/share/doc/cdpatch
 }
 
+# install_once_more VARIABLE=VALUE..: installs the tarball elsewhere.
+install_once_more() {
+    tar -xzf tarball/*.tar.gz
+    PATH=/usr/bin:/bin make --no-print-directory -s -C cdpatch-*-linux install "$@" && rm -r cdpatch-*-linux
+}
+
 # compiles_below_a_space: whether ten lines compile with the flags of pkg-config below a prefix with a space.
 compiles_below_a_space() {
     local flags
-    tar -xzf tarball/*.tar.gz
-    PATH=/usr/bin:/bin make --no-print-directory -s -C cdpatch-*-linux install prefix="$PWD/with space" && rm -r cdpatch-*-linux || return
+    install_once_more prefix="$PWD/with space" || return
     flags=$(with_package "$PWD/with space" pkg-config --cflags --libs cdpatch)
     eval "gcc -std=c99 \"\$tests/library/ten_lines.c\" $flags -o ten_lines_below" 2> errors &&
         [ "$(with_package "$PWD/with space" ./ten_lines_below)" = '5F0017BC 1' ]
@@ -34,6 +39,43 @@ compiles_without_quotes() {
     sed -i 's/"//g' "$pc"
     flags=$(with_package "$PWD/with space" pkg-config --cflags --libs cdpatch)
     eval "gcc -std=c99 \"\$tests/library/ten_lines.c\" $flags -o ten_lines_below" 2> errors
+}
+
+# compiles_as_said PREFIX LIBDIR NUMBER [PAGE]: whether ten lines compile by the command of this number that INSTALL has for pkg-config, whose
+# `moved` is this PREFIX, and print what they should.
+compiles_as_said() {
+    local command
+    command=$(grep -E '^    cc .*pkg-config' "${4-$documents/docs/INSTALL.md}" | sed -n "$3p")
+    rm -f a.out
+    cp "$tests/library/ten_lines.c" program.c
+    ln -sfn "$1" moved_link
+    PKG_CONFIG_PATH=$2/pkgconfig sh -c "${command//moved/moved_link}" 2> errors && [ "$(LD_LIBRARY_PATH=$2 ./a.out)" = '5F0017BC 1' ]
+}
+
+# As Debian has it: the directory of libraries is two below the prefix, which was moved.
+test_moved_deeper() {
+    local deep="$PWD/deep/usr"
+    install_once_more DESTDIR="$PWD/deep" PREFIX=/usr libdir=/usr/lib/some-triplet
+    judge 'pkg-config with the new prefix, as INSTALL says' compiles_as_said "$PWD/root/usr" "$PWD/root/usr/lib" 2
+    judge 'and with a deeper directory of libraries' compiles_as_said "$deep" "$deep/lib/some-triplet" 2
+    wrong_versions 'another option for pkg-config' || return
+    sed 's/--define-variable=[^ ]*/--define-prefix/' "$documents/docs/INSTALL.md" > other.md
+    judge 'another option for pkg-config is refused' refuses compiles_as_said "$deep" "$deep/lib/some-triplet" 2 other.md
+}
+
+# is_linked_statically: whether the program that was compiled last needs no libcdpatch.so.1.
+is_linked_statically() { readelf -d a.out > log && ! grep -q libcdpatch log; }
+
+test_static() {
+    install_once_more prefix="$PWD/plain"
+    judge 'the static library by pkg-config, as INSTALL says' compiles_as_said "$PWD/plain" "$PWD/plain/lib" 1
+    judge 'it is the static one' is_linked_statically
+    judge 'libcdpatch(3) says the same' test "$(sed -n 's/^\.Dl cc /    cc /p' "$top/man/libcdpatch.3")" = \
+        "$(grep -m 1 '^    cc .*pkg-config' "$documents/docs/INSTALL.md")"
+    wrong_versions 'another static library' || return
+    sed 's/-l:libcdpatch.a/-lcdpatch/' "$documents/docs/INSTALL.md" > other.md
+    judge 'a command for the shared one' compiles_as_said "$PWD/plain" "$PWD/plain/lib" 1 other.md
+    judge 'is refused' refuses is_linked_statically
 }
 
 test_pkg_config() {
@@ -183,7 +225,7 @@ refuses_backend() {
 test_editable() {
     local python=$1
     cp -r root/usr/share/cdpatch/python edited
-    "$python" -m venv --system-site-packages venv > log 2>&1 || return
+    "$python" -m venv --system-site-packages --without-pip venv > log 2>&1 || return
     judge 'pip installs it to be edited' holds venv/bin/python -m pip --disable-pip-version-check install --no-index --no-build-isolation \
         --quiet -e ./edited
     sed -i "s/^KINDS: .*/KINDS = ('edited',)/" edited/cdpatch/_sectors.py
@@ -255,6 +297,8 @@ test_installed() {
     test_python_client
     missing pkg-config pkg-config 'pkg-config of an installed library' && return
     test_pkg_config
+    test_static
+    test_moved_deeper
     test_cmake
     test_clients
 }

@@ -1,9 +1,10 @@
-"""Random sectors by a shared library and by tests/model: `model.py LIBRARY [COUNT [SEED]]`. Prints what differs."""
+"""Random sectors by shared libraries and by tests/model: `model.py COUNT LIBRARY..`. Prints what differs."""
 
 import ctypes
 import hashlib
 import sys
-from multiprocessing import Pool
+from concurrent.futures import ProcessPoolExecutor
+from functools import lru_cache, partial
 from pathlib import Path
 from random import Random
 
@@ -119,6 +120,7 @@ def differences(library, random):
     return [name for name, (got, wanted) in pairs.items() if got != wanted]
 
 
+@lru_cache
 def open_library(path):
     library = ctypes.CDLL(path)
     library.cdpatch_is_consistent.restype = ctypes.c_bool
@@ -127,10 +129,9 @@ def open_library(path):
     return library
 
 
-def judge(path, seed, first, count):
-    library = open_library(path)
-    return [f'case {number}: {name}' for number in range(first, first + count)
-            for name in differences(library, Random(f'{seed} {number}'))]
+def judge(paths, number):
+    """What differs on the sector of a number, which the model remembers from one library to the next."""
+    return [f'case {number}, {path}: {name}' for path in paths for name in differences(open_library(path), Random(f'1 {number}'))]
 
 
 def addresses(path):
@@ -141,15 +142,14 @@ def addresses(path):
         address = ctypes.create_string_buffer(b'xyz', 3)
         has_one = library.cdpatch_address(ctypes.c_uint32(block), address)
         if (address.raw if has_one else None) != address_of(block) or not has_one and address.raw != b'xyz':
-            lost.append(f'address of block {block}')
+            lost.append(f'address of block {block}, {path}')
     return lost
 
 
-def main(path, count='2000', seed='1'):
-    step = 25
-    with Pool() as pool:
-        lost = pool.starmap(judge, [(path, seed, first, min(step, int(count) - first)) for first in range(0, int(count), step)])
-    lost = addresses(path) + [line for lines in lost for line in lines]
+def main(count, *paths):
+    with ProcessPoolExecutor() as pool:
+        lost = [*pool.map(partial(judge, paths), range(int(count)), chunksize=5)]
+    lost = [line for lines in [*map(addresses, paths), *lost] for line in lines]
     print(*lost[:20], f'{count} sectors, {len(lost)} differences', sep='\n')
     return bool(lost)
 

@@ -114,11 +114,8 @@ wrong_numbers() {
 
 test_modules() {
     modules=()
-    if [ ! -f "$top/library/cdpatch.wasm" ]; then
-        skip "the calls of the WebAssembly modules, which tools/wasm.sh makes with wasm-opt (Debian's package binaryen)"
-    elif ! missing node nodejs 'the calls of the WebAssembly modules'; then
+    without_module 'a client in node' || missing node nodejs 'the calls of the WebAssembly modules' ||
         modules=("$top"/library/cdpatch{,-wasm64}.wasm)
-    fi
     test_random_calls
     test_page_of_modules
     test_numbers

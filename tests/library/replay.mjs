@@ -2,7 +2,7 @@
 // many of each call were made; those that the module has not are passed over.
 
 import { Calls, Room, Size } from '../modules/calls.mjs';
-import { Input } from '../modules/input.mjs';
+import { Input } from '../lib/input.mjs';
 
 const SHOWN = 10;
 

@@ -138,6 +138,33 @@ static void test_long_images(void) {
     munmap(zeros, limit + 4 * SECTOR);
 }
 
+/* A script with an error has no entry. Before a byte is asked for comes its line, which is that of no patch, and then the end. */
+static void test_told_first(const char *script, size_t size, uint64_t image_size, unsigned number) {
+    static struct cdpatch_entry entries[SMALL_ROOM];
+    static uint8_t hand[CDPATCH_SECTORS_IN_HAND * SECTOR];
+    static struct cdpatch_rooms rooms;
+    const uint8_t *text = (const uint8_t *)script;
+    struct cdpatch_run run;
+    struct cdpatch_step line, end;
+    size_t count = cdpatch_run_begin(&run, text, size, 0, image_size, 0, entries, SMALL_ROOM);
+    cdpatch_run_next(&run, 0, text, size, entries, SMALL_ROOM, hand, CDPATCH_SECTORS_IN_HAND, &rooms, &line);
+    cdpatch_run_next(&run, line.size, text, size, entries, SMALL_ROOM, hand, CDPATCH_SECTORS_IN_HAND, &rooms, &end);
+    judge(count == 0 && line.kind == CDPATCH_LOG && line.number == 0 && end.kind == CDPATCH_END && end.status == CDPATCH_FAILED,
+          "a script with an error is not told first", number);
+}
+
+static void test_scripts_with_errors(void) {
+    const char *scripts[] = {"", "# none\n", "cdpatch 1\nset 0 0 4\n", "cdpatch 1\nset 0 0 41\nrebuild 1\nrebuild x\n"};
+    size_t most = CDPATCH_MOST_SCRIPT_BYTES;
+    char *longest = more(NULL, most + 1);
+    memset(longest, '#', most + 1);
+    for (unsigned number = 0; number < 8; number++)
+        test_told_first(scripts[number / 2], strlen(scripts[number / 2]), number % 2 ? CDPATCH_UNKNOWN_SIZE : 0, number);
+    test_told_first(longest, most, 0, 8);
+    test_told_first(longest, most + 1, 0, 9);
+    free(longest);
+}
+
 int main(int count, char **arguments) {
     unsigned cases = count > 1 && atol(arguments[1]) > 0 ? (unsigned)atol(arguments[1]) : 300;
     uint64_t seed = count > 2 ? (uint64_t)atol(arguments[2]) : 1;
@@ -150,6 +177,7 @@ int main(int count, char **arguments) {
         free_case(&it);
     }
     test_long_images();
+    test_scripts_with_errors();
     printf("%u cases, %d differ\n", cases, failures);
     return failures > 0;
 }

@@ -36,7 +36,7 @@ static void some_bytes(uint64_t *dice, uint8_t *bytes, size_t size) {
 static void some_image(uint64_t *dice, struct some_case *it, bool large) {
     static const size_t tails[] = {0, 0, 1, 2351, 700};
     size_t count = large ? 3000 : below(dice, MOST_SECTORS + 1), tail = tails[below(dice, 5)];
-    uint8_t user[CDPATCH_USER_SIZE], address[3] = {0, 2, 0};
+    uint8_t user[CDPATCH_USER_SIZE] = {0}, address[3] = {0, 2, 0};
     it->size = count * SECTOR + tail;
     it->image = more(NULL, it->size);
     some_bytes(dice, it->image + count * SECTOR, tail);
