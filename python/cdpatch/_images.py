@@ -73,7 +73,7 @@ def audit(image: ReadableBuffer, base: int = 0) -> Report:
 
 def check(image: ReadableBuffer, script: ReadableBuffer, base: int = 0, carry: bool = False) -> Report:
     """Returns what `cdpatch check` prints: what `apply` would do with each patch of a script; and whether one is refused. Of the image
-    only the sectors that patches look at are read.
+    only the sectors that patches look at are read; if it is empty, as `b''`, the script is read and nothing else.
 
     Raises Failed and ValueError as `apply` does."""
     with Held(image) as held:
@@ -92,12 +92,12 @@ def apply(image: ReadableBuffer, script: ReadableBuffer, base: int = 0, carry: b
 
 def apply(image: ReadableBuffer, script: ReadableBuffer, base: int = 0, carry: bool = False, *,
           out: Optional[WriteableBuffer] = None) -> Patched | Report:
-    """Patches an image of any size, whose first sector is block `base`, 0 to 449849, by a script. Returns the new image, what
+    """Patches an image of any size, whose first sector is block `base`, 0 to 449849, by a script. Returns a Patched: the new image, what
     `cdpatch apply` prints, and whether a patch was refused; the image has the others. With `carry` damage is no reason
     to refuse a patch, and stays; a `rebuild` removes it, with `carry` and without.
 
-    With `out`, such as the map of a new file, the new image is written to its first bytes, and the others stay; then the result has
-    no image. Beside it, a call takes the memory of the log, at most 5243080 bytes, twice, and 20 bytes for each patch.
+    With `out`, such as the map of a new file, the new image is written to its first bytes, and the others stay; then the result is a
+    Report, which has no image. Beside it, a call takes the memory of the log, at most 5243080 bytes, twice, and 20 bytes for each patch.
 
     Raises Failed if the base is another number, the script is invalid or too long, or the image has more than
     2352000000 bytes; ValueError if the script changes meanwhile: `out` then begins with a prefix of the new image, perhaps an empty one.

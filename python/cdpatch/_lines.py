@@ -41,7 +41,7 @@ def listing_line(first: int, last: int, kind: str) -> str:
 
 def listing_end(sectors: int, tail: int) -> str:
     """Returns the last line of `listing`, with its line feed: how many sectors there are, and how many bytes after them. Raises
-    ValueError for numbers that no image has."""
+    ValueError if `sectors` is not 0 to 4294967295 or `tail` not 0 to 65535; it does not ask whether an image has such numbers."""
     return _line(library.cdpatch_list_end, _number(sectors), _number(tail, _LARGEST_TAIL))
 
 
@@ -53,5 +53,6 @@ def audit_line(block: int, record: Record) -> str:
 
 def audit_end(sectors: int, mode1: int, damaged: int, tail: int) -> str:
     """Returns the last line of `audit`, with its line feed: how many sectors there are, how many are Mode 1 sectors, how many of these are
-    damaged, and how many bytes there are after the sectors. Raises ValueError for numbers that no image has."""
+    damaged, and how many bytes there are after the sectors. Raises ValueError if `tail` is not 0 to 65535, or another number not 0 to
+    4294967295; it does not ask whether an image has such numbers."""
     return _line(library.cdpatch_audit_end, _number(sectors), _number(mode1), _number(damaged), _number(tail, _LARGEST_TAIL))

@@ -3,7 +3,7 @@
 from __future__ import annotations
 
 import ctypes
-from typing import TYPE_CHECKING, Optional, Protocol
+from typing import TYPE_CHECKING, Callable, Optional, Protocol
 
 from ._reports import Report
 from ._running import UNKNOWN_SIZE, run
@@ -73,17 +73,22 @@ class _Streams:
         return size
 
 
-def patch(reader: Reader, script: ReadableBuffer, writer: Writer, base: int = 0, carry: bool = False) -> Report:
+def patch(reader: Reader, script: ReadableBuffer, writer: Writer, base: int = 0, carry: bool = False, *,
+          log: Optional[Callable[[str], object]] = None) -> Report:
     """Reads an image, whose first sector is block `base`, 0 to 449849, patches it by a script, and writes the new image, of the same
     size. Returns what `cdpatch apply` prints, and whether a patch was refused; the new image has the others. With `carry` damage
     is no reason to refuse a patch, and stays; a `rebuild` removes it, with `carry` and without.
+
+    With `log`, such as `sys.stdout.write`, each line of that is handed over as soon as it is known: of a patch before a sector of its block
+    or of a later one is written. So is the line of an error. The lines before a file fails are then not lost.
 
     No more than 65536 bytes are held, so `reader` and `writer` may be pipes. A read may give less than it is asked for, and a
     write take less; `write` returns how many bytes it took, as that of Python's files does. Nothing is read after the end, and nothing
     is flushed or closed.
 
-    Raises Failed if the base is another number, or the script is invalid or too long: then nothing is read. Raises
-    Failed, with the log so far, if the image has more than 2352000000 bytes, OSError if the writer takes nothing, BlockingIOError if the
-    reader has nothing yet, ValueError if it gives more than it is asked for, or if the script changes meanwhile, and what the two raise:
-    then a prefix of the new image was written."""
-    return run(_Streams(reader, writer), UNKNOWN_SIZE, script, base, carry)
+    Raises Failed if the base is another number, or the script is invalid or too long: then nothing is read or written. A caller who opens
+    `writer` only after `check(b'', script)` has no empty file left of an invalid script. Raises Failed, with the log so far, if the image
+    has more than 2352000000 bytes, OSError if the writer takes nothing, BlockingIOError if the reader has nothing yet, ValueError if it
+    gives more than it is asked for, or if the script changes meanwhile, and what the three raise: then a prefix of the new image was
+    written."""
+    return run(_Streams(reader, writer), UNKNOWN_SIZE, script, base, carry, log)

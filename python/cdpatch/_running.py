@@ -5,7 +5,7 @@ from __future__ import annotations
 import ctypes
 import struct
 from ctypes import c_size_t, c_void_p
-from typing import TYPE_CHECKING, Protocol
+from typing import TYPE_CHECKING, Callable, Optional, Protocol
 
 from ._errors import Failed
 from ._library import LARGEST_SIZE, library
@@ -38,9 +38,10 @@ class Client(Protocol):
         """Passes on bytes in hand."""
 
 
-def run(client: Client, image_size: int, script: ReadableBuffer, base: int, carry: bool) -> Report:
-    """Leads a run to its end, and returns its log. Raises Failed, with the log, if the script or the image has an error, and ValueError
-    if the script changes meanwhile."""
+def run(client: Client, image_size: int, script: ReadableBuffer, base: int, carry: bool,
+        hear: Optional[Callable[[str], object]] = None) -> Report:
+    """Leads a run to its end, tells `hear` each line of its log, and returns that. Raises Failed, with the log, if the script or the image
+    has an error, and ValueError if the script changes meanwhile."""
     base, log, is_error, done = checked_base(base), bytearray(), False, c_size_t()
     with Held(script) as text:
         count = min(text.size, MOST_PATCHES)
@@ -62,6 +63,8 @@ def run(client: Client, image_size: int, script: ReadableBuffer, base: int, carr
                 done.value = client.write(at, size, first + place)
             elif kind == _LOG:
                 log += line[:size]
+                if hear is not None:
+                    hear(str(line[:size], 'ascii'))
                 is_error, done.value = number == 0, size
             else:
                 break

@@ -32,6 +32,7 @@ def on_images(image: mmap.mmap, script: bytes, out: mmap.mmap) -> bytearray:
 
 def on_streams(script: mmap.mmap, reader: BinaryIO, writer: BinaryIO) -> cdpatch.Report:
     with open('image', 'rb', buffering=0) as raw:
-        cdpatch.patch(raw, script, sys.stdout.buffer)
+        cdpatch.patch(raw, script, sys.stdout.buffer, log=sys.stderr.write)
     cdpatch.patch(reader, script, sys.stdout)  # type: ignore[arg-type]
+    cdpatch.patch(reader, script, writer, log=sys.stdout)  # type: ignore[arg-type]
     return cdpatch.patch(reader, script, writer, base=16, carry=True)

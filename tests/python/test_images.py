@@ -1,5 +1,6 @@
 """The commands on images in memory, by the package and by the model of tests/model."""
 
+import io
 import mmap
 import tracemalloc
 
@@ -119,6 +120,30 @@ def test_each_sector_is_patched_at_its_place():
     made = cdpatch.apply(SECTOR * 6 + b'tail', b'cdpatch 1\nset 104 5 4142\nset 101 0 41\n', 100)
     first, second = cdpatch.with_user(SECTOR, 0, b'A'), cdpatch.with_user(SECTOR, 5, b'AB')
     assert made == (SECTOR + first + SECTOR * 2 + second + SECTOR + b'tail', 'line 3: applied\nline 2: applied\napplied 2 refused 0\n', False)
+
+
+def test_without_a_base_the_first_sector_is_block_0():
+    image = SECTOR + cdpatch.encode(cdpatch.address(1), bytes(2048))
+    made = cdpatch.with_user(SECTOR, 0, b'A') + image[2352:]
+    text = 'line 2: applied\napplied 1 refused 0\n'
+    assert cdpatch.listing(image) == '0-1 mode1\nsectors 2 tail 0\n'
+    assert cdpatch.audit(image) == ('sectors 2 mode1 2 damaged 0 tail 0\n', False)
+    assert not any(record.address for record in cdpatch.survey(image))
+    assert cdpatch.check(image, SCRIPT) == (text, False)
+    assert cdpatch.apply(image, SCRIPT) == (made, text, False)
+    writer = io.BytesIO()
+    assert cdpatch.patch(io.BytesIO(image), SCRIPT, writer) == (text, False)
+    assert writer.getvalue() == made
+
+
+def test_without_carry_damage_refuses_a_patch():
+    damaged = SECTOR[:-1] + bytes([SECTOR[-1] ^ 1])
+    for more in ({}, {'carry': True}):
+        writer = io.BytesIO()
+        answers = [cdpatch.check(damaged, SCRIPT, **more), cdpatch.apply(damaged, SCRIPT, **more),
+                   cdpatch.patch(io.BytesIO(damaged), SCRIPT, writer, **more)]
+        assert [answer.found for answer in answers] == [not more] * 3
+        assert [(made == damaged) for made in (answers[1].image, writer.getvalue())] == [not more] * 2
 
 
 def test_an_empty_image():

@@ -1,5 +1,6 @@
 """The lines of `listing` and of `audit` one by one, against the model."""
 
+import re
 from itertools import groupby
 
 import cdpatch
@@ -57,3 +58,10 @@ def test_lines_of_the_largest_numbers():
     assert cdpatch.audit_end(most, most, most, 2351) == 'sectors 4294967295 mode1 4294967295 damaged 4294967295 tail 2351\n'
     assert cdpatch.audit_line(most, cdpatch.survey(cdpatch.encode(bytes(3), bytes(2048)), 7)[0]) == '4294967295 address\n'
     assert cdpatch.audit_line(0, RECORD) == ''
+
+
+def test_an_end_says_which_numbers_it_takes_and_takes_them():
+    for call in (cdpatch.listing_end, cdpatch.audit_end):
+        assert {*re.findall(r'\d{5,}', call.__doc__)} == {'65535', '4294967295'} and 'no image has' not in call.__doc__
+    assert cdpatch.listing_end(1000001, 65535) == 'sectors 1000001 tail 65535\n'
+    assert cdpatch.audit_end(1, 2, 3, 65535) == 'sectors 1 mode1 2 damaged 3 tail 65535\n'

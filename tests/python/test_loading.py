@@ -3,6 +3,7 @@
 import builtins
 import inspect
 import os
+import pydoc
 import re
 import shutil
 import subprocess
@@ -136,3 +137,18 @@ def test_each_name_says_what_it_is():
 def test_a_call_with_a_size_names_it_and_its_error():
     for name in ('kind', 'encode', 'with_parity', 'is_consistent', 'defect', 'broken', 'rebuild', 'with_user', 'with_address'):
         assert re.search(r'2352.*ValueError', getattr(cdpatch, name).__doc__, re.DOTALL), name
+
+
+def test_help_begins_with_a_table_of_the_calls():
+    text = pydoc.plain(pydoc.render_doc(cdpatch))
+    table = text[:text.index('PACKAGE CONTENTS')]
+    calls = [name for name in cdpatch.__all__ if inspect.isfunction(getattr(cdpatch, name))]
+    for name in calls:
+        needed = [each.name for each in inspect.signature(getattr(cdpatch, name)).parameters.values() if each.default is each.empty]
+        assert re.search(rf'(?m)^ +{name}\({", ".join(needed)}\) {{2,}}\S.*$', table), name
+    assert len(re.findall(r'(?m)^ {4,}(\w+)\([\w, ]*\) {2,}\S', table)) == len(calls)
+
+
+def test_help_explains_the_types_that_it_names():
+    named = {*re.findall(r'\b\w+Buffer\b', pydoc.plain(pydoc.render_doc(cdpatch)))}
+    assert named and not [name for name in named if name not in cdpatch.__doc__]

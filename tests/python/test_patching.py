@@ -16,6 +16,7 @@ from hypothesis import strategies as st
 from messages import MESSAGES
 
 SECTOR = cdpatch.encode(cdpatch.address(0), bytes(2048))
+DAMAGED_SECTOR = SECTOR[:-1] + bytes([SECTOR[-1] ^ 1])
 IMAGE = SECTOR * 9 + b'tail'
 SCRIPT = b'cdpatch 1\nset 5 2000 ' + b'41' * 4096 + b'\nset 5 1 4243 was 0000\nset 2 0 41\nset 7 0 41\n'
 PATCHED = cdpatch.apply(IMAGE, SCRIPT)
@@ -140,12 +141,11 @@ def test_patches_of_equal_blocks_stay_in_the_order_of_their_lines():
 
 
 def test_damage_refuses_a_patch_or_is_carried():
-    damaged = SECTOR[:-1] + bytes([SECTOR[-1] ^ 1])
     script = b'cdpatch 1\nset 1 0 41\n'
     refused = 'line 2: refused: block 1 is damaged\napplied 0 refused 1\n'
-    assert patched(SECTOR + damaged, script) == (SECTOR + damaged, refused, True)
-    carried = SECTOR + cdpatch.with_user(damaged, 0, b'\x41', carry=True)
-    assert patched(SECTOR + damaged, script, carry=True) == (carried, 'line 2: applied\napplied 1 refused 0\n', False)
+    assert patched(SECTOR + DAMAGED_SECTOR, script) == (SECTOR + DAMAGED_SECTOR, refused, True)
+    carried = SECTOR + cdpatch.with_user(DAMAGED_SECTOR, 0, b'\x41', carry=True)
+    assert patched(SECTOR + DAMAGED_SECTOR, script, carry=True) == (carried, 'line 2: applied\napplied 1 refused 0\n', False)
 
 
 def test_blocks_before_and_after_the_image_are_refused():
@@ -282,9 +282,8 @@ def test_a_script_that_changes_meanwhile_is_refused(line):
 
 
 def test_a_rebuild_removes_damage_with_carry_too():
-    damaged = SECTOR[:-1] + bytes([SECTOR[-1] ^ 1])
     for carry in (False, True):
-        assert patched(damaged, b'cdpatch 1\nrebuild 0\n', carry=carry)[0] == SECTOR
+        assert patched(DAMAGED_SECTOR, b'cdpatch 1\nrebuild 0\n', carry=carry)[0] == SECTOR
 
 
 def test_a_reader_may_use_its_memory_again():
@@ -326,9 +325,74 @@ def test_a_pipe_is_patched():
     assert made == [wanted_image.image] and report == wanted_image[1:]
 
 
-def test_the_example_of_help(tmp_path, monkeypatch, capsys):
+def heard(script, reader, writer):
+    """The lines that `log` was handed until the call ended, and how it ended."""
+    lines = []
+    try:
+        return lines, cdpatch.patch(reader, script, writer, log=lines.append)
+    except Exception as error:
+        return lines, error
+
+
+@pytest.mark.parametrize('script', [SCRIPT, EACH_SECTOR, b'cdpatch 1\n', b'cdpatch 1\nset 3 0 41 was 07\nset 99 0 41\n'],
+                         ids=['several', 'all', 'none', 'refused'])
+def test_each_line_is_handed_to_log(script):
+    lines, report = heard(script, io.BytesIO(IMAGE), io.BytesIO())
+    assert lines == report.text.splitlines(keepends=True) and report == cdpatch.apply(IMAGE, script)[1:]
+
+
+@pytest.mark.parametrize('first', range(10))
+def test_a_file_that_fails_leaves_the_lines_before_it(first):
+    lines = [f'line {block + 2}: applied\n' for block in range(9)]
+    full = OSError(28, 'No space left on device')
+    assert heard(EACH_SECTOR, io.BytesIO(IMAGE), Answering(b'', first, raising(full))) == (lines[:first + 1], full)
+    assert heard(EACH_SECTOR, Answering(IMAGE, first, raising(full)), io.BytesIO()) == (lines[:first], full)
+
+
+def test_log_is_handed_the_line_of_an_error():
+    lines, error = heard(b'cdpatch 1\nset 0 0 4\n', io.BytesIO(IMAGE), io.BytesIO())
+    assert isinstance(error, cdpatch.Failed) and lines == [f'{error}\n']
+
+
+def test_a_log_that_fails_leaves_a_prefix():
+    writer = io.BytesIO()
+    with pytest.raises(KeyError, match='mine'):
+        cdpatch.patch(io.BytesIO(IMAGE), EACH_SECTOR, writer, log=raising(KeyError('mine')))
+    assert writer.getvalue() == b''
+
+
+def examples():
+    """The examples of help."""
+    return [textwrap.dedent(found[0]) for found in re.finditer(r'(?m)(^    .*\n)+', cdpatch.__doc__)][:2]
+
+
+@pytest.fixture
+def room(tmp_path, monkeypatch):
+    """A directory with an image and a script by the names of the examples of help."""
     monkeypatch.chdir(tmp_path)
     (tmp_path / 'disc.bin').write_bytes(IMAGE)
     (tmp_path / 'changes').write_bytes(SCRIPT)
-    exec(textwrap.dedent(re.search(r'(?m)(^    .*\n)+', cdpatch.__doc__)[0]), {})
-    assert (capsys.readouterr().out, (tmp_path / 'new.bin').read_bytes()) == (PATCHED.text, PATCHED.image)
+    return tmp_path
+
+
+def test_the_example_of_help(room, capsys):
+    exec(examples()[0], {})
+    assert (capsys.readouterr().out, (room / 'new.bin').read_bytes()) == (PATCHED.text, PATCHED.image)
+
+
+@pytest.mark.parametrize('wrong', [b'', b'cdpatch 1\nset 5 0 4\n', b'#' * (MOST_SCRIPT_BYTES + 1)], ids=['empty', 'wrong', 'long'])
+def test_the_example_of_help_makes_no_image_by_an_invalid_script(room, capsys, wrong):
+    (room / 'changes').write_bytes(wrong)
+    with pytest.raises(cdpatch.Failed):
+        exec(examples()[0], {})
+    assert not (room / 'new.bin').exists()
+    (room / 'changes').write_bytes(SCRIPT)
+    test_the_example_of_help(room, capsys)
+
+
+@pytest.mark.parametrize('count', [0, 1, 999, 1000, 1001, 2003])
+def test_the_example_of_help_that_audits(room, capsys, count):
+    image = (SECTOR + DAMAGED_SECTOR + bytes(2352)) * (count // 3 + 1)
+    (room / 'disc.bin').write_bytes(image[:count * 2352 + 5])
+    exec(examples()[1], {'cdpatch': cdpatch})
+    assert capsys.readouterr().out == cdpatch.audit(image[:count * 2352]).text.rpartition('sectors ')[0]

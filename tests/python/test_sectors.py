@@ -141,10 +141,19 @@ def test_a_survey_agrees_with_the_model(number):
 
 def test_the_blocks_of_a_survey():
     for block in (-1, 2 ** 32 - 2, 2 ** 32 - 1, 2 ** 32, 2 ** 64, 2 ** 64 + 7, -2 ** 32):
-        with pytest.raises(ValueError):
+        with pytest.raises(ValueError, match=f'^2 sectors from block {block} on, and not blocks 0 to 4294967294$'):
             cdpatch.survey(SECTOR + SECTOR, block)
     assert [(record.kind, record.address) for record in cdpatch.survey(SECTOR + SECTOR, 2 ** 32 - 3)] == [(2, False), (2, False)]
     assert len(cdpatch.survey(b'', 2 ** 32 - 1)) == 0
+
+
+def test_without_carry_damage_refuses_a_change():
+    with pytest.raises(cdpatch.Damaged):
+        cdpatch.with_user(DAMAGED_SECTOR, 0, b'A')
+    with pytest.raises(cdpatch.Damaged):
+        cdpatch.with_address(DAMAGED_SECTOR, cdpatch.address(1))
+    assert cdpatch.with_user(DAMAGED_SECTOR, 0, b'A', True)[16:17] == b'A'
+    assert cdpatch.with_address(DAMAGED_SECTOR, cdpatch.address(1), True)[12:15] == cdpatch.address(1)
 
 
 def test_a_survey_takes_six_bytes_for_each_sector():
