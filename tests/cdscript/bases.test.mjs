@@ -41,6 +41,17 @@ test('each script says for which base it is written, and is applied at no other 
     sameFile(read(room, 'due'), later, 'what the program makes of the script');
 }));
 
+test('addresses of Mode 2 say the base of an image, but list counts from 0', () => inDirectory(async room => {
+    const image = imageOf(room, 40, 150);
+    for (let i = 0; i < 40; i++) image[2352 * i + 15] = 2;
+    write(room, { 'ps.bin': image });
+    const info = await run(['info', 'ps.bin'], { cwd: room });
+    assert.deepEqual([info.status, info.errors], [0, '']);
+    assert.match(info.out, /\ntrack 1 data blocks 150-189 in ps\.bin\nbase 150\n150-189 mode2\n/);
+    const list = await run(['list', 'ps.bin'], { cwd: room });
+    assert.deepEqual([list.status, list.out, list.errors], [0, '0-39 mode2\nsectors 40 tail 0\n', '']);
+}));
+
 test('an undo of a script for another base is refused', () => inDirectory(async room => {
     writeLater(room);
     write(room, { edit: 'cdpatch 1\n# a comment\n# base 140\nset 153 0 00\n' });

@@ -84,6 +84,8 @@ test('a table without a space asks for --fill', () => inDirectory(async room => 
     const { status, out, errors } = await run(words, { cwd: room });
     assert.deepEqual([status, out, errors], [2, '', 'cdscript: the table has no space to fill up with: give --fill\n']);
     assert.equal((await run([...words, '--fill', '41'], { cwd: room })).out, 'cdpatch 1\nset 2 10 414141 was 414243\n');
+    const same = await run(['replace', 'image', '2', '10', 'ab', 'ba', '--table', 'table'], { cwd: room });
+    assert.deepEqual([same.status, same.out, same.errors], [0, 'cdpatch 1\nset 2 10 424341 was 414243\n', '']);
 }));
 
 test('a pipe that has nothing yet, and does not wait, is waited for', { skip: !hasPython && 'no python3' }, () => inDirectory(room => {

@@ -3,7 +3,7 @@
 
 import assert from 'node:assert/strict';
 import { spawnSync } from 'node:child_process';
-import { mkdirSync, writeFileSync } from 'node:fs';
+import { mkdirSync, readdirSync, writeFileSync } from 'node:fs';
 import { join } from 'node:path';
 import { test } from 'node:test';
 import { harmlessVolume, recordOf, volumeOf } from '../core/strangers.mjs';
@@ -143,6 +143,16 @@ test('without threads a job is done all the same', () => inDirectory(room => {
         assert.deepEqual(withThreads(room, name, maker, ['rebuilds', 'image', '--base', '0']), [...due, ''], name);
         assert.deepEqual(withThreads(room, name, maker, ['rebuilds', '-', '--base', '0'], read(room, 'image')), [...due, ''], name);
     }
+}));
+
+test('a job that waits for what never comes fails, and leaves no file', () => inDirectory(room => {
+    const sector = imageOf(room, 1);
+    write(room, { image: Buffer.concat(Array.from({ length: 9000 }, () => sector)) });
+    const there = readdirSync(room);
+    const maker = "class extends require('node:events') { terminate() {} postMessage() {} }";
+    const due = [2, '', 'cdscript: internal error: the job has not ended\n'];
+    assert.deepEqual(withThreads(room, 'silent.cjs', maker, ['rebuilds', 'image', '--base', '0', '-o', 'out']), due);
+    assert.deepEqual(readdirSync(room).sort(), [...there, 'silent.cjs'].sort());
 }));
 
 test('a list of kinds begins no threads', () => inDirectory(room => {

@@ -36,6 +36,13 @@ test('a raw image that begins with another block', { skip }, () => inDirectory(a
     await fails(['raw', 'disc.iso', 'out', '--first', '449800'], 'disc.iso goes on after block 449849, the last one with an address', room);
 }));
 
+test('a raw image goes on to the last block with an address', () => inDirectory(async room => {
+    write(room, { 'two.iso': Buffer.alloc(2 * 2048) });
+    assert.equal((await run(['raw', 'two.iso', 'last.bin', '--first', '449848'], { cwd: room })).status, 0);
+    assert.match(tool(program, ['audit', '--base', '449848', 'last.bin'], { cwd: room }).toString(), /^sectors 2 mode1 2 damaged 0 tail 0\n$/);
+    await fails(['raw', 'two.iso', 'out', '--first', '449849'], 'two.iso goes on after block 449849, the last one with an address', room);
+}));
+
 test('what can not be made raw, or has no user data', { skip }, () => inDirectory(async room => {
     await makeDisc(room);
     await fails(['raw', 'disc.bin', 'out'], 'disc.bin is a raw image, 2352 bytes a sector, and no ISO image', room);
@@ -53,7 +60,14 @@ test('the user data of sectors that are not Mode 1 are named, and a tail is', ()
     const { status, errors } = await run(['user', 'image.bin', 'out'], { cwd: room });
     assert.deepEqual([status, errors], [1, 'cdscript: block 3: mode2, in which other bytes may stand where mode1 has user data\n' +
         'cdscript: the 4 bytes after the last sector are left out\n']);
-    sameFile(read(room, 'out'), Buffer.concat(Array.from({ length: 8 }, (_, i) => image.subarray(2352 * i + 16, 2352 * i + 2064))), 'user data');
+    const user = Buffer.concat(Array.from({ length: 8 }, (_, i) => image.subarray(2352 * i + 16, 2352 * i + 2064)));
+    sameFile(read(room, 'out'), user, 'user data');
+    for (const [tail, due] of [[0, [0, '']], [1, [1, 'cdscript: the byte after the last sector is left out\n']]]) {
+        write(room, { [`${tail}.bin`]: Buffer.concat([imageOf(room, 8), Buffer.alloc(tail)]) });
+        const came = await run(['user', `${tail}.bin`, `${tail}.iso`], { cwd: room });
+        assert.deepEqual([came.status, came.errors], due);
+        sameFile(read(room, `${tail}.iso`), user, 'user data');
+    }
 }));
 
 test('files of a disc are taken out', { skip }, () => inDirectory(async room => {
@@ -99,8 +113,8 @@ test('info of what can not be patched as it is', { skip }, () => inDirectory(asy
         'cooked.cue': [1, 'track 1 has 2048 bytes a sector: it can not be audited or patched here'],
         'audio.cue': [1, 'no track has data: audio can not be audited or patched'], 'audio.bin': [1, 'no track has data: audio can not be audited or patched'] };
     for (const [name, [due, line]] of Object.entries(cases)) {
-        const { status, out } = await run(['info', name], { cwd: room });
-        assert.deepEqual([status, out.split('\n').at(-2)], [due, line], name);
+        const { status, out, errors } = await run(['info', name], { cwd: room });
+        assert.deepEqual([status, out.split('\n').at(-2), errors], [due, line, ''], name);
     }
 }));
 
@@ -112,6 +126,8 @@ test('user says how the way back goes', () => inDirectory(async room => {
     await run(['raw', '--first', '180', 'two.iso', 'back.bin'], { cwd: room });
     sameFile(read(room, 'back.bin'), image, 'the raw image');
     assert.equal((await run(['user', 'one.bin', 'one.iso'], { cwd: room })).errors, '');
+    write(room, { 'later.bin': imageOf(room, 30, 1) });
+    assert.equal((await run(['user', 'later.bin', 'later.iso'], { cwd: room })).errors, 'cdscript: for the way back: cdscript raw --first 1\n');
 }));
 
 test('a cue sheet gives tracks, files and bases', () => inDirectory(async room => {
@@ -183,9 +199,30 @@ test('dumps that begin or end elsewhere repair the blocks that both have', () =>
     assert.deepEqual([short.status, short.errors], [1, 'cdscript: short has only blocks 30 to 324 of old\n']);
     assert.equal(short.out, '40-40 from short\n320-320 from short\n327-327 damaged in all\ntaken 2 damaged 1 disputed 0 different 0\n');
     const later = await run(['merge', 'old', 'later', 'long', 'all'], { cwd: room });
-    assert.deepEqual([later.status, later.errors], [0, 'cdscript: later has only blocks 50 to 329 of old\n']);
+    const beyond = 'cdscript: long has block 330, which old has not, so all has not either: name long first\n';
+    assert.deepEqual([later.status, later.errors], [0, `cdscript: later has only blocks 50 to 329 of old\n${beyond}`]);
     assert.equal(later.out, '40-40 from long\n320-320 from later\n327-327 from later\ntaken 3 damaged 0 disputed 0 different 0\n');
     sameFile(read(room, 'all'), good, 'the repaired image');
+}));
+
+test('merge says which blocks only another dump has, and which dump to name first', () => inDirectory(async room => {
+    const good = imageOf(room, 300, 30);
+    const part = (from, to) => good.subarray(2352 * from, 2352 * to);
+    write(room, { good, cut: part(0, 200), middle: part(20, 280), begin: part(0, 250), end: part(100, 300) });
+    const none = 'taken 0 damaged 0 disputed 0 different 0\n';
+    const cases = [
+        ['cut', 'good', 'good has blocks 230 to 329, which cut has not, so out1 has not either: name good first'],
+        ['middle', 'good', 'good has blocks 30 to 49 and 310 to 329, which middle has not, so out2 has not either: name good first'],
+        ['good', 'cut', 'cut has only blocks 30 to 229 of good'],
+        ['begin', 'end', 'end has only blocks 130 to 279 of begin', 'end has blocks 280 to 329, which begin has not, so out4 has not either'],
+        ['end', 'begin', 'begin has only blocks 130 to 279 of end', 'begin has blocks 30 to 129, which end has not, so out5 has not either'],
+        ['good', 'good'],
+    ];
+    for (const [i, [old, other, ...said]] of cases.entries()) {
+        const { status, out, errors } = await run(['merge', old, other, `out${i + 1}`], { cwd: room });
+        assert.deepEqual([status, out, errors], [0, none, said.map(text => `cdscript: ${text}\n`).join('')], `${old} ${other}`);
+        sameFile(read(room, `out${i + 1}`), read(room, old), old);
+    }
 }));
 
 test('damage with the same bytes in all dumps is named, as far as they have the block', () => inDirectory(async room => {

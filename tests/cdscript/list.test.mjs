@@ -39,6 +39,23 @@ test('each row of a list with a new text is replaced, in the order of places', (
     assert.equal(read(room, 'out').length, read(room, 'image').length);
 }));
 
+test('what stands as a code in an old text and not in the new one is named', () => inDirectory(async room => {
+    writeImage(room, [2, 0, '0341424341'], [2, 100, '410D0A0342'], [2, 200, '0341'], [2, 300, '4103']);
+    const rows = ['2\t0\t{03}ABCA\tx', '2\t100\tA{0D0A}{03}B\t{0A}x{0d}{41}', '2\t200\t{03}A\t{0003}', '2\t300\tA{03}\t{{03'];
+    const done = await listed(room, 'block\toffset\ttext\tnew', rows, '--encoding', 'CP932', '--partial');
+    assert.deepEqual(done.errors.split('\n'), ['cdscript: row 5: the new text has 4 bytes in CP932, and there is room for 2: 2 too many',
+        'cdscript: row 2: the new text leaves out {03}', 'cdscript: row 3: the new text leaves out {03}', 'cdscript: row 5: the new text leaves out {03}', '']);
+    assert.equal(done.out, 'cdpatch 1\nset 2 0 7820202020 was 0341424341\nset 2 100 0A780D4120 was 410D0A0342\nset 2 200 0003 was 0341\n');
+}));
+
+test('on an image that has the new texts already, that is said of each row', () => inDirectory(async room => {
+    writeImage(room, [2, 0, '4F4B2020'], [2, 100, '73746172']);
+    const rows = ['2\t0\tアイ\tOK', '2\t100\tア\tstar', '2\t100\tアイ\té', '2\t100\tアイ\tstay'];
+    const done = await listed(room, 'block\toffset\ttext\tnew', rows, '--encoding', 'CP932');
+    assert.deepEqual(done.errors.split('\n').slice(0, 4), ['row 2: the new text stands there already', 'row 3: the new text stands there already',
+        'row 4: the old text does not stand there', 'row 5: the old text does not stand there'].map(line => `cdscript: ${line}`));
+}));
+
 test('a new text may take the room of the filling after the old one, and no byte more', () => inDirectory(async room => {
     writeImage(room, ...PLACES);
     const row = (place, size, text, fresh) => `${place}\t4\t${size}\t\t-\t${text}\t${fresh}`;

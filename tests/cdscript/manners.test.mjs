@@ -3,7 +3,7 @@
 import assert from 'node:assert/strict';
 import { spawnSync } from 'node:child_process';
 import { test } from 'node:test';
-import { ENCODINGS_KNOWN, command, damaged, imageOf, inDirectory, read, run, runProcess, tool, write } from './common.mjs';
+import { ENCODINGS_KNOWN, command, damaged, imageOf, inDirectory, read, run, tool, write } from './common.mjs';
 import { makeDisc } from './discs.mjs';
 
 const hasDisc = tool('genisoimage', ['--version']) !== null;
@@ -17,6 +17,10 @@ test('a mistyped job, option or encoding is answered by what was meant', async (
         'rebuild x': "there is no job 'rebuild'; did you mean merge?; see cdscript --help",
         'Verify x': "there is no job 'Verify'; did you mean info?; see cdscript --help",
         'aplpy x': "there is no job 'aplpy'; did you mean apply?; see cdscript --help",
+        'applyxx x': "there is no job 'applyxx'; did you mean apply?; see cdscript --help",
+        'rwa x': "there is no job 'rwa'; did you mean raw?; see cdscript --help",
+        'arw x': "there is no job 'arw'; did you mean raw?; see cdscript --help",
+        'wra x': "there is no job 'wra'; see cdscript --help",
         'frobnicate x': "there is no job 'frobnicate'; see cdscript --help",
         'list --bsae 0 x': 'there is no option --bsae; did you mean --base?',
         'list --frobnicate x': 'there is no option --frobnicate; a name that begins with - stands after --',
@@ -46,17 +50,28 @@ test('help, version and -V are taken as words', async () => {
     }
 });
 
+/** Options stand one below the other, long ones without a letter below the long ones with one, and what they do from one column on. */
+function assertAligned(help) {
+    assert.ok(help.split('\n').every(line => line.length <= 79), help);
+    const rows = help.split('\nOptions:\n')[1].split('\n\n')[0].trimEnd().split('\n');
+    const options = rows.map(row => /^(?: {2}-o FILE| {2}-[hV], --\w+| {6}--[a-z-]+(?: [A-Z]+)?)? {2,}(?=\S)/.exec(row));
+    assert.equal(new Set(options.map(found => found && found[0].length)).size, 1, help);
+}
+
 test('help of each job has an example that is right, and says all of the program\'s jobs', async () => {
     const { out } = await run(['help']);
     const jobs = [...out.split('Options:')[0].matchAll(/^ {2}([a-z-]+) {2,}/gm)].map(([, job]) => job);
     assert.ok(jobs.length >= 17);
-    await inDirectory(room => {
+    assertAligned(out);
+    await inDirectory(async room => {
         for (const job of jobs) {
-            const help = runProcess(['help', job], { cwd: room }).out;
+            const help = (await run(['help', job])).out;
             const [, example] = /\nExample:\n {2}cdscript (.*)\n/.exec(help) ?? [];
             assert.ok(example?.startsWith(`${job} `), help);
-            const { stdout, stderr } = spawnSync('sh', ['-c', `"${process.execPath}" "${command}" ${example}`], { cwd: room, encoding: 'utf8' });
-            assert.match(stdout + stderr, /^(cdscript: cannot (open|read) |cdpatch: cannot (open the image|read the script)\n)/, example);
+            assertAligned(help);
+            const words = tool('sh', ['-c', `printf '%s\\n' ${example}`]).toString().split('\n').slice(0, -1);
+            const { out, errors } = await run(words, { cwd: room });
+            assert.match(out + errors, /^(cdscript: cannot (open|read) |cdpatch: cannot (open the image|read the script)\n)/, example);
         }
     });
     for (const job of ['list', 'audit', 'check', 'apply']) {

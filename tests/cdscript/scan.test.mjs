@@ -3,7 +3,7 @@
 import assert from 'node:assert/strict';
 import { spawn, spawnSync } from 'node:child_process';
 import { createHash } from 'node:crypto';
-import { existsSync, mkdirSync, symlinkSync, unlinkSync } from 'node:fs';
+import { chmodSync, existsSync, lstatSync, mkdirSync, readdirSync, statSync, symlinkSync, unlinkSync } from 'node:fs';
 import { createRequire } from 'node:module';
 import { join } from 'node:path';
 import { test } from 'node:test';
@@ -28,7 +28,13 @@ const NOT_EVEN_SIZE = 'the DAT has no dump of this size: perhaps it is cut, or o
 /** A row as it is if no list of dumps was given. */
 const withoutDat = row => row.replace(/[^\t]*$/, '-');
 
-/** Forty images, some of them damaged, in two directories, half of them with cue sheets; a DAT of them whole; and the rows that are due. */
+/** The row of a file that is no image. */
+const otherRow = (name, what, bytes, said) => [name, `none: ${what}`, '-', '-', '-', shaOf(bytes), said].join('\t');
+
+/**
+ * Forty images, some of them damaged, in two directories, half of them with cue sheets, and a file that is no image; a DAT of them whole; and
+ * the rows that are due.
+ */
 function writeCollection(room) {
     const image = imageOf(room, 60);
     const [whole, rows] = [{}, []];
@@ -45,8 +51,8 @@ function writeCollection(room) {
         const [damage, elsewhere] = i % 4 === 1 ? [2, 0] : i % 4 === 2 ? [1, 1] : [0, 0];
         rows.push([`${directory}/${name}`, `mode1 ${20 + i}`, damage, damage + elsewhere, elsewhere, shaOf(dumped), places.length > 0 ? 'not in the DAT' : `verified ${name}`].join('\t'));
     }
-    write(room, { 'all.dat': datOf(whole), 'one/notes.txt': 'no image' });
-    return rows;
+    write(room, { 'all.dat': datOf(whole), 'two/notes.txt': 'no image' });
+    return [...rows, otherRow('two/notes.txt', 'not recognised', 'no image', 'not in the DAT')];
 }
 
 test('a scan tells each image of a collection once, with what a list of dumps knows of it', () => inDirectory(async room => {
@@ -64,10 +70,108 @@ test('in a directory what is called like a raw image, and is none, is named', ()
     mkdirSync(join(room, 'set'));
     write(join(room, 'set'), { 'a.bin': imageOf(room, 20), 'b.IMG': '', 'c.bin': 'no image', 'd.txt': 'notes' });
     const { status, out, errors } = await run(['scan', 'set'], { cwd: room });
-    assert.deepEqual([status, out.split('\n').length], [0, 2]);
-    assert.equal(errors, ['files that are no raw images: 3', 'set/b.IMG is called like a raw image, and is none', 'set/c.bin is called like a raw image, and is none', '']
-        .join('\n').replace(/^(?=.)/gm, 'cdscript: '));
+    assert.deepEqual([status, out.split('\n').length], [0, 5]);
+    assert.equal(errors, ['files that are no raw images: 3', 'set/b.IMG is called like a raw image, and is an empty file',
+        'set/c.bin is called like a raw image, and is not recognised', ''].join('\n').replace(/^(?=.)/gm, 'cdscript: '));
 }));
+
+/** An image of sectors of Mode 2, from block 0 on. */
+function mode2Of(room, count) {
+    const image = imageOf(room, count);
+    for (let i = 0; i < count; i++) image[2352 * i + 15] = 2;
+    return image;
+}
+
+test('each file that is looked at has a row, which names what info names and what a DAT knows', () => inDirectory(async room => {
+    const iso = Buffer.alloc(2048 * 20, 7);
+    iso.write('CD001', 16 * 2048 + 1);
+    const longer = Buffer.concat(Array.from({ length: 9 }, (_, i) => Buffer.concat([imageOf(room, 1, i), Buffer.alloc(96, 0x40)])));
+    const others = { 'disc.iso': iso, 'game.zip': Buffer.from('PK\x03\x04 and more'), 'nothing.bin': Buffer.alloc(0), 'sub.bin': longer, 'notes.txt': Buffer.from('notes') };
+    const images = { 'audio only.bin': Buffer.alloc(2352 * 30, 7), 'ps.bin': mode2Of(room, 40) };
+    mkdirSync(join(room, 'set'));
+    write(join(room, 'set'), { ...others, ...images });
+    write(room, { 'all.dat': datOf({ 'Audio (Japan).bin': images['audio only.bin'], 'Disc.iso': iso, 'PS.bin': images['ps.bin'] }) });
+    const known = { 'disc.iso': 'verified Disc.iso', 'audio only.bin': 'verified Audio (Japan).bin', 'ps.bin': 'verified PS.bin' };
+    const kinds = { 'audio only.bin': 'audio', 'ps.bin': 'mode2 40' };
+    for (const [name, bytes] of Object.entries(others)) {
+        const [what] = (await run(['info', `set/${name}`], { cwd: room })).out.split('\n');
+        kinds[name] = what.replace(`set/${name}: `, 'none: ');
+        assert.equal(what.split(': ').length, 2, bytes);
+    }
+    const due = Object.entries({ ...others, ...images }).map(([name, bytes]) =>
+        [`set/${name}`, kinds[name], '-', '-', '-', shaOf(bytes), known[name] || 'not in the DAT'].join('\t')).sort();
+    for (const path of ['set', 'set/']) {
+        const { status, out } = await run(['scan', path, '--dat', 'all.dat'], { cwd: room });
+        assert.deepEqual([status, out.split('\n').filter(Boolean).sort()], [0, due]);
+    }
+    // What is given by its name, and is no image, is said each time, though the list has it.
+    const words = ['scan', 'set/disc.iso', 'set/audio only.bin', '--dat', 'all.dat', '--resume', 'set/list'];
+    for (let i = 0; i < 2; i++) {
+        const { status, errors } = await run(words, { cwd: room });
+        assert.deepEqual([status, errors], [2, 'cdscript: set/disc.iso is an ISO image, 2048 bytes a sector\n']);
+    }
+    // The list is no part of the collection in which it lies.
+    const all = await run(['scan', 'set', '--dat', 'all.dat', '--resume', 'set/list'], { cwd: room });
+    assert.deepEqual([all.status, read(room, 'set/list').toString().split('\n').filter(Boolean).sort()], [0, due]);
+}));
+
+test('a column of what was not tested has no number', () => inDirectory(async room => {
+    const others = 'FILE "data.iso" BINARY\n TRACK 01 MODE1/2048\n INDEX 01 00:00:00\nFILE "sound.wav" WAVE\n TRACK 02 AUDIO\n INDEX 01 00:00:00\n';
+    const hole = Buffer.alloc(2352 * 8, 1);
+    hole.set(mode2Of(room, 1));
+    write(room, { 'ps.bin': Buffer.concat([mode2Of(room, 20), Buffer.alloc(5)]), 'data.iso': Buffer.alloc(2048 * 20, 1), 'sound.wav': 'RIFF', 'data.cue': others, 'hole.bin': hole,
+        'hole.cue': sheet('hole.bin'), 'a.bin': Buffer.concat([imageOf(room, 20), mode2Of(room, 9)]) });
+    const { status, out } = await run(['scan', 'ps.bin', 'data.cue', 'hole.cue', 'a.bin'], { cwd: room });
+    const rows = out.split('\n').filter(Boolean).map(row => row.split('\t').slice(0, 5).join(' ')).sort();
+    assert.deepEqual([status, rows], [1, ['a.bin mode2 9,mode1 20 0 0 0', 'data.iso mode1/2048 - - -', 'hole.bin mode2 1,nosync 7 - 8 -',
+        'ps.bin mode2 20,tail 5 - 1 -', 'sound.wav audio - - -']]);
+}));
+
+test('a list that goes on with a DAT says of each line what that knows', () => inDirectory(async room => {
+    const rows = writeCollection(room);
+    const lines = () => read(room, 'list').toString().split('\n').filter(Boolean);
+    write(room, { list: rows.slice(0, 30).map(row => `${withoutDat(row)}\n`).join('') + rows[35].slice(0, 20) });
+    symlinkSync('list', join(room, 'link'));
+    chmodSync(join(room, 'list'), 0o640);
+    const said = 'cdscript: link: its last column now says what the DAT knows, lines that changed: 30\n';
+    const { status, errors } = await run(['scan', 'one', 'two', '--dat', 'all.dat', '--resume', 'link'], { cwd: room });
+    assert.deepEqual([status, errors, lines().sort()], [1, `${said}cdscript: files that are no raw images: 1\n`, rows]);
+    assert.deepEqual([lines().slice(0, 30), statSync(join(room, 'list')).mode & 0o777, lstatSync(join(room, 'link')).isSymbolicLink()],
+        [rows.slice(0, 30), 0o640, true]);
+    const before = statSync(join(room, 'list')).ino;
+    const again = await run(['scan', 'one', 'two', '--dat', 'all.dat', '--resume', 'list'], { cwd: room });
+    assert.deepEqual([again.status, again.errors, lines().sort(), statSync(join(room, 'list')).ino], [1, '', rows, before]);
+    // Without a DAT nothing is looked up, and with another one all lines say what that knows.
+    assert.deepEqual([(await run(['scan', 'one', '--resume', 'list'], { cwd: room })).errors, lines().sort()], ['', rows]);
+    write(room, { 'other.dat': datOf({ 'Other.bin': Buffer.from('x') }) });
+    await run(['scan', 'one', '--resume', 'list', '--dat', 'other.dat'], { cwd: room });
+    assert.deepEqual(lines().map(line => line.split('\t')[6]), rows.map(() => 'not in the DAT'));
+    assert.deepEqual(readdirSync(room).filter(name => name.startsWith('.')), []);
+}));
+
+test('a list whose lines cannot be written anew stays as it is', () => inDirectory(room => inDirectory(async streams => {
+    const rows = writeCollection(room);
+    const list = rows.slice(0, 30).map(row => `${withoutDat(row)}\n`).join('');
+    write(room, { list });
+    for (const [call_, fault] of [['openSync', 'EACCES'], ['writeSync', 'ENOSPC'], ['fsyncSync', 'EIO'], ['renameSync', 'EPERM']]) {
+        const isOther = (name, [of, bytes]) => name === 'openSync' ? !String(of).includes('.cdscript-') : name === 'writeSync' && !bytes.includes(0x09);
+        const hit = (name, given) => name === call_ && !isOther(name, given) ? faults.errorOf(fault) : null;
+        const { status, errors } = await call(streams, ['scan', join(room, 'one'), '--dat', join(room, 'all.dat'), '--resume', join(room, 'list')],
+            () => { faults.hit = hit; }, () => { faults.hit = () => null; });
+        assert.equal(status, 2, call_);
+        assert.match(errors, /^cdscript: cannot write .*\/list: /, call_);
+        assert.deepEqual([read(room, 'list').toString(), readdirSync(room).filter(name => name.startsWith('.'))], [list, []], call_);
+    }
+    // The first line after them, half of which is written, is taken back.
+    let writes = 0;
+    const full = await call(streams, ['scan', join(room, 'two'), '--dat', join(room, 'all.dat'), '--resume', join(room, 'list')], () => {
+        faults.hit = (name, [, bytes]) => {
+            writes += Number(name === 'writeSync' && bytes.includes(0x09));
+            return name !== 'writeSync' || writes < 2 ? null : writes === 2 ? 'short' : faults.errorOf('ENOSPC');
+        };
+    }, () => { faults.hit = () => null; });
+    assert.deepEqual([full.status, read(room, 'list').toString()], [2, rows.slice(0, 30).map(row => `${row}\n`).join('')]);
+})));
 
 test('what could not be read is named, and the status is 2', () => inDirectory(async room => {
     const set = join(room, 'set');
@@ -75,7 +179,7 @@ test('what could not be read is named, and the status is 2', () => inDirectory(a
     write(set, { 'good.bin': imageOf(room, 20), 'gone.cue': sheet('nothing.bin'), 'text.txt': 'no image' });
     symlinkSync('nowhere', join(set, 'broken.bin'));
     const { status, out, errors } = await run(['scan', 'good.bin', 'gone.cue', 'text.txt', 'missing.bin', '.'], { cwd: set });
-    assert.deepEqual([status, out.split('\t')[0], out.split('\n').length], [2, 'good.bin', 2]);
+    assert.deepEqual([status, out.split('\n').filter(Boolean).map(row => row.split('\t')[0]).sort()], [2, ['good.bin', 'text.txt']]);
     for (const text of ['gone.cue names nothing.bin. It is not in the directory of the cue sheet.', 'text.txt is not recognised',
         'cannot read missing.bin: there is no such file or directory', 'cannot read broken.bin: there is no such file or directory']) {
         assert.equal(errors.split(`cdscript: ${text}\n`).length, 2, text);
@@ -104,17 +208,17 @@ test('an image that is cut is marked, and the last column says whether there was
         const rows = out.split('\n').filter(Boolean).sort().map(row => row.split('\t'));
         return [status, rows.map(row => row.filter((_, i) => i !== 0 && i !== 5))];
     };
-    const kinds = [['mode1 20', '0', '0', '0'], ['mode1 19,tail 1352', '0', '1', '0'], ['mode1 19,tail 2351', '1', '2', '0'], ['audio,tail 7', '0', '1', '0']];
+    const kinds = [['mode1 20', '0', '0', '0'], ['mode1 19,tail 1352', '0', '1', '0'], ['mode1 19,tail 2351', '1', '2', '0'], ['audio,tail 7', '-', '1', '-']];
     assert.deepEqual(await columns([]), [1, kinds.map(row => [...row, '-'])]);
     const known = ['verified A.bin', 'not in the DAT', 'not in the DAT', 'not in the DAT'];
     assert.deepEqual(await columns(['--dat', 'a.dat']), [1, kinds.map((row, i) => [...row, known[i]])]);
-    // An earlier version has written `-` for what is not in the list of dumps, and its lists name no tail.
+    // An earlier version has written `-` for what is not in the list of dumps, 0 for what was not tested, and its lists name no tail.
     const [earlier] = (await run(['scan', 'cut.bin'], { cwd: room })).out.split('\n');
-    write(room, { list: `${earlier.replace(',tail 1352\t0\t1', '\t0\t0')}\n` });
+    write(room, { list: `${earlier.replace(',tail 1352\t0\t1', '\t0\t0')}\ngone.bin\taudio\t0\t0\t0\t${shaOf(track)}\t-\n` });
     assert.equal((await run(['scan', 'a.bin', 'cut.bin', '--dat', 'a.dat', '--resume', 'list'], { cwd: room })).status, 0);
-    assert.deepEqual(read(room, 'list').toString().split('\n').map(row => row.split('\t').slice(-1)[0]), ['-', 'verified A.bin', '']);
+    assert.deepEqual(read(room, 'list').toString().split('\n').map(row => row.split('\t').slice(-1)[0]), ['not in the DAT', 'not in the DAT', 'verified A.bin', '']);
     for (let i = 0; i < 2; i++) assert.equal((await run(['scan', ...names, '--dat', 'a.dat', '--resume', 'list'], { cwd: room })).status, 1);
-    assert.equal(read(room, 'list').toString().split('\n').length, 5);
+    assert.equal(read(room, 'list').toString().split('\n').length, 6);
 }));
 
 test('a file that is no list is not gone on with, and stays as it is', () => inDirectory(async room => {
@@ -181,7 +285,7 @@ test('an image that vanishes is named, and a full disk leaves whole lines', () =
     assert.equal(vanished.status, 2);
     assert.match(vanished.errors, /^cdscript: cannot open .*two\/game 39\.bin: there is no such file or directory\n/);
     const lines = read(room, 'list').toString().split('\n').filter(Boolean).map(line => line.split('\t')[0]);
-    assert.deepEqual([...lines].sort(), rows.slice(0, 39).map(row => join(room, row.split('\t')[0])));
+    assert.deepEqual([...lines].sort(), rows.filter((_, i) => i !== 39).map(row => join(room, row.split('\t')[0])));
 })));
 
 test('without threads a scan is the same', () => inDirectory(async room => {
@@ -189,6 +293,24 @@ test('without threads a scan is the same', () => inDirectory(async room => {
     write(room, { 'none.cjs': "require('node:worker_threads').Worker = class { constructor() { throw new Error('EAGAIN'); } };" });
     const { status, stdout } = spawnSync(process.execPath, ['-r', './none.cjs', command, 'scan', 'one', 'two', '--dat', 'all.dat'], { cwd: room, encoding: 'utf8' });
     assert.deepEqual([status, stdout.split('\n').filter(Boolean).sort()], [1, rows]);
+}));
+
+test('a thread that fails ends no scan', () => inDirectory(async room => {
+    const rows = writeCollection(room);
+    const scanWith = posted => {
+        write(room, { 'fails.cjs': `require('node:worker_threads').Worker = class extends require('node:events') {
+            constructor() { super(); setImmediate(() => { this.emit('online'); ${posted ? '' : 'this.fail()'} }); }
+            fail() { this.emit('error', new Error('gone')); }
+            postMessage() { ${posted ? 'setImmediate(() => this.fail())' : ''} }
+            terminate() {} }` });
+        const { status, stdout, stderr } = spawnSync(process.execPath, ['-r', './fails.cjs', command, 'scan', 'one', 'two', '--dat', 'all.dat'],
+            { cwd: room, encoding: 'utf8' });
+        return { status, lines: stdout.split('\n').filter(Boolean).sort(), faults: stderr.split('\n').filter(it => it.endsWith(': Error: gone')) };
+    };
+    assert.deepEqual(scanWith(false), { status: 1, lines: rows, faults: [] });
+    const { status, lines, faults } = scanWith(true);
+    const named = faults.map(it => it.replace(/^cdscript: (.*): Error: gone$/, '$1'));
+    assert.deepEqual([status, named.length > 0, lines], [2, true, rows.filter(row => !named.includes(row.split('\t')[0]))]);
 }));
 
 test('names of a collection are one line each, and no two are alike', () => inDirectory(async room => {

@@ -84,9 +84,10 @@ test('what is not found, and more hits than are printed', { skip }, () => inDire
     assert.equal((await run(['find', 'game.cue', '亀', '--encoding', 'EUC-JP'], { cwd: room })).errors,
         'cdscript: track 2 in disc.bin was searched for the text in EUC-JP\ncdscript: hits 0 printed 0\n');
     const zeros = places(read(room, 'disc.bin'), Buffer.alloc(1)).length;
-    const { status, out, errors } = await run(['find', 'disc.bin', '00', '--encoding', 'hex', '--limit', '7'], { cwd: room });
-    assert.deepEqual([status, rows(out).length], [0, 7]);
-    assert.equal(errors, `cdscript: hits ${zeros} printed 7\n`);
+    for (const most of [7, 0]) {
+        const { status, out, errors } = await run(['find', 'disc.bin', '00', '--encoding', 'hex', '--limit', String(most)], { cwd: room });
+        assert.deepEqual([status, rows(out).length, errors], [0, most, `cdscript: hits ${zeros} printed ${most}\n`]);
+    }
 }));
 
 test('a table of characters', { skip }, () => inDirectory(async room => {
@@ -187,6 +188,14 @@ test('undo on an image that is patched already writes nothing', () => inDirector
         'the image already has what the script writes, so nothing can be taken back: it must be the image before the script');
     const none = await run(['undo', 'patched', 'empty'], { cwd: room });
     assert.deepEqual([none.status, none.out, none.errors], [0, 'cdpatch 1\n', 'cdscript: the script has no patch\n']);
+}));
+
+test('undo says of a script with a fault what the program says', () => inDirectory(async room => {
+    write(room, { image: imageOf(room, 8), number: 'cdpatch 1\nset 0 0 41\nset x 0 41\n', many: `cdpatch 1\n${'set 0 0 41\n'.repeat(65536)}` });
+    await refuses(room, ['undo', 'image', 'number'], 'script line 3: bad number');
+    await refuses(room, ['undo', 'image', 'many'], 'script line 65537: more than 65535 patches');
+    write(room, { long: Buffer.alloc((64 << 20) + 1, '#') });
+    await refuses(room, ['undo', 'image', 'long'], 'the script is longer than 67108864 bytes');
 }));
 
 test('undo says that its script needs --carry', () => inDirectory(async room => {

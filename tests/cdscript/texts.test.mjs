@@ -47,21 +47,21 @@ function eachEncoded(texts, encoding) {
 }
 
 /** Bytes of machine code, packed data, sound and pictures, in which no text is. */
-function noises() {
+const NOISES = (() => {
     const dice = diceOf(5);
     const random = Buffer.from(Uint8Array.from({ length: 1 << 20 }, () => dice(256)));
     const sound = new Int16Array(1 << 19).map((_, i) => 9000 * Math.sin(i / 40) + 3000 * Math.sin(i / 7) + dice(200));
     const picture = Uint8Array.from({ length: 1 << 20 }, (_, i) => (i % 1024 >> 3) + (i >> 13) + dice(3));
     return { 'RANDOM.BIN': random, 'CODE.BIN': readFileSync(program).subarray(0, 1 << 20), 'PACKED.BIN': deflateRawSync(readFileSync(program)),
         'SOUND.BIN': Buffer.from(sound.buffer), 'PICTURE.BIN': Buffer.from(picture) };
-}
+})();
 
 /** A disc with labelled texts in tables of four encodings, among what is none; where each text is, by its file. */
 async function makeGame(room, count) {
     const dice = diceOf(11);
     const labels = {};
     mkdirSync(join(room, 'tree'));
-    for (const [name, bytes] of Object.entries(noises())) writeFileSync(join(room, 'tree', name), bytes);
+    for (const [name, bytes] of Object.entries(NOISES)) writeFileSync(join(room, 'tree', name), bytes);
     for (const encoding of ['CP932', 'EUC-JP', 'UTF-16LE', 'UTF-8']) {
         const texts = Array.from({ length: count }, () => someText(dice));
         const unit = encoding === 'UTF-16LE' ? 2 : 1;
@@ -157,13 +157,13 @@ test('a character of two units is one of the fewest that are asked for', () => i
 }));
 
 test('where no text is, none is found; and what cannot be searched is named', t => inDirectory(async room => {
-    write(room, { 'noise.iso': Buffer.concat([noises()['RANDOM.BIN'], noises()['SOUND.BIN']]) });
+    write(room, { 'noise.iso': Buffer.concat([NOISES['RANDOM.BIN'], NOISES['SOUND.BIN']]) });
     await run(['raw', 'noise.iso', 'image'], { cwd: room });
     const none = await run(['texts', 'image'], { cwd: room });
     assert.deepEqual([none.status, none.out, none.errors.split('\n').slice(-2)], [1, `${HEAD}\n`, ['cdscript: texts 0', '']]);
     const other = await run(['texts', 'image', '--encoding', 'hex'], { cwd: room });
     assert.deepEqual([other.status, other.errors], [2, 'cdscript: texts are told by their characters, and hex has none\n']);
-    write(room, { 'random.iso': noises()['RANDOM.BIN'] });
+    write(room, { 'random.iso': NOISES['RANDOM.BIN'] });
     await run(['raw', 'random.iso', 'random'], { cwd: room });
     for (const { name, signs } of ENCODINGS_KNOWN) {
         if (!signs) continue;

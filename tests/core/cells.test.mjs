@@ -7,7 +7,7 @@ import { calls, core, readerOf } from './common.mjs';
 const { rowText, rowsOf } = await core('texts/cells.js');
 const { cellOf, unitsOfCell } = await core('texts/codes.js');
 const { encodingOf, tableOf, textOfFile } = await core('texts/encodings.js');
-const { listRows, replaceList } = await core('texts/list.js');
+const { fillingAfter, listRows, replaceList } = await core('texts/list.js');
 
 const cells = text => [...rowsOf(text)].map(row => row.cells);
 const hex = bytes => Buffer.from(bytes).toString('hex').toUpperCase();
@@ -27,7 +27,14 @@ test('a cell in quotes may have line ends, what stands between cells, and quotes
     assert.deepEqual([...rowsOf('a,b\n"1\n2",3\n4,5\n')].map(row => row.number), [1, 2, 3]);
 });
 
+test('of a cell that is too long to be taken two quotes stay two', () => {
+    const long = 'x'.repeat((1 << 20) - 2);
+    assert.deepEqual(cells(`a,b\n"${long}""",1\n`)[1].map(({ length }) => length), [long.length + 1, 1]);
+    assert.deepEqual(cells(`a,b\n"x${long}""",1\n`)[1].map(({ length }) => length), [long.length + 3, 1]);
+});
+
 test('empty rows are counted and passed over', () => {
+    assert.deepEqual([...rowsOf('a,b\r\n1,2\r\n\r\n3,4\r\n')].map(row => row.number), [1, 2, 4]);
     assert.deepEqual([...rowsOf('\n\r\na,b\n\n\r\r\n1,\n\n')], [{ number: 3, cells: ['a', 'b'] }, { number: 7, cells: ['1', ''] }]);
     assert.deepEqual([...rowsOf(`a\tb\n${'\n'.repeat(1 << 20)}1\t2`)].map(row => row.number), [1, 2 + (1 << 20)]);
 });
@@ -62,9 +69,12 @@ test('codes in a cell are their bytes, and a cell is read as the bytes from whic
 });
 
 test('a list has the rows with a new text, by the names of its columns', () => {
-    const rows = [...listRows('New,Offset,block,text,note\nx,5,1,old,\n,6,1,other,\ny,+7,1,"a,b",z\n')];
+    const list = 'New,Offset,block,text,note\nx,5,1,old,\n,6,1,other,\ny,+7,1,"a,b",z\n';
+    const rows = [...listRows(list)];
     assert.deepEqual(rows, [{ number: 2, block: 1, offset: 5, room: -1, encoding: '', text: 'old', fresh: 'x' },
         { number: 4, block: 1, offset: -1, room: -1, encoding: '', text: 'a,b', fresh: 'y' }]);
+    assert.deepEqual([...listRows(list, ({ offset }) => offset === 6)].map(({ number, fresh }) => [number, fresh]), [[2, 'x'], [3, ''], [4, 'y']]);
+    assert.deepEqual([...listRows(list, () => false)], rows);
     assert.throws(() => [...listRows('1\t2\told\tnew\n')], { message: 'the first row of the list names no column block, offset, text' });
 });
 
@@ -77,8 +87,22 @@ test('of rows in one block that can not be patched each is left by its own numbe
     const made = list => replaceList(calls, image, list, () => [encodingOf('CP932')], null);
     const damaged = 'block 1 is damaged: repair it first';
     const { parts, left } = await made(rows);
-    assert.deepEqual([parts.patches, left], [3, [{ number: 3, why: damaged }, { number: 4, why: damaged }]]);
-    assert.deepEqual((await made(rows.slice(2, 3))).left, [{ number: 4, why: damaged }]);
+    assert.deepEqual([parts.patches, left], [3, [{ text: rows[1], why: damaged }, { text: rows[2], why: damaged }]]);
+    assert.deepEqual((await made(rows.slice(2, 3))).left, [{ text: rows[2], why: damaged }]);
+    const beyond = [{ ...rows[0], block: 3 }, { ...rows[0], number: 3, block: -1 }];
+    assert.deepEqual((await made(beyond)).left, [{ text: beyond[0], why: 'the image has the blocks 0 to 2' },
+        { text: beyond[1], why: 'block and offset are no numbers' }]);
+    const met = [[8, 4], [2, 0], [5, 3]].map(([number, offset]) => ({ ...rows[0], number, offset, text: 'AAAA', fresh: 'BBBB' }));
+    assert.deepEqual((await made(met)).left, [{ text: met[2], why: 'it overlaps the text of row 2' }]);
+});
+
+test('what fills up the room of a text is one byte over and over, in whole spaces, but for the 00 that ends the text', () => {
+    const rows = [['CP932', '41000042', 1], ['CP932', '412020200042', 3], ['CP932', '41FFFF20', 2], ['CP932', '414242', 0],
+        ['CP932', '41', 0], ['UTF-16LE', '41000000000041', 2], ['UTF-16LE', '4100000000000000FF', 4], ['UTF-16LE', '4100FFFFFF20', 2]];
+    for (const [name, digits, due] of rows) {
+        assert.equal(fillingAfter(encodingOf(name), Buffer.from(digits, 'hex'), name === 'CP932' ? 1 : 2), due, `${name} ${digits}`);
+    }
+    assert.equal(fillingAfter(encodingOf('CP932'), new Uint8Array(9), 1, 5), 3);
 });
 
 test('files in UTF-16 with a mark are read as that', () => {

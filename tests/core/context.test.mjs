@@ -4,7 +4,8 @@ import { test } from 'node:test';
 import { core, diceOf, encoded, readerOf } from './common.mjs';
 import { rawOf } from './discs.mjs';
 
-const { FilesAlong, contextOf, contextsOf, filesWith } = await core('texts/context.js');
+const { FilesAlong, anyBegins, contextOf, contextsOf, filesWith } = await core('texts/context.js');
+const { encodeText } = await core('texts/encoding.js');
 const { encodingOf, tableOf } = await core('texts/encodings.js');
 
 const USER = 2048;
@@ -41,6 +42,23 @@ for (const name of ['CP932', 'EUC-JP', 'UTF-8', 'UTF-16LE', 'hex', 'a table']) {
     });
 }
 
+test('a hit has the characters of 24 bytes before it and after it, and what is known if it may begin in the middle of one', async () => {
+    const user = Buffer.concat([Buffer.alloc(3000, 'x'), encodeText(encodingOf('CP932'), 'まあい'), Buffer.alloc(1090, 'y')]);
+    const image = { reader: readerOf(rawOf(user)), base: BASE, sectors: 2 };
+    const context = (at, size) => contextOf(image, encodingOf('CP932'), { block: BASE + Math.floor(at / USER), offset: at % USER, size });
+    const [y, x] = ['y', 'x'].map(letter => Array.from({ length: 22 }, () => letter));
+    const due = { bytes: Uint8Array.of(0x82, 0xA0), doubt: '', before: [...x, 'ま'], hit: 'あ', after: ['い', ...y] };
+    assert.deepStrictEqual(await context(3002, 2), due);
+    const inside = { bytes: Uint8Array.of(0xA0, 0x82), doubt: 'perhaps in the middle of a character (byte before: 82)',
+        before: [...x.slice(1), 'ま'], hit: '\uFFFD\uFFFD', after: ['｢', ...y, 'y'] };
+    assert.deepStrictEqual(await context(3003, 2), inside);
+    const hit = at => ({ block: BASE + Math.floor(at / USER), offset: at % USER, size: 2 });
+    const begins = places => anyBegins(image, encodingOf('CP932'), places.map(hit));
+    assert.deepStrictEqual([await begins([3003, 3005]), await begins([3003, 3004, 3005])], [false, true]);
+    assert.deepStrictEqual((await context(0, 1)).before, []);
+    assert.deepStrictEqual((await context(4095, 1)).after, []);
+});
+
 test('what lies near one another is read at once, and not what lies between hits that are far apart', async () => {
     const near = hitsOf(9, 200, 20000);
     assert.strictEqual((await listed(contextsOf(near.image, encodingOf('CP932'), near.hits))).length, 20003);
@@ -65,6 +83,13 @@ function filesOf(seed, count) {
     const files = Array.from({ length: count }, (_, i) => ({ path: `/${i}`, block: dice(4 * count), size: dice(6) * 1500, fault: '' }));
     return files.sort((a, b) => a.block - b.block);
 }
+
+test('a place lies in a file by the bytes of the extent, and of those before it', () => {
+    const files = [{ path: '/a', block: 10, size: 5000, before: 4096 }, { path: '/b', block: 12, size: 904, before: 0 }];
+    const found = (block, offset) => filesWith(files, { block, offset });
+    assert.deepStrictEqual(found(12, 7), [{ path: '/a', at: 4096 + 2 * 2048 + 7 }, { path: '/b', at: 7 }]);
+    assert.deepStrictEqual([found(10, 0), found(12, 904), found(9, 2047)], [[{ path: '/a', at: 4096 }], [], []]);
+});
 
 test('the files of places in their order, and in any order, are those of each place', () => {
     const dice = diceOf(3);

@@ -35,8 +35,13 @@ test('a dump is known by its size and SHA-1, however the list is cut', async () 
 
 test('several lists are one', async () => {
     const dumps = await known(datOf(rom('first.bin')));
+    const [early, other] = ['e', 'f'].map(digit => SHA.replace('d', digit));
+    assert.deepStrictEqual([dumps.saidOfSha1(SHA), dumps.saidOfSha1(early), dumps.saidOfSha1(other)], ['verified first.bin', null, null]);
+    await dumps.add(cut(encoded(datOf(`<game name="E"><rom name="early.bin" size="9" sha1="${early}" status="baddump"/></game>`)), 1000));
     await dumps.add(cut(encoded(datOf(rom('second.bin'), `<game name="H"><rom name="third.bin" size="9" sha1="${SHA}"/></game>`)), 1000));
     assert.deepStrictEqual([dumps.said(7, SHA), dumps.said(9, SHA)], ['verified first.bin', 'verified third.bin']);
+    assert.deepStrictEqual([dumps.saidOfSha1(SHA), dumps.saidOfSha1(early), dumps.saidOfSha1(other)],
+        ['verified first.bin', 'known as a bad dump: early.bin', null]);
     const [has, hasNot] = ['has a dump of this size, but none with this SHA-1', 'has no dump of this size'];
     for (const [size, due] of [[7, has], [9, has], [5, hasNot], [8, hasNot]]) assert.match(dumps.saidOfOther(size), new RegExp(`^the DAT ${due}: `));
 });

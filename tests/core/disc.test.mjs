@@ -68,6 +68,8 @@ test('a file for each track, of which those of audio need not be open', async ()
     assert.equal(dataTrack(both).number, 2);
     const name = { message: 'game.cue names disc (Track 2).bin. Put it beside the cue sheet, or open both together.' };
     await assert.rejects(opened(cue, file('disc (Track 1).bin', music)), name);
+    const own = { message: 'game.cue names game.cue. Put it beside the cue sheet, or open both together.' };
+    await assert.rejects(opened(sheet('FILE game.cue BINARY', 'TRACK 1 MODE1/2352', 'INDEX 1 0:0:0')), own);
 });
 
 test('a track after a gap in its file begins at its INDEX 01', async () => {

@@ -7,7 +7,7 @@ import { localCrew, withThreads } from './crews.mjs';
 import { isoOf } from './discs.mjs';
 import { CHANGES, RAW, countOf, patchedBy, sectorAt, sound, soundImage, textOf } from './pairs.mjs';
 
-const { filledUp, replaceBytes, replaceEach } = await core('script/replace_bytes.js');
+const { filledUp, replaceBytes } = await core('script/replace_bytes.js');
 const { replaceFile } = await core('script/replace_file.js');
 const { filesOf, wholeFile } = await core('iso/files.js');
 
@@ -61,7 +61,7 @@ test('bytes that a run would not replace so are not given out, unless they are t
     const [place, old] = [{ block: BASE, offset: 7 }, Uint8Array.from(userOf(image).subarray(7, 9))];
     const broken = Object.assign(Object.create(calls), { runNext: (run, done) => ({ ...calls.runNext(run, done), status: 2 }) });
     await assert.rejects(replaceBytes(broken, imageOf(image), place, old, old.map(byte => byte ^ 1)), { message: /would not give the right sector/ });
-    const later = await replaceEach(broken, imageOf(image), [{ place, old, fresh: old.map(byte => byte ^ 1) }], true);
+    const later = await replaceBytes(broken, imageOf(image), place, old, old.map(byte => byte ^ 1), true);
     assert.equal(later.patches, 1);
 });
 

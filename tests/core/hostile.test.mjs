@@ -5,7 +5,7 @@ import { test } from 'node:test';
 import { calls, core, diceOf, encoded } from './common.mjs';
 
 const { rowsOf } = await core('texts/cells.js');
-const { listRows, replacedRows } = await core('texts/list.js');
+const { listRows, replaceList } = await core('texts/list.js');
 const { encodingOf, tableOf } = await core('texts/encodings.js');
 const { endOfMatch } = await core('texts/find.js');
 
@@ -70,9 +70,8 @@ async function made(rows, name = 'CP932') {
     } } });
     const sectors = calls.encodeBlocks(0, new Uint8Array(4 * 2048).fill(0x41));
     const image = { base: 0, sectors: 4, reader: { size: sectors.length, read: async (at, length) => sectors.slice(at, at + length) } };
-    const whys = [];
-    for await (const { lines, why } of replacedRows(calls, image, rows, () => [counting], null)) whys.push(lines === null ? why : 'lines');
-    return { whys, asked };
+    const { parts, left } = await replaceList(calls, image, rows, () => [counting], null);
+    return { patches: parts.patches, whys: left.map(({ why }) => why), asked };
 }
 
 const row = (text, fresh, offset = 0) => ({ number: 2, block: 0, offset, room: 999999999, encoding: '', text, fresh });
@@ -80,9 +79,9 @@ const row = (text, fresh, offset = 0) => ({ number: 2, block: 0, offset, room: 9
 test('of a text of 50 MB no character is looked up', async () => {
     const long = 'A'.repeat(50 << 20);
     const why = 'a text has more than 65536 characters';
-    for (const it of [row(long, 'b'), row('A', long)]) assert.deepEqual(await made([it]), { whys: [why], asked: 0 });
-    const { whys, asked } = await made([row('A'.repeat(8192), 'b\0c')]);
-    assert.deepEqual(whys, ['lines']);
+    for (const it of [row(long, 'b'), row('A', long)]) assert.deepEqual(await made([it]), { patches: 0, whys: [why], asked: 0 });
+    const { patches, whys, asked } = await made([row('A'.repeat(8192), 'b\0c')]);
+    assert.deepEqual([patches, whys], [2, []]);
     assert.ok(asked < 3 * 8200, `${asked}`);
 });
 

@@ -3,9 +3,10 @@ import assert from 'node:assert';
 import { test } from 'node:test';
 import { calls, core, diceOf, readerOf } from './common.mjs';
 
-const { sliceOf } = await core('bytes.js');
+const { sliceOf, watchedReader } = await core('bytes.js');
 const { baseByAddresses } = await core('disc/base.js');
 const { natureOf } = await core('disc/file_type.js');
+const { isOneTrack } = await core('disc/one_track.js');
 
 const RAW = 2352;
 
@@ -44,6 +45,18 @@ test('sectors of 2448 bytes are known', async () => {
     }
 });
 
+test('samples near one another are read together, and of a long image little more than the samples', async () => {
+    const short = sectors(0, 180);
+    const long = Buffer.concat([short, Buffer.alloc(4000 * RAW)]);
+    for (const [image, reads, bytes] of [[short, 10, 4 * short.length], [long, 200, long.length / 4]]) {
+        const reader = readerOf(image);
+        assert.strictEqual((await natureOf(calls, reader)).kind, 'raw');
+        assert.strictEqual(await baseByAddresses(calls, reader), 0);
+        assert.ok(reader.reads.length <= reads, `${reader.reads.length} reads`);
+        assert.ok(reader.reads.reduce((sum, { length }) => sum + length, 0) <= bytes);
+    }
+});
+
 test('other files are known by how they begin', async () => {
     const wave = Buffer.concat([Buffer.from('RIFF\0\0\0\0WAVEfmt '), Buffer.alloc(RAW)]);
     const iso = Buffer.alloc(40 * 2048);
@@ -77,6 +90,17 @@ test('other addresses, audio, other modes and bytes that are no address do not c
     assert.strictEqual(await baseOf(raw), 997);
 });
 
+test('the base of an image of Mode 2 is what its addresses say, unless there is Mode 1', async () => {
+    const mode2 = base => {
+        const raw = sectors(base, 30);
+        for (let i = 0; i < 30; i++) raw[i * RAW + 15] = 2;
+        return raw;
+    };
+    for (const base of [0, 1, 225, 449000]) assert.strictEqual(await baseOf(mode2(base)), base);
+    assert.strictEqual(await baseOf(Buffer.concat([mode2(0).subarray(0, 15 * RAW), mode2(0).subarray(0, 15 * RAW)])), null);
+    assert.strictEqual(await baseOf(Buffer.concat([mode2(500), sectors(1030, 2)])), 1000);
+});
+
 test('no base is guessed: half of the addresses are not enough', async () => {
     assert.strictEqual(await baseOf(Buffer.concat([sectors(10, 5), sectors(300, 5)])), null);
     assert.strictEqual(await baseOf(Buffer.concat([sectors(10, 5), sectors(300, 6)])), 295);
@@ -85,6 +109,27 @@ test('no base is guessed: half of the addresses are not enough', async () => {
 
 test('an image that begins before block 0 has a base below 0', async () => {
     assert.strictEqual(await baseOf(Buffer.concat([Buffer.alloc(150 * RAW), sectors(0, 10)])), -150);
+});
+
+test('a reader that is watched says where each read begins, forward too if it can be read so', async () => {
+    const [plain, told] = [readerOf(new Uint8Array(9)), []];
+    const watch = reader => watchedReader(reader, at => { told.push(at); });
+    assert.strictEqual(watch(plain).forward, undefined);
+    const forward = watch({ ...plain, forward: () => plain }).forward();
+    for (const reader of [watch(plain), forward]) assert.strictEqual((await reader.read(told.length, 2)).length, 2);
+    assert.deepStrictEqual([told, plain.reads.map(({ at }) => at)], [[0, 1], [0, 1]]);
+});
+
+test('an image is one track if it begins with block 0, has no tail, and is of Mode 1', async () => {
+    const whole = sectors(0, 100);
+    const isOne = (raw, more) => isOneTrack(calls, { reader: readerOf(raw), addressed: 0, tail: 0, ...more });
+    assert.strictEqual(await isOne(whole), true);
+    assert.deepStrictEqual([await isOne(whole, { addressed: 1 }), await isOne(whole, { addressed: null }), await isOne(whole, { tail: 1 })], [false, false, false]);
+    for (const place of [0, 99]) {
+        const other = Buffer.from(whole);
+        other[RAW * place + 15] = 2;
+        assert.strictEqual(await isOne(other), false);
+    }
 });
 
 test('a slice of a reader reads nothing outside', async () => {

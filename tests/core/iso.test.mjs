@@ -119,7 +119,9 @@ test('a deep tree with the names of ISO 9660', async t => {
 });
 
 test('names of many scripts, and names that need a continuation', async t => {
-    const files = { '漢字.txt': 'a', 'é': 'b', [`${'long '.repeat(40)}.end`]: 'c', 'two;2': 'd' };
+    // Each is continued after the one before it in one sector.
+    const long = ['long ', 'other ', 'third '].map(word => [`${word.repeat(35)}.end`, word]);
+    const files = { '漢字.txt': 'a', 'é': 'b', 'two;2': 'd', ...Object.fromEntries(long) };
     const iso = made(t, files, ['-J', '-R'], ['-R']);
     if (!iso) return;
     const found = await filesOf(readerOf(rawOf(iso.bytes)), 0);

@@ -6,6 +6,7 @@ import { calls, core, diceOf, joinSurveys, readerOf, sameBytes, someImage, surve
 import { answersOf, localCrew, withThreads } from './crews.mjs';
 
 const { FAULT, Fault } = await core('faults.js');
+const { passUser } = await core('images/convert.js');
 const { Crew, JOBS, UNREAD, localHand, serving, transfersOf } = await core('jobs.js');
 const { addToRuns } = await core('sectors/runs.js');
 const { findIn, joinFound, sectorsBeyond } = await core('texts/find.js');
@@ -66,6 +67,15 @@ test('user data and raw sectors are those of the program', async () => {
         sameBytes(raw.subarray(2352 * i, 2352 * i + 2352), sector, `sector ${i}`);
     }
     await assert.rejects(answersOf(localCrew(), 'raw', [readerOf(user)], {}, { base: 449849, units: [2048] }), /block 449850 has no address/);
+});
+
+test('of user data as many bytes are passed on as are asked for, by ranges of any size', async () => {
+    const [{ user }] = await answersOf(localCrew(), 'user', [readerOf(small)], {}, { base: BASE, step: 50 });
+    for (const step of [1, 7, 50]) for (const size of [1, 2048, 2048 * 7 + 1, 2048 * 50 - 5]) {
+        const parts = [];
+        await passUser(localCrew(), readerOf(small), size, { base: BASE, step }, bytes => { parts.push(bytes); });
+        sameBytes(Buffer.concat(parts), user.subarray(0, size), `${size} bytes by ${step}`);
+    }
 });
 
 /** A hand that replies when it is told to, to the last range that it has first. */

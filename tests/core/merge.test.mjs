@@ -7,7 +7,7 @@ import { localCrew, withThreads } from './crews.mjs';
 import { CHANGES, RAW, blocksOf, changedImage, countOf, sectorAt, sound, soundImage } from './pairs.mjs';
 
 const { mergeImages } = await core('images/merge.js');
-const { isSameRange, shiftOf } = await core('images/common_part.js');
+const { commonPart, firstBlock, isSameRange, shiftOf } = await core('images/common_part.js');
 
 const BASE = 500;
 const imageOf = (bytes, base = BASE) => ({ name: 'image.bin', reader: readerOf(bytes), base, addressed: base, sectors: countOf(bytes), tail: bytes.length % RAW });
@@ -187,6 +187,14 @@ test('another part of a disc is refused', async () => {
     await assert.rejects(repaired(localCrew(), imageOf(image), [other]), { name: 'Fault', message });
 });
 
+test('images are counted from the blocks that their addresses say, before block 0 too, or else their cue sheets', () => {
+    const image = soundImage(diceOf(63), 5, BASE);
+    const [named, early] = [{ ...imageOf(image), addressed: null }, { ...imageOf(image, 0), addressed: -2 }];
+    assert.deepEqual([named, early, imageOf(image)].map(firstBlock), [BASE, -2, BASE]);
+    assert.deepEqual(commonPart(named, imageOf(image, BASE + 2)), { from: 2, to: 5, later: 2 });
+    assert.deepEqual(commonPart(imageOf(image, 1), early), { from: 0, to: 2, later: -3 });
+});
+
 test('dumps that begin or end elsewhere repair what they have, as if the rest were nothing', async () => {
     const ranges = [[0, 60], [0, 55], [7, 60], [-3, 70], [20, 90]];
     for (let seed = 0; seed < 20; seed++) {
@@ -213,10 +221,12 @@ test('a dump in which sectors are missing or too many is refused, and it is foun
     const image = soundImage(diceOf(62), 120, BASE);
     const gone = Buffer.concat([image.subarray(0, 70 * RAW), image.subarray(73 * RAW), new Uint8Array(3 * RAW)]);
     const more = Buffer.concat([image.subarray(0, 65 * RAW), image.subarray(64 * RAW, 119 * RAW)]);
+    const both = Buffer.concat([image.subarray(0, 20 * RAW), image.subarray(21 * RAW, 26 * RAW), image.subarray(25 * RAW, 70 * RAW),
+        gone.subarray(70 * RAW)]);
     const edited = image.slice();
     for (let i = 30; i < 90; i++) edited.set(sound(BASE + i, new Uint8Array(2048).fill(i)), RAW * i);
-    const due = [{ by: 3, first: BASE + 70 }, { by: -1, first: BASE + 65 }, null];
-    for (const [i, bytes] of [gone, more, edited].entries()) {
+    const due = [{ by: 3, first: BASE + 70 }, { by: 3, first: BASE + 70 }, { by: -1, first: BASE + 65 }, null];
+    for (const [i, bytes] of [gone, both, more, edited].entries()) {
         const [old, other] = [imageOf(image), imageOf(Uint8Array.from(bytes))];
         const { refused, differing } = await repaired(localCrew(), old, [other]);
         assert.ok(refused);

@@ -6,8 +6,11 @@ import { calls, core, decoded, diceOf, encoded, joinedPieces, newCalls, readerOf
 
 const { Refusal, readScript } = await core('script/script.js');
 const { Part, readLines } = await core('script/long_script.js');
+const { NEAR_WRITTEN } = await core('script/patch_run.js');
 const { applyPatches, passPatched } = await core('script/patches.js');
 const { PieceKeeper, bytesOfPieces } = await core('bytes.js');
+const { pieceReader } = await core('piece_reader.js');
+const { ReadAhead } = await core('read_ahead.js');
 const { MOST_SECTORS } = await core('sectors/sector.js');
 
 const BASE = 30;
@@ -139,7 +142,7 @@ test('what was read between patches goes out with them as far as is asked for', 
         assert.ok(reader.reads.every(({ at, length }, i, all) => i === 0 || at >= all[i - 1].at + all[i - 1].length), 'a byte read twice');
         return { slices: pieces.filter(it => !it.bytes).length, pieces: pieces.length };
     };
-    const [few, all] = [await sizes({}), await sizes({ near: 1 << 17 })];
+    const [few, all] = [await sizes({}), await sizes({ near: NEAR_WRITTEN })];
     assert.ok(few.slices > 170 && all.slices <= 2 && all.pieces < 40, JSON.stringify({ few, all }));
 });
 
@@ -158,6 +161,42 @@ test('pieces that are kept stand side by side in large memory', async () => {
     });
     assert.deepEqual(keeper.kept({ from: 5, to: 9 }), { from: 5, to: 9 });
     assert.equal(new Set(pieces.map(({ bytes }) => bytes.buffer)).size, 3);
+});
+
+test('what is read on is what begins in the last read, or where that ends, and nothing before the first', async () => {
+    const reader = readerOf(image);
+    const ahead = new ReadAhead(reader);
+    assert.equal(await ahead.bytesOn(0, 10), null);
+    await ahead.bytesAt(5000, 10);
+    const [{ at, length }] = reader.reads;
+    sameBytes(ahead.here(5000, length), image.subarray(5000, 5000 + length), 'what is here');
+    assert.deepEqual([ahead.here(4999, 10), ahead.here(5000, length + 1)], [null, null]);
+    assert.deepEqual([await ahead.bytesOn(4999, 10), await ahead.bytesOn(at + length + 1, 10)], [null, null]);
+    sameBytes(await ahead.bytesOn(5000, 20), image.subarray(5000, 5020), 'the beginning');
+    sameBytes(await ahead.bytesOn(at + length, 30), image.subarray(at + length, at + length + 30), 'the end');
+});
+
+test('a slice comes in reads of four megabytes, of which none is empty', async () => {
+    const size = 1 << 23;
+    const sizes = [];
+    const reader = { size, read: async (at, length) => new Uint8Array(length) };
+    for await (const { length } of bytesOfPieces(reader, [{ from: 0, to: size }, { from: 0, to: size + 1 }])) sizes.push(length);
+    assert.deepEqual(sizes, [size / 2, size / 2, size / 2, size / 2, 1]);
+});
+
+test('of an image in pieces only what slices have is read, to the byte', async () => {
+    const dice = diceOf(14);
+    const [bytes, fresh] = [someBytes(dice, 300), someBytes(dice, 50)];
+    const reader = readerOf(bytes);
+    const inPieces = pieceReader(reader, [{ from: 0, to: 100 }, { at: 100, bytes: fresh.subarray(0, 20) },
+        { at: 120, bytes: fresh.subarray(20) }, { from: 150, to: 300 }]);
+    const due = Uint8Array.from([...bytes.subarray(0, 100), ...fresh, ...bytes.subarray(150)]);
+    const asked = [[100, 50, 0], [120, 1, 0], [119, 31, 0], [99, 2, 1], [149, 2, 1], [0, 300, 1], [290, 50, 1], [300, 5, 0]];
+    for (const [at, length, reads] of asked) {
+        reader.reads.length = 0;
+        sameBytes(await inPieces.read(at, length), due.subarray(at, at + length), `${length} bytes from ${at} on`);
+        assert.equal(reader.reads.length, reads, `${length} bytes from ${at} on`);
+    }
 });
 
 test('old bytes are not compared if that is asked for', async () => {

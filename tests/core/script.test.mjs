@@ -163,6 +163,7 @@ test('the bases that comments say are those that stand there, with their lines',
         for (const long of [false, true]) assert.deepEqual(await said(script, long), due, script);
     }
     assert.deepEqual((await read([encoded('# base 4\ncdpatch 1\n')])).bases, [{ line: 1, base: 4 }]);
+    assert.deepEqual((await read([encoded(' # base 4\ncdpatch 1\n')])).bases, []);
 });
 
 /** A script of so many bytes, and whether all of its pieces were asked for. */
@@ -186,6 +187,8 @@ test('no more bytes than the program takes, but for a long script', async () => 
     assert.deepEqual(await read(pieces), tooLong);
     assert.ok(!asked.all, 'a script that is too long is not read to its end');
     assert.deepEqual(await read(scriptOf(MOST_SCRIPT_BYTES + 1, 'faulty\n').pieces), tooLong);
+    const faulty = { refused: 'script line 1: no cdpatch 1 line\n', tooLong: false };
+    assert.deepEqual(await read(scriptOf(MOST_SCRIPT_BYTES, 'faulty\n').pieces), faulty);
     assert.equal((await read(scriptOf(MOST_SCRIPT_BYTES + 1, `${right}#`).pieces, true)).patches.length, 1);
 });
 

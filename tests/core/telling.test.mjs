@@ -2,13 +2,13 @@
 
 import assert from 'node:assert/strict';
 import { test } from 'node:test';
-import { core, diceOf } from './common.mjs';
+import { core, diceOf, encoded } from './common.mjs';
 
 const { TextTeller } = await core('texts/telling.js');
-const { allScores } = await core('texts/scores.js');
+const { allScores, tableScores } = await core('texts/scores.js');
 const { cellOf } = await core('texts/codes.js');
 const { keptOf } = await core('texts/told.js');
-const { encodingOf } = await core('texts/encodings.js');
+const { encodingOf, tableOf } = await core('texts/encodings.js');
 const { encodeText } = await core('texts/encoding.js');
 
 const teller = new TextTeller();
@@ -27,6 +27,23 @@ test('a sentence in noise is found in each encoding, at its place', () => {
         const text = bytesOf(name, '城の地下に宝があるらしい。');
         const bytes = Buffer.concat([noise(3000, 1), Buffer.alloc(2), text, Buffer.alloc(2), noise(3000, 2)]);
         assert.deepEqual(found(bytes), [[3002, 3002 + text.length, name]], name);
+    }
+});
+
+test('letters and digits of one byte are read as a part of a text', () => {
+    for (const name of ['CP932', 'EUC-JP', 'UTF-8']) {
+        const text = bytesOf(name, '旅の商人がHP 20の薬をくれた。');
+        assert.deepEqual(found(Buffer.concat([Buffer.alloc(300, 0x15), text, Buffer.alloc(300, 0x15)])), [[300, 300 + text.length, name]]);
+    }
+});
+
+test('a control code does not end a text, whichever it is, but three do, if they are no line ends or tabs', () => {
+    const [one, other] = ['城の地下に宝があるらしい。', '旅の商人からそう聞いた。'].map(text => bytesOf('CP932', text));
+    for (let code = 1; code < 0x20; code++) {
+        const around = Buffer.alloc(9, 0xFF);
+        const ends = [1, 3].map(count => found(Buffer.concat([around, one, Buffer.alloc(count, code), other, around])).map(([, end]) => end - 9));
+        const first = [0x09, 0x0A, 0x0D].includes(code) ? [] : [one.length];
+        assert.deepEqual(ends, [[one.length + 1 + other.length], [...first, one.length + 3 + other.length]], `${code}`);
     }
 });
 
@@ -49,6 +66,15 @@ test('a text of kanji only is found by itself between 00', () => {
     assert.equal(found(alone('CP932', ['はい', 'なし', 'した', 'です'])).length, 4);
 });
 
+test('IBM\'s kanji are a part of a text, and a user\'s own characters are not', () => {
+    const [high, cape, own] = ['FBFC', 'FAB1', 'F040'].map(digits => Buffer.from(digits, 'hex'));
+    const [house, eagle] = ['橋さんの家', '鷲尾'].map(text => bytesOf('CP932', text));
+    const [one, other] = [Buffer.concat([high, house]), Buffer.concat([eagle, cape, house.subarray(2)])];
+    const bytes = Buffer.concat([Buffer.alloc(2), one, Buffer.alloc(2), other, Buffer.alloc(2), own, house, Buffer.alloc(2)]);
+    const third = 6 + one.length + other.length + own.length;
+    assert.deepEqual(found(bytes), [[2, 14, 'CP932'], [16, 30, 'CP932'], [third, third + house.length, 'CP932']]);
+});
+
 test('characters in the order of Unicode are a table, and no text but between 00', () => {
     for (const characters of ['こしたどぱぷめん', 'ブノテゾザギ', 'きすっづにぱふもめろわん']) {
         for (const name of ['CP932', 'EUC-JP', 'UTF-16BE', 'UTF-16LE']) {
@@ -56,6 +82,14 @@ test('characters in the order of Unicode are a table, and no text but between 00
             assert.deepEqual(found(Buffer.concat([Buffer.alloc(300, 0x15), bytes, Buffer.alloc(300, 0x15)])), [], `${name} ${characters}`);
             assert.equal(found(Buffer.concat([Buffer.alloc(300), bytes, Buffer.alloc(300)])).length, 1, `${name} ${characters}`);
         }
+    }
+});
+
+test('a table has four characters or more, and of eight steps to the next one not more than one goes the other way', () => {
+    const counts = { 'いかる': 1, 'いかるん': 0, 'んるかい': 0, 'いかきしたにはと': 1, 'いかきしたてにはと': 0, 'いかきしたてにねはもとわらん': 1 };
+    for (const name of ['CP932', 'EUC-JP']) for (const [characters, count] of Object.entries(counts)) {
+        const bytes = Buffer.concat([Buffer.alloc(300, 0x15), bytesOf(name, characters), Buffer.alloc(300, 0x15)]);
+        assert.equal(found(bytes).length, count, `${name} ${characters}`);
     }
 });
 
@@ -70,18 +104,41 @@ test('in sound in which many bytes are characters only texts are found that are 
 });
 
 test('short texts are taken beside others, over the 00 between them', () => {
-    const texts = ['はじめから', 'と', 'はい', 'HP 20 かいふく', '冒険をつづけますか？'].map(text => bytesOf('CP932', text));
-    const bytes = Buffer.concat([Buffer.alloc(8), ...texts.flatMap(text => [text, Buffer.alloc(2)])]);
-    const places = texts.map((text, i) => 8 + texts.slice(0, i).reduce((sum, it) => sum + it.length + 2, 0)).map((at, i) => [at, at + texts[i].length, 'CP932']);
-    assert.deepEqual(found(bytes), places);
+    for (const [name, gap] of [['CP932', 2], ['EUC-JP', 1], ['UTF-16LE', 4], ['UTF-16BE', 6]]) {
+        const texts = ['はい', 'と', 'はじめから', 'と', 'はい', 'HP 20 かいふく', '冒険をつづけますか？'].map(text => bytesOf(name, text));
+        const bytes = Buffer.concat([Buffer.alloc(8), ...texts.flatMap(text => [text, Buffer.alloc(gap)])]);
+        const starts = texts.map((_, i) => 8 + texts.slice(0, i).reduce((sum, it) => sum + it.length + gap, 0));
+        assert.deepEqual(found(bytes), starts.map((at, i) => [at, at + texts[i].length, name]));
+    }
+});
+
+test('a text that is too weak by itself is taken up to 64 bytes from a sure one of its encoding, or from one that was taken so', () => {
+    const apart = size => Buffer.alloc(size, 0x15);
+    const between = (name, text) => Buffer.concat([Buffer.alloc(2), bytesOf(name, text), Buffer.alloc(2)]);
+    for (const name of ['CP932', 'EUC-JP', 'UTF-16LE']) {
+        const [sure, weak] = ['城の地下に宝があるらしい。', '先内'].map(text => between(name, text));
+        const foreign = between(name === 'EUC-JP' ? 'CP932' : 'EUC-JP', '先内');
+        const count = parts => found(Buffer.concat([apart(300), ...parts, apart(300)])).length;
+        // Of the distance four bytes are 00.
+        const counts = [[weak], [sure, apart(60), weak, apart(60), weak], [weak, apart(60), weak, apart(60), sure], [sure, apart(62), weak],
+            [weak, apart(62), sure], [sure, apart(60), foreign]].map(count);
+        assert.deepEqual(counts, [0, 3, 3, 1, 1, 1], name);
+    }
 });
 
 test('names in kanji that stand in few sentences are taken beside others', () => {
-    const texts = ['つづきからはじめる', '剣', '鎧', '古代遺跡', '占い師', '踊り子', '鋼鉄の鎧', '賢者', '武闘家', 'どうぐをつかう'].map(text => bytesOf('CP932', text));
+    const texts = ['つづきからはじめる', '剣', '鎧', '鎧鋼', '古代遺跡', '占い師', '踊り子', '鋼鉄の鎧', '賢者', '武闘家', 'どうぐをつかう'].map(text => bytesOf('CP932', text));
     const bytes = Buffer.concat([Buffer.alloc(8), ...texts.flatMap(text => [text, Buffer.alloc(1)])]);
     const sizes = found(bytes).map(([start, end]) => end - start);
     assert.deepEqual(sizes.filter(size => size > 2), texts.map(text => text.length).filter(size => size > 2));
     assert.equal(found(Buffer.concat([bytes, noise(1 << 16, 9)])).length, found(bytes).length);
+});
+
+test('bytes of which neighbours differ little are a picture, and no text', () => {
+    // In EUC-JP both bytes of these lie near A4.
+    for (const [name, count] of [['EUC-JP', 0], ['CP932', 1]]) {
+        assert.equal(found(Buffer.concat([Buffer.alloc(4), bytesOf(name, 'いえあかおいうあきえ'), Buffer.alloc(4)])).length, count, name);
+    }
 });
 
 test('a text after a picture is found', () => {
@@ -118,6 +175,8 @@ test('bytes are decoded once to be told as a text, and its cell is not read char
     const text = bytesOf('CP932', '城の地下に宝があるらしい。');
     const [place, ...others] = new TextTeller(all).tell(Buffer.concat([Buffer.alloc(300, 0x15), text, Buffer.alloc(300, 0x15)]));
     assert.deepEqual([place.start, place.end, others, counts], [300, 300 + text.length, [], { text: 1, characterAt: 0 }]);
+    assert.equal(cellOf(place.scores.encoding, text, place.text), '城の地下に宝があるらしい。');
+    assert.deepEqual(counts, { text: 1, characterAt: 0 });
     assert.equal(cellOf(place.scores.encoding, text), '城の地下に宝があるらしい。');
     assert.deepEqual(counts, { text: 2, characterAt: 0 });
     for (const [bytes, cell] of [['"あ"', '{22}あ"'], ['あ"', 'あ"'], ['あ\n', 'あ{0A}'], ['{', '{7B}']]) {
@@ -138,13 +197,23 @@ test('texts in UTF-16 with one 00 00 after each are not read with the other byte
 });
 
 test('a chain of texts after their lengths is cut into them', () => {
-    const texts = ['旅の商人から剣を買った', '港町へようこそ。', '宿屋で待っている'].map(text => bytesOf('CP932', text));
+    const texts = ['旅の商人から剣を買った', '剣', '港町へようこそ。', '宿屋で待っている'].map(text => bytesOf('CP932', text));
     const bytes = Buffer.concat([Buffer.alloc(4), ...texts.flatMap(text => [Buffer.of(text.length), text]), Buffer.alloc(4)]);
     assert.deepEqual(found(bytes).map(([start, end]) => end - start), texts.map(text => text.length));
+    // One text is no chain, though its first letter is the number of bytes that follow.
+    const one = bytesOf('CP932', 'A城の地下に宝があるらしい。旅の商人からそう聞いた。港町へようこそb');
+    assert.equal(one[0], one.length - 1);
+    assert.deepEqual(found(Buffer.concat([Buffer.alloc(4), one, Buffer.alloc(4)])), [[4, 4 + one.length, 'CP932']]);
+});
+
+test('the characters of a game\'s own table score as they do elsewhere, Latin letters in no order', () => {
+    const { oneKind, pair } = tableScores(tableOf(encoded('80=a\n81=あ\n82=ab\n8340=の\n8341=☂\n')));
+    assert.deepEqual([...oneKind.subarray(0x80, 0x83), pair[0x8340]], [0, 1, 0, allScores()[0].pair[0x82CC]]);
+    assert.ok(pair[0x8341] > 0, 'what no table has');
 });
 
 test('of a file in one encoding others are kept only if they are surer', () => {
-    const [cp932, euc] = [teller.finder.all[0], teller.finder.all[1]];
+    const [cp932, euc] = teller.all;
     const made = (scores, score) => ({ start: 0, end: 2, score, scores, before: true, after: true, near: false });
     const many = Array.from({ length: 10 }, () => made(cp932, 60));
     assert.equal(keptOf([...many, made(euc, 30)]).length, 10);

@@ -42,16 +42,23 @@ print(json.dumps([[tried(lambda: chr(c).encode(codec).hex().upper()) for c in ra
     return { written, read };
 }
 
+/** @type {Record<string, string[]>} what allEncoded has made */
+const ALL_ENCODED = {};
+
 /** The bytes of each character, '' for none. @param {string} name */
 function allEncoded(name) {
     const encoding = encodingOf(name);
-    return CHARACTERS.map(it => {
+    const { stackTraceLimit } = Error;
+    Error.stackTraceLimit = 0;
+    ALL_ENCODED[name] ??= CHARACTERS.map(it => {
         try {
             return hex(encodeText(encoding, it));
         } catch {
             return '';
         }
     });
+    Error.stackTraceLimit = stackTraceLimit;
+    return ALL_ENCODED[name];
 }
 
 test('CP932 is read as Python reads it, but for five single bytes that are no characters', t => {
@@ -173,9 +180,19 @@ test('other languages have the characters of the Encoding Standard in each byte 
     const OTHERS = ENCODINGS_KNOWN.filter(({ label }) => label);
     assert.deepStrictEqual(OTHERS.map(({ name }) => name), ENCODINGS.filter(({ searched, hasCharacters }) => !searched && hasCharacters).map(({ name }) => name));
     for (const { name, sha256 } of OTHERS) {
-        const others = [...encodingOf(name).table.meanings()].filter(({ bytes }) => bytes[0] >= 0x80);
-        const lines = others.map(({ bytes, text }) => `${hex(bytes)} ${text}\n`).sort();
+        const all = [...encodingOf(name).table.spellings].flatMap(([text, spellings]) => spellings.map(bytes => ({ bytes, text })));
+        const lines = all.filter(({ bytes }) => bytes[0] >= 0x80).map(({ bytes, text }) => `${hex(bytes)} ${text}\n`).sort();
         assert.strictEqual(createHash('sha256').update(lines.join('')).digest('hex'), sha256, name);
+    }
+});
+
+test('what stands often in texts of another language is what its standard has first, as frequent as if it had nothing else', () => {
+    // The first level of Big5 and of GB 2312, and the syllables of KS X 1001, of which the last two have codes from A1 on.
+    for (const [name, count, least] of [['Big5', 5401, 0], ['GBK', 3755, 0xA1], ['EUC-KR', 2350, 0xA1]]) {
+        const { table, usual: { first, last, score } } = encodingOf(name);
+        const pairs = [...table.spellings.values()].flat().filter(([, trail]) => trail >= least).map(([lead, trail]) => lead << 8 | trail);
+        const codes = pairs.filter(code => code >= first && code <= last);
+        assert.deepStrictEqual([codes.length, score], [count, Math.floor(4 * Math.log2(65536 / count))], name);
     }
 });
 
@@ -233,6 +250,11 @@ test('loosely each half-width form is one with its full-width one, from the firs
         assert.ok(forms(half, true).includes(encoded('CP932', wide)), half);
         assert.ok(!forms(wide, false).includes(encoded('CP932', half)), wide);
     }
+    const inUnicode = text => unitsAlike(encodingOf('UTF-8'), text, true)[0].map(bytes => Buffer.from(bytes).toString());
+    for (let code = 0xFF01; code <= 0xFF9F; code += code === 0xFF5E ? 3 : 1) {
+        const both = [String.fromCharCode(code), String.fromCharCode(code).normalize('NFKC')];
+        for (const text of both) assert.deepStrictEqual(both.filter(it => !inUnicode(text).includes(it)), [], text);
+    }
     assert.deepStrictEqual([forms('ガ', true), forms('ガ', false)].map(it => it.includes('B6DE')), [true, false]);
     assert.deepStrictEqual(forms('Ａ', true).sort(), ['41', '61', '8260', '8281']);
 });
@@ -272,6 +294,10 @@ test('a table takes the longest match, both ways', () => {
     assert.strictEqual(hex(encodeText(own, 'abcaba= 漢\n<end>')), '03' + '0102' + '01' + '04' + '05' + '06' + 'FE' + '00');
     assert.strictEqual(own.text(Uint8Array.of(1, 2, 1, 3, 0x55, 0xFE, 0, 7)), 'abaabc\uFFFD\n<end>a');
     assert.deepStrictEqual(own.units('a').map(unit => unit.map(hex)), [['01', '07']]);
+    const long = table('08=a\n0809=b\n08090A=c\n0B=d\n');
+    for (const [bytes, text] of [[[8, 9, 0xB], 'bd'], [[8, 9, 0xA], 'c'], [[8, 9], 'b'], [[8], 'a'], [[8, 0xB], 'ad'], [[8, 9, 0xA, 8, 9], 'cb'], [[9, 8, 9], '\uFFFDb']]) {
+        for (let again = 0; again < 2; again++) assert.strictEqual(long.text(Uint8Array.from(bytes)), text);
+    }
     assert.throws(() => encodeText(own, 'abd'), { message: 'the table has no \'d\' (U+0064), character 3 of the text' });
 });
 

@@ -12,13 +12,24 @@ cd "$scratch" || exit 1
 # The numbers for JavaScript and Python, of the header, if it has changed since `make`.
 fresh_numbers() { ! command -v python3 > /dev/null || python3 -B "$top/tools/header_numbers.py"; }
 
+# without_module WHAT: whether there is no WebAssembly module; then what it was wanted for is skipped.
+without_module() {
+    [ ! -f "$top/library/cdpatch.wasm" ] && skip "$1, whose module tools/wasm.sh makes with wasm-opt (Debian's package binaryen)"
+}
+
 # holds COMMAND.., refuses COMMAND..: whether a command succeeds, and says why if not; whether it fails.
 holds() { { "$@" > log; } 2>> log || { tail -n 5 log; false; }; }
 refuses() { ! { "$@" > log; } 2> errors; }
 
-# by_cases WORD.., by_random WORD..: the worked cases by clients that these words name, and random ones by one (tests/cases/clients.py).
+# some_fail COMMAND..: whether some of its cases fail, and others pass.
+some_fail() { refuses "$@" && tail -n 1 log | grep -qE '^[1-9][0-9]* passed, [1-9][0-9]* failed$'; }
+
+# by_cases WORD.., by_random WORD..: the worked cases by clients that these words name, and random ones by one (tests/cases/clients.py): as
+# many as RANDOM_CASES says, or 100, and in the gate 300, of the seed SEED.
+random_cases=${RANDOM_CASES:-${WRONG_VERSIONS:+300}}
+random_cases=${random_cases:-100}
 by_cases() { bash "$tests/cases/run" model --without-model "$@"; }
-by_random() { TMPDIR=$PWD bash "$tests/model/run" "$@"; }
+by_random() { TMPDIR=$PWD bash "$tests/model/run" --cases "$random_cases" --seed "${SEED:-1}" "$@"; }
 
 # compiled NAME PURPOSE: whether a library of the C source of this name could be made, as NAME.so; else its purpose is skipped.
 compiled() {

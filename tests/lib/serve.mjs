@@ -1,28 +1,11 @@
 // Serves a client to tests/cases/clients.py: on the standard input a question is a line of JSON, whose `sizes` are those of the bytes that
 // follow it; so is an answer on the standard output.
 
-import { readSync, writeSync } from 'node:fs';
+import { writeSync } from 'node:fs';
+import { Input } from './input.mjs';
 
 /** @typedef {{ call: string, base: number, carry: boolean, sizes: number[] }} Question */
 /** @typedef {{ status: number, text: Uint8Array, out?: Uint8Array | null }} Answer */
-
-/** @param {number} size */
-function read(size) {
-    const bytes = new Uint8Array(size);
-    for (let at = 0; at < size;) {
-        const count = readSync(0, bytes, at, size - at, null);
-        if (count === 0) throw new Error('a question is cut');
-        at += count;
-    }
-    return bytes;
-}
-
-/** The next line, '' at the end. */
-function readLine() {
-    const [bytes, byte] = [[], Buffer.alloc(1)];
-    while (readSync(0, byte, 0, 1, null) === 1 && byte[0] !== 10) bytes.push(byte[0]);
-    return Buffer.from(bytes).toString();
-}
 
 /**
  * Ends the process if nobody reads any more: who asks has seen enough.
@@ -42,9 +25,10 @@ function write(bytes) {
  * @param {(question: Question, parts: Uint8Array[]) => Answer | Promise<Answer>} answered
  */
 export async function serve(answered) {
-    for (let line = readLine(); line !== ''; line = readLine()) {
-        const question = /** @type {Question} */ (JSON.parse(line));
-        const parts = question.sizes.map(read);
+    const input = new Input();
+    while (!input.ended()) {
+        const question = /** @type {Question} */ (JSON.parse(input.text(10)));
+        const parts = question.sizes.map(size => input.take(size));
         /** @type {Answer} */
         let answer;
         try {

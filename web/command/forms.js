@@ -71,10 +71,10 @@ export const FORMS = {
     'scan': {
         job: scanJob, takes: ['PATH..'], options: ['dat', 'resume', 'output'],
         says: 'Say what is in each image of a collection',
-        does: 'Prints a line for each image as it is done: name, kinds of sectors, with the bytes of one that is cut as tail N, damaged ' +
-            'sectors, all findings, sectors with another address, SHA-1, and what --dat knows of it, or - without --dat, with tabs ' +
-            'between. PATH is an image, a cue sheet or a directory. ' +
-            'Status: 0 no findings, 1 findings, 2 something could not be read',
+        does: 'Prints a line for each file as it is done: name, kinds of sectors, with the bytes of one that is cut as tail N or the ' +
+            'blocks that its volume has beyond it as short N, or what it is after none:, damaged sectors, all findings, sectors with ' +
+            'another address, each - if there is no Mode 1, SHA-1, and what --dat knows of it, or - without --dat, with tabs between. ' +
+            'PATH is an image, a cue sheet or a directory. Status: 0 no findings, 1 findings, 2 something could not be read',
         example: 'cdscript scan /games --dat redump.dat --resume games.tsv',
     },
     'list': {

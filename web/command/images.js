@@ -5,6 +5,7 @@ import { bytesOfLines } from '../core/bytes.js';
 import { natureOf } from '../core/disc/file_type.js';
 import { Fault } from '../core/faults.js';
 import { passFile, passUser } from '../core/images/convert.js';
+import { blocksBeyond } from '../core/images/common_part.js';
 import { mergeImages } from '../core/images/merge.js';
 import { LAST_BASE } from '../core/module/numbers.js';
 import { kindName } from '../core/module/records.js';
@@ -50,6 +51,24 @@ function repairLines({ taken, damaged, alike, disputed, differing, different }, 
     ];
 }
 
+/**
+ * Says which blocks of an image another one has not, and which ones only the other has, so that the result lacks them.
+ * @param {Run} run
+ * @param {DiscImage} image
+ * @param {DiscImage} other
+ * @param {{ from: number, to: number }} part of the image that the other has
+ * @param {string} out
+ */
+function sayOtherRange(run, image, other, { from, to }, out) {
+    const isPart = to - from < image.sectors;
+    const part = { first: from + image.base, last: to + image.base - 1 };
+    if (isPart) run.say(`${other.name} has only ${blocksText([part])} of ${image.name}`);
+    const beyond = blocksBeyond(image, other);
+    if (beyond.length === 0) return;
+    const what = `${other.name} has ${blocksText(beyond)}, which ${image.name} has not, so ${out} has not either`;
+    run.say(isPart ? what : `${what}: name ${other.name} first`);
+}
+
 /** @param {Run} run */
 export async function mergeJob(run) {
     const [name, ...more] = run.names;
@@ -67,10 +86,7 @@ export async function mergeJob(run) {
         const sound = `${repair.different[i]} of ${repair.sectors} sectors are sound in ${name} and in ${others[i].name}`;
         throw new Fault(`${sound}, and differ: one of them is patched, shifted or of another disc`);
     }
-    repair.parts.forEach(({ from, to }, i) => {
-        const part = { first: from + image.base, last: to + image.base - 1 };
-        if (to - from < image.sectors) run.say(`${others[i].name} has only ${blocksText([part])} of ${name}`);
-    });
+    repair.parts.forEach((part, i) => sayOtherRange(run, image, others[i], part, out.name));
     others.filter((_, i) => repair.tails[i]).forEach(other => run.say(`${TAILS} in ${other.name}; those of ${name} are kept`));
     const blocks = { first: image.base, last: image.base + image.sectors - 1 };
     const { holes, long } = holesOf(repair.others, blocks, mode1Tracks(disc, track.file, image.base));

@@ -7,7 +7,7 @@ import { blocksIn } from '../core/sectors/runs.js';
 import { kindRuns, listText } from '../core/sectors/survey.js';
 import { openDiscOf } from './opening.js';
 import { linesOfRuns, sayLong, visible } from './printed.js';
-import { foundInFiles } from './surveying.js';
+import { foundInFiles, unsurveyedTracks } from './surveying.js';
 
 /** @typedef {import('../core/disc/disc.js').Disc} Disc */
 /** @typedef {import('../core/disc/disc.js').DiscTrack} DiscTrack */
@@ -31,28 +31,40 @@ function trackText(disc, { number, type, file, block, sectors, part }) {
 }
 
 /**
+ * What is said of blocks that the image lacks of its volume.
+ * @param {import('../core/iso/volume_end.js').Lack} lack
+ */
+function lackText({ missing: { first, last }, blocks, file, isSure }) {
+    const what = `${first}-${last} not in the image`;
+    if (file !== '') return `${what}: ${file} goes on there`;
+    if (isSure) return `${what}: the volume has ${blocks} blocks, and the cue sheet no other track`;
+    return `${what}, though the volume says ${blocks} blocks: it is cut, or counts other tracks or a pause`;
+}
+
+/**
  * The lines of what is found in an image.
  * @param {Run} run
  * @param {FileFound['surveys'][0]} found
  * @returns {string[]}
  */
-function surveyLines(run, { image, survey, mode1, damaged, elsewhere, holes }) {
+function surveyLines(run, { image, survey, mode1, damaged, elsewhere, holes, lack }) {
     const list = new TextDecoder().decode(listText(run.calls, survey, image.tail).text).trimEnd();
     const lines = [`base ${image.base}`, ...list.split('\n'), `mode1 ${mode1} damaged ${damaged} address ${elsewhere}`];
     const mode2 = blocksIn([...kindRuns(survey)].filter(({ kind }) => kind === SECTOR_KIND.MODE2));
     if (mode2 > 0) lines.push(`mode2 ${mode2}: such sectors can not be audited or patched here; discs of the PlayStation have them`);
-    return [...lines, ...linesOfRuns(holes, ({ first, last }) => `${first}-${last} not mode1 in a track of mode1`)];
+    lines.push(...linesOfRuns(holes, ({ first, last }) => `${first}-${last} not mode1 in a track of mode1`));
+    return lack === null ? lines : [...lines, lackText(lack)];
 }
 
 /**
  * What is said of data that is not surveyed, and of a disc without data.
  * @param {Disc} disc
  */
-function unsurveyedLines({ tracks }) {
-    const others = tracks.filter(({ type, image }) => image === null && !['', 'AUDIO', 'CDG'].includes(type));
+function unsurveyedLines(disc) {
+    const others = unsurveyedTracks(disc);
     const sizes = others.map(({ number, type }) => `track ${number} has ${type.replace(/.*\//, '')} bytes a sector`);
     const lines = sizes.map(it => `${it}: it can not be audited or patched here`);
-    const hasData = others.length > 0 || tracks.some(({ image }) => image !== null);
+    const hasData = others.length > 0 || disc.tracks.some(({ image }) => image !== null);
     return hasData ? lines : ['no track has data: audio can not be audited or patched'];
 }
 
@@ -74,7 +86,7 @@ async function discLines(run) {
         return [surveys.length > 1 ? `track ${it.number} ${first}` : first, ...more];
     });
     surveys.forEach(({ long }) => sayLong(run, long));
-    const isWrong = surveys.some(it => it.damaged + it.elsewhere + it.holes.length > 0);
+    const isWrong = surveys.some(it => it.damaged + it.elsewhere + it.holes.length > 0 || (it.lack !== null && it.lack.isSure));
     const isMissing = disc.tracks.some(({ file }) => file < 0);
     return { found: isWrong || isMissing || surveys.length === 0, lines: [...files, ...tracks, ...lines, ...unsurveyedLines(disc)] };
 }

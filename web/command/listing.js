@@ -1,11 +1,11 @@
 // The job `replace --list`: the script of a table with the new texts of a disc.
 
 import { Fault } from '../core/faults.js';
-import { assertFits } from '../core/script/fitting.js';
+import { codesLeftOut } from '../core/texts/codes.js';
 import { encodingsOfRows, leftRowText, replaceList, rowsOfList } from '../core/texts/list.js';
 import { openTexts } from './looking.js';
 import { sayOfRuns } from './printed.js';
-import { writeScript } from './scripts.js';
+import { writeParts } from './scripts.js';
 import { encodingsOf } from './searching.js';
 
 /** @typedef {import('./run.js').Run} Run */
@@ -22,12 +22,11 @@ export async function replaceListJob(run, list) {
     const rows = await rowsOfList((await run.files.image(list)).reader, list);
     const { parts, left } = await replaceList(run.calls, part, rows, encodingsFor, fill);
     sayOfRuns(run, left, leftRowText);
+    const without = rows.map(row => ({ text: row, codes: codesLeftOut(row.text, row.fresh) })).filter(({ codes }) => codes.length > 0);
+    sayOfRuns(run, without, ({ text, codes }) => leftRowText({ text, why: `the new text leaves out ${codes.join(' ')}` }));
     if (left.length > 0 && !partial) {
         throw new Fault(`rows that do not fit: ${left.length}, so no script is written; --partial leaves them out`);
     }
-    if (parts.patches === 0) throw new Fault('no row fits, so no script is written');
-    const script = parts.script(run.calls);
-    await assertFits(run.calls, image, script);
-    await writeScript(run, target, script, image.base);
+    await writeParts(run, target, parts, image, 'no row fits');
     return Number(left.length > 0);
 }

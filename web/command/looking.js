@@ -118,13 +118,14 @@ export async function findJob(run) {
     const target = await run.target();
     const { files, why, ...opened } = await openTexts(run, run.names[0]);
     const { part } = opened;
-    const found = await hitsOf(run, opened, run.names[1], limit);
+    const found = await hitsOf(run, opened, run.names[1], Math.max(limit, 1));
+    const { count, hits } = found || { count: 0, hits: [] };
+    const printed = hits.slice(0, limit);
     if (found !== null) {
         why.forEach(text => run.say(text));
-        await writeHits(target, part, files, found.encoding, found.hits);
+        await writeHits(target, part, files, found.encoding, printed);
     }
-    const { count, hits } = found || { count: 0, hits: [] };
-    run.say(`hits ${count} printed ${hits.length}`);
+    run.say(`hits ${count} printed ${printed.length}`);
     return Number(count === 0);
 }
 

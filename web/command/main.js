@@ -107,5 +107,10 @@ export function start() {
     // Before a file is made, a signal ends the process by itself, even while that waits for who reads its output.
     /** @type {Files} */
     const files = new Files(STANDARD.input, () => endOnSignals(files));
+    // Node would end with status 0 if a job waited for what never comes.
+    process.once('beforeExit', () => {
+        files.removeUnfinished();
+        process.exit(failed(new Fault('internal error: the job has not ended')));
+    });
     main(process.argv.slice(2), STANDARD, files).catch(failed).then(status => process.exit(status));
 }

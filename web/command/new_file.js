@@ -2,7 +2,8 @@
 // file system has no links, it has its own, and is removed if anything fails.
 
 import { randomBytes } from 'node:crypto';
-import { closeSync, fstatSync, fsync, linkSync, lstatSync, openSync, unlinkSync, writeSync } from 'node:fs';
+import { closeSync, fchmodSync, fstatSync, fsync, fsyncSync, linkSync, lstatSync, openSync } from 'node:fs';
+import { realpathSync, renameSync, statSync, unlinkSync, writeSync } from 'node:fs';
 import { basename, dirname, join } from 'node:path';
 import { READ_SIZE, bytesOfPieces } from '../core/bytes.js';
 import { fileFault, hasCode, tryFile } from './failures.js';
@@ -43,12 +44,51 @@ function forget(place) {
     }
 }
 
+/** @param {string} name */
+function placeBeside(name) {
+    return join(dirname(name), `.cdscript-${randomBytes(8).toString('hex')}`);
+}
+
+/**
+ * Gives a file other bytes. Whatever happens, it has the old ones or the new ones, and a link leads to it as before.
+ * @param {string} name
+ * @param {Uint8Array} bytes
+ */
+export function replaceFile(name, bytes) {
+    const real = realpathSync(name);
+    const place = placeBeside(real);
+    const descriptor = openSync(place, 'wx');
+    try {
+        fchmodSync(descriptor, statSync(real).mode & 0o7777);
+        writeFully(descriptor, bytes);
+        syncFile(descriptor);
+        renameSync(place, real);
+    } catch (error) {
+        forget(place);
+        throw error;
+    } finally {
+        closeSync(descriptor);
+    }
+}
+
+/**
+ * Waits until the disk has a file. A file system that knows nothing of it (EINVAL) has none.
+ * @param {number} descriptor
+ */
+function syncFile(descriptor) {
+    try {
+        fsyncSync(descriptor);
+    } catch (error) {
+        if (!hasCode(error, 'EINVAL')) throw error;
+    }
+}
+
 /**
  * Opens a file that is named by another name beside its own until it is whole. Null if the file system has no links.
  * @param {string} name
  */
 function openedBeside(name) {
-    const place = join(dirname(name), `.cdscript-${randomBytes(8).toString('hex')}`);
+    const place = placeBeside(name);
     const descriptor = openSync(place, 'wx');
     try {
         linkSync(place, `${place}-`);

@@ -37,10 +37,12 @@ declare module 'node:crypto' {
 declare module 'node:fs' {
     export const constants: { O_RDONLY: number, O_NONBLOCK?: number };
     export function closeSync(descriptor: number): void;
+    export function fchmodSync(descriptor: number, mode: number): void;
     export function fstatSync(descriptor: number): { size: number, isFile(): boolean };
     export function fstatSync(descriptor: number, how: { bigint: true }): { dev: bigint, ino: bigint };
     export function ftruncateSync(descriptor: number, size: number): void;
     export function fsync(descriptor: number, done: (error: unknown, value: number) => void): void;
+    export function fsyncSync(descriptor: number): void;
     export function linkSync(name: string, other: string): void;
     export function lstatSync(name: string): unknown;
     export function lstatSync(name: string, how: { bigint: true }): { dev: bigint, ino: bigint };
@@ -51,7 +53,9 @@ declare module 'node:fs' {
     export function readFileSync(name: string): Uint8Array;
     export function readFileSync(name: string, encoding: 'latin1'): string;
     export function realpathSync(name: string): string;
-    export function statSync(name: string): { isFile(): boolean, isDirectory(): boolean };
+    export function renameSync(name: string, other: string): void;
+    export function statSync(name: string): { mode: number, isFile(): boolean, isDirectory(): boolean };
+    export function statSync(name: string, how: { bigint: true }): { dev: bigint, ino: bigint };
     export function readSync(descriptor: number, bytes: Uint8Array, at: number, length: number, place: number): number;
     export function readdirSync(name: string): string[];
     export function readdirSync(name: string, how: { withFileTypes: true }): { name: string, isFile(): boolean, isDirectory(): boolean,

@@ -1,10 +1,8 @@
 // The jobs that write scripts for a text or a file: `replace` and `replace-file`. The core has applied each before it is written.
 
 import { Fault } from '../core/faults.js';
-import { assertFits } from '../core/script/fitting.js';
 import { filledUp, replaceBytes } from '../core/script/replace_bytes.js';
 import { replaceFile } from '../core/script/replace_file.js';
-import { ScriptParts } from '../core/script/script_writer.js';
 import { leftText } from '../core/script/sector_lines.js';
 import { unitsAlike } from '../core/texts/alike.js';
 import { bytesAround, contextOf } from '../core/texts/context.js';
@@ -18,12 +16,11 @@ import { fileAtPath, openTexts } from './looking.js';
 import { placeGiven } from './numbers.js';
 import { openTrack } from './opening.js';
 import { sayOfRuns } from './printed.js';
-import { writeScript } from './scripts.js';
+import { writeParts, writeScript } from './scripts.js';
 import { encodingsOf, hitsOf } from './searching.js';
 
 /** @typedef {import('../core/disc/disc.js').DiscImage} DiscImage */
 /** @typedef {import('../core/script/replace_bytes.js').Place} Place */
-/** @typedef {import('../core/script/script_writer.js').Script} Script */
 /** @typedef {import('../core/texts/encoding.js').Encoding} Encoding */
 /** @typedef {import('../core/texts/find.js').Hit} Hit */
 /** @typedef {import('./run.js').Run} Run */
@@ -89,7 +86,7 @@ async function wantedPlaces(run, opened, text) {
  */
 async function assertBegins(image, encoding, hit) {
     const { doubt } = await contextOf(image, encoding, hit, 0);
-    if (doubt !== '') throw new Fault(`${leftHitText({ hit, why: doubt })}: --inside replaces it all the same`);
+    if (doubt !== '') throw new Fault(`${leftHitText({ text: hit, why: doubt })}: --inside replaces it all the same`);
 }
 
 /**
@@ -114,28 +111,22 @@ function freshBytes(run, { encoding, hits }, text) {
 }
 
 /**
- * The script that replaces a text at places, which has been applied, and how many are left out. They are named; the only one is a Fault.
+ * Writes the script that replaces a text at places, and returns how many are left out. They are named; the only one is a Fault.
  * @param {Run} run
+ * @param {import('./run.js').Target} target
  * @param {DiscImage} image
  * @param {Places} places
  * @param {string} text
  */
-async function replacedScript(run, image, places, text) {
+async function writeReplaced(run, target, image, places, text) {
     const { encoding, hits, inside } = places;
     const known = freshBytes(run, places, text);
-    const parts = new ScriptParts();
-    const left = [];
     const freshFor = (/** @type {number} */ size) => /** @type {Uint8Array} */ (known.get(size));
-    for await (const made of replacedHits(run.calls, places.image, encoding, hits, freshFor, { inside })) {
-        if (made.lines === null) left.push(made);
-        else parts.push(made.lines);
-    }
+    const { parts, left } = await replacedHits(run.calls, places.image, encoding, hits, freshFor, { inside });
     if (left.length === 1 && hits.length === 1) throw new Fault(left[0].why);
     sayOfRuns(run, left, leftHitText);
-    if (parts.patches === 0) throw new Fault('no place is left, so no script is written');
-    const script = parts.script(run.calls);
-    await assertFits(run.calls, image, script);
-    return { script, left: left.length };
+    await writeParts(run, target, parts, image, 'no place is left');
+    return left.length;
 }
 
 /** @param {Run} run */
@@ -152,11 +143,9 @@ export async function replaceJob(run) {
     if (given !== null) {
         const [hit] = places.hits;
         const { doubt } = await contextOf(image, places.encoding, hit, 0);
-        if (doubt !== '') run.say(leftHitText({ hit, why: doubt }));
+        if (doubt !== '') run.say(leftHitText({ text: hit, why: doubt }));
     }
-    const { script, left } = await replacedScript(run, image, places, after);
-    await writeScript(run, target, script, image.base);
-    return Number(left > 0);
+    return Number(await writeReplaced(run, target, image, places, after) > 0);
 }
 
 /** @param {Run} run */

@@ -15,7 +15,7 @@ import { Threads } from './threads.js';
 /** @typedef {import('./files.js').Files} Files */
 /** @typedef {import('./stdout.js').Messages} Messages */
 /** @typedef {{ input: number, output: number, errors: number }} Streams the descriptors of the standard streams */
-/** @typedef {{ write(bytes: Uint8Array): Promise<void> }} Target what a script or a list is written to */
+/** @typedef {{ descriptor: number, write(bytes: Uint8Array): Promise<void> }} Target what a script or a list is written to */
 
 /** @type {WebAssembly.Module | null} */
 let compiled = null;

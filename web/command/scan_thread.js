@@ -10,44 +10,90 @@ import { kindRuns } from '../core/sectors/survey.js';
 import { Files } from './files.js';
 import { openDiscOf } from './opening.js';
 import { Run, takeModule } from './run.js';
-import { foundInFiles } from './surveying.js';
+import { NONE } from './scan_list.js';
+import { foundInFiles, sha1Of, unsurveyedTracks } from './surveying.js';
 
+/** @typedef {import('../core/disc/disc.js').Disc} Disc */
+/** @typedef {import('../core/disc/disc.js').DiscFile} DiscFile */
 /** @typedef {import('./surveying.js').FileFound} FileFound */
-/** @typedef {{ name: string, size: number, sha1: string, kinds: string, damaged: number, findings: number, elsewhere: number }} Scanned */
 /**
- * What is found in the files of an image or a sheet; names that are not there; and why nothing is, '' if something is. With `isOther`
- * the file is none that a disc is of.
- * @typedef {{ files: Scanned[], missing: string[], fault: string, isOther: boolean }} Answer
+ * A file with what is found in it. Without Mode 1 no sector was tested.
+ * @typedef {{ name: string, size: number, sha1: string, kinds: string, mode1: number, damaged: number, findings: number,
+ *     elsewhere: number }} Scanned
+ */
+/**
+ * What is found in the files of an image or a sheet; names that are not there; why nothing is found, '' if something is; and what the
+ * file is if it is none that a disc is of, else ''.
+ * @typedef {{ files: Scanned[], missing: string[], fault: string, other: string }} Answer
  */
 
 /** Who says and shows nothing. */
 const SILENT = /** @type {import('./stdout.js').Messages} */ (/** @type {unknown} */ ({ say() {}, progress() {}, hideProgress() {} }));
 
 /**
- * How many sectors of which kind there are, as 'mode1 20,nosync 3', and how many bytes after the last whole one, as ',tail 100'.
+ * How many sectors of which kind there are, as 'mode1 20,nosync 3', how many bytes after the last whole one, as ',tail 100', and how many
+ * blocks the volume says beyond the image's end, as ',short 100'.
  * @param {FileFound['surveys']} surveys
+ * @param {string[]} unsurveyed what there is if nothing was surveyed
  * @param {number} tail
  */
-function kindsText(surveys, tail) {
+function kindsText(surveys, unsurveyed, tail) {
     /** @type {Map<number, number>} */
     const counts = new Map();
     for (const { survey } of surveys) {
         for (const { first, last, kind } of kindRuns(survey)) counts.set(kind, (counts.get(kind) || 0) + last - first + 1);
     }
     const kinds = [...counts].sort(([a], [b]) => b - a).map(([kind, count]) => `${kindName(kind)} ${count}`);
-    return [...kinds.length > 0 ? kinds : ['audio'], ...tail > 0 ? [`tail ${tail}`] : []].join(',');
+    const short = blocksIn(surveys.flatMap(({ lack }) => lack ? [lack.missing] : []));
+    const cut = [...tail > 0 ? [`tail ${tail}`] : [], ...short > 0 ? [`short ${short}`] : []];
+    return [...kinds.length > 0 ? kinds : unsurveyed, ...cut].join(',');
 }
 
 /**
+ * Whether all sectors of a file have 2352 bytes. Only then bytes after the last whole one are a tail.
+ * @param {Disc} disc
+ * @param {number} file
+ */
+function isOfSectors({ tracks }, file) {
+    return tracks.every(it => it.file !== file || (it.sectors !== null && /^(AUDIO)?$|\/2352$/.test(it.type)));
+}
+
+/**
+ * @param {Disc} disc
  * @param {FileFound} found
+ * @param {number} file
  * @returns {Scanned}
  */
-function scanned({ file: { name, reader }, sha1, surveys }) {
+function scanned(disc, { file: { name, reader }, sha1, surveys }, file) {
     const sum = (/** @type {(it: FileFound['surveys'][0]) => number} */ of) => surveys.reduce((all, it) => all + of(it), 0);
-    const [damaged, elsewhere] = [sum(it => it.damaged), sum(it => it.elsewhere)];
-    const tail = reader.size % SECTOR_SIZE;
-    const findings = damaged + elsewhere + sum(it => blocksIn(it.holes)) + Number(tail > 0);
-    return { name, size: reader.size, sha1, kinds: kindsText(surveys, tail), damaged, findings, elsewhere };
+    const [mode1, damaged, elsewhere] = [sum(it => it.mode1), sum(it => it.damaged), sum(it => it.elsewhere)];
+    const tail = isOfSectors(disc, file) ? reader.size % SECTOR_SIZE : 0;
+    const cut = Number(tail > 0) + sum(it => Number(it.lack !== null && it.lack.isSure));
+    const findings = damaged + elsewhere + sum(it => blocksIn(it.holes)) + cut;
+    const kinds = kindsText(surveys, unsurveyedKinds(disc, file), tail);
+    return { name, size: reader.size, sha1, kinds, mode1, damaged, findings, elsewhere };
+}
+
+/**
+ * What the tracks of a file are that are not surveyed, as 'mode1/2048' or 'audio'.
+ * @param {Disc} disc
+ * @param {number} file
+ */
+function unsurveyedKinds(disc, file) {
+    const types = unsurveyedTracks(disc).filter(it => it.file === file).map(it => it.type.toLowerCase());
+    return types.length > 0 ? [...new Set(types)] : ['audio'];
+}
+
+/**
+ * What is found in a file that no disc is of.
+ * @param {DiscFile} file
+ * @param {string} what it is
+ * @returns {Promise<Answer>}
+ */
+async function otherFile({ name, reader }, what) {
+    const sha1 = await sha1Of(reader);
+    const file = { name, size: reader.size, sha1, kinds: `${NONE}${what}`, mode1: 0, damaged: 0, findings: 0, elsewhere: 0 };
+    return { files: [file], missing: [], fault: '', other: what };
 }
 
 /**
@@ -60,16 +106,18 @@ export async function scanOne(name) {
     const run = new Run({ job: 'scan', names: [name], options: {} }, { input: 0, output: 1, errors: 2 }, files, SILENT);
     run.crew.isAlone = true;
     try {
-        const { kind, what } = await natureOf(run.calls, (await files.image(name)).reader);
-        if (kind !== 'raw' && kind !== 'cue') return { files: [], missing: [], fault: `${name} is ${what}`, isOther: true };
+        const opened = await files.image(name);
+        const { kind, what } = await natureOf(run.calls, opened.reader);
+        if (kind !== 'raw' && kind !== 'audio' && kind !== 'cue') return await otherFile(opened, what);
         const disc = await openDiscOf(run, name);
         const gone = disc.tracks.filter(({ file }) => file < 0);
         const missing = gone.map(({ number }) => `track ${number} of ${name} is in a file that is not there`);
-        return { files: (await foundInFiles(run, disc)).map(scanned), missing, fault: '', isOther: false };
+        const found = await foundInFiles(run, disc);
+        return { files: found.map((it, i) => scanned(disc, it, i)), missing, fault: '', other: '' };
     } catch (error) {
         if (!(error instanceof Fault)) throw error;
         const fault = error.facts.file === name ? error.message : `${name}: ${error.message}`;
-        return { files: [], missing: [], fault, isOther: false };
+        return { files: [], missing: [], fault, other: '' };
     } finally {
         files.close();
     }
@@ -84,7 +132,7 @@ export function serveScan(module) {
     takeModule(module);
     const port = parentPort;
     port.on('message', name => {
-        scanOne(name).catch(error => ({ files: [], missing: [], fault: `${name}: ${error}`, isOther: false }))
+        scanOne(name).catch(error => ({ files: [], missing: [], fault: `${name}: ${error}`, other: '' }))
             .then(answer => port.postMessage(answer, []));
     });
 }

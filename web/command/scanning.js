@@ -1,6 +1,6 @@
 // The job `scan`: what is in each image of a collection, a line for each as it is done.
 
-import { readFileSync, readdirSync, realpathSync, statSync } from 'node:fs';
+import { fstatSync, readFileSync, readdirSync, realpathSync, statSync } from 'node:fs';
 import { cpus } from 'node:os';
 import { basename, dirname, join } from 'node:path';
 import { bytesOfLines } from '../core/bytes.js';
@@ -9,26 +9,30 @@ import { Fault } from '../core/faults.js';
 import { textOfFile } from '../core/texts/encodings.js';
 import { reasonOf } from './failures.js';
 import { compiledModule } from './run.js';
-import { listedName, resumedList } from './scan_list.js';
+import { listedLine, listedName, resumedList } from './scan_list.js';
 import { scanOne } from './scan_thread.js';
 import { begunThread } from './threads.js';
 
 /** @typedef {import('../core/disc/dat.js').KnownDumps} KnownDumps */
 /** @typedef {import('./run.js').Run} Run */
 /** @typedef {import('./run.js').Target} Target */
+/** @typedef {import('./scan_list.js').ResumedList} ResumedList */
 /** @typedef {import('./scan_thread.js').Answer} Answer */
-/** @typedef {import('./scan_thread.js').Scanned} Scanned */
 /** @typedef {{ scan(name: string): Promise<Answer>, close(): void }} Scanner */
-
-/** What stands in the last column if no DAT was given, and if none of its dumps is the file. */
-const NO_DAT = '-';
-const NOT_IN_DAT = 'not in the DAT';
 
 /** What is looked at, each once: by the paths that were given, directories and all below them in the order of their names. */
 class Collection {
-    /** @param {(text: string) => void} fault */
-    constructor(fault) {
+    /**
+     * @param {(text: string) => void} fault
+     * @param {Target} target which is no part of it, wherever it is
+     */
+    constructor(fault, { descriptor }) {
         this.fault = fault;
+        const { dev, ino } = fstatSync(descriptor, { bigint: true });
+        this.isTarget = (/** @type {string} */ name) => {
+            const found = statSync(name, { bigint: true });
+            return found.dev === dev && found.ino === ino;
+        };
         /** @type {Map<string, { name: string, isNamed: boolean }>} by the real path */
         this.found = new Map();
     }
@@ -55,7 +59,7 @@ class Collection {
      */
     addFile(name, isNamed) {
         const real = realpathSync(name);
-        if (!this.found.has(real)) this.found.set(real, { name, isNamed });
+        if (!this.isTarget(real) && !this.found.has(real)) this.found.set(real, { name, isNamed });
     }
 
     /**
@@ -77,20 +81,27 @@ class Collection {
     }
 }
 
-/** @returns {Scanner} a thread that looks into images; without threads this one does */
+/** @returns {Scanner} a thread that looks into images; without threads this one does, and after a thread has failed */
 function newScanner() {
     const thread = begunThread({ module: compiledModule(), scans: true });
+    let isGone = false;
     /** @type {(answer: Answer) => void} */
     let settle = () => {};
-    const failed = (/** @type {unknown} */ error) =>
-        settle({ files: [], missing: [], fault: `internal error: ${error}`, isOther: false });
-    if (thread) thread.worker.on('message', answer => settle(answer));
-    if (thread) thread.worker.on('error', failed);
+    /** @type {(error: unknown) => void} */
+    let fail = () => {};
+    if (thread) {
+        thread.worker.on('message', answer => settle(answer));
+        thread.worker.on('error', error => {
+            isGone = true;
+            fail(error);
+        });
+    }
     return {
         async scan(name) {
-            if (thread === null || !await thread.begun) return scanOne(name);
+            if (thread === null || !await thread.begun || isGone) return scanOne(name);
             return new Promise(resolve => {
                 settle = resolve;
+                fail = error => resolve({ files: [], missing: [], fault: `${name}: ${error}`, other: '' });
                 thread.worker.postMessage(name, []);
             });
         },
@@ -111,7 +122,7 @@ class Scan {
         this.target = target;
         this.known = known;
         this.done = done;
-        /** @type {string[]} files in directories that are no raw images */
+        /** @type {{ name: string, what: string }[]} files in directories that no disc is of */
         this.others = [];
         this.status = 0;
         /** The real paths of files that were told. */
@@ -128,22 +139,27 @@ class Scan {
      * @param {{ name: string, isNamed: boolean }} wanted
      * @param {Answer} answer
      */
-    async tell(wanted, { files, missing, fault, isOther }) {
-        if (isOther && !wanted.isNamed) this.others.push(wanted.name);
-        else if (fault !== '') this.fault(fault);
+    async tell({ name: wanted, isNamed }, { files, missing, fault, other }) {
+        if (other !== '') this.tellOther(wanted, isNamed, other);
+        if (fault !== '') this.fault(fault);
         missing.forEach(text => this.fault(text));
         const fresh = files.filter(({ name }) => !this.told.has(realName(name)));
         fresh.forEach(({ name }) => this.told.add(realName(name)));
-        const lines = fresh.filter(({ name }) => !this.done.has(listedName(name))).map(it => this.line(it));
+        const lines = fresh.filter(({ name }) => !this.done.has(listedName(name))).map(it => listedLine(it, this.known));
         if (fresh.some(({ findings }) => findings > 0)) this.status = Math.max(this.status, 1);
         if (lines.length > 0) await this.target.write(bytesOfLines(lines));
         this.run.output.flush();
     }
 
-    /** @param {Scanned} file */
-    line({ name, kinds, damaged, findings, elsewhere, size, sha1 }) {
-        const said = this.known === null ? NO_DAT : this.known.said(size, sha1) || NOT_IN_DAT;
-        return [listedName(name), kinds, damaged, findings, elsewhere, sha1, listedName(said)].join('\t');
+    /**
+     * Says of a file that no disc is of what it is: at once if it was given by its name, or else at the end.
+     * @param {string} name
+     * @param {boolean} isNamed
+     * @param {string} what
+     */
+    tellOther(name, isNamed, what) {
+        if (isNamed) this.fault(`${name} is ${what}`);
+        else this.others.push({ name, what });
     }
 
     /**
@@ -196,15 +212,18 @@ function realName(name) {
 export async function scanJob(run) {
     const known = await run.knownDumps();
     const list = await resumedList(run);
-    const scan = new Scan(run, list || await run.target(), known, list ? list.done : new Set());
-    if (list && list.hasFindings) scan.status = 1;
-    const collection = new Collection(text => scan.fault(text));
+    const scan = new Scan(run, list || await run.target(), known, list ? list.done() : new Set());
+    if (list && list.hasFindings()) scan.status = 1;
+    const collection = new Collection(text => scan.fault(text), scan.target);
     run.names.forEach(path => collection.add(path));
     const names = collection.names();
     const sheets = names.filter(({ name }) => isSheetName(name));
+    const scanners = Array.from({ length: Math.min(cpus().length || 1, names.length) }, newScanner);
     try {
-        for (const some of [sheets, names.slice(sheets.length)]) await scanAll(scan, some);
+        if (list) await goOn(scan, list, names);
+        for (const some of [sheets, names.slice(sheets.length)]) await scanAll(scan, some, scanners);
     } finally {
+        scanners.forEach(scanner => scanner.close());
         if (list) list.close();
     }
     sayOthers(run, scan.others);
@@ -212,30 +231,45 @@ export async function scanJob(run) {
 }
 
 /**
- * Says how many files are no raw images, and names those that are called like one: an empty or a damaged one is among them.
- * @param {Run} run
- * @param {string[]} names
+ * What a list says is said as by a run that was not interrupted: what its DAT knows of each line, and what the files are that were given
+ * by their names and are no images.
+ * @param {Scan} scan
+ * @param {ResumedList} list
+ * @param {{ name: string, isNamed: boolean }[]} names
  */
-function sayOthers(run, names) {
-    if (names.length === 0) return;
-    run.say(`files that are no raw images: ${names.length}`);
-    for (const name of names.filter(it => /\.(bin|img)$/i.test(it)).sort()) run.say(`${name} is called like a raw image, and is none`);
+async function goOn(scan, list, names) {
+    const changed = scan.known === null ? 0 : await list.lookUp(scan.known);
+    if (changed > 0) scan.run.say(`${list.name}: its last column now says what the DAT knows, lines that changed: ${changed}`);
+    const others = list.others();
+    for (const { name } of names.filter(it => it.isNamed)) {
+        const what = others.get(listedName(name));
+        if (what !== undefined) scan.tellOther(name, true, what);
+    }
+}
+
+/**
+ * Says how many files are no raw images, and what those are that are called like one: an empty or a damaged one is among them.
+ * @param {Run} run
+ * @param {{ name: string, what: string }[]} others
+ */
+function sayOthers(run, others) {
+    if (others.length === 0) return;
+    run.say(`files that are no raw images: ${others.length}`);
+    const alike = others.filter(({ name }) => /\.(bin|img)$/i.test(name));
+    const lines = alike.map(({ name, what }) => `${name} is called like a raw image, and is ${what}`);
+    for (const line of lines.sort()) run.say(line);
 }
 
 /**
  * @param {Scan} scan
  * @param {{ name: string, isNamed: boolean }[]} names
+ * @param {Scanner[]} scanners
  */
-async function scanAll(scan, names) {
+async function scanAll(scan, names, scanners) {
     const left = names.values();
-    const scanners = Array.from({ length: Math.min(cpus().length || 1, names.length) }, newScanner);
-    try {
-        await Promise.all(scanners.map(async scanner => {
-            for (const wanted of left) {
-                if (!scan.isTold(wanted.name) && !scan.isSheetTold(wanted.name)) await scan.tell(wanted, await scanner.scan(wanted.name));
-            }
-        }));
-    } finally {
-        scanners.forEach(scanner => scanner.close());
-    }
+    await Promise.all(scanners.map(async scanner => {
+        for (const wanted of left) {
+            if (!scan.isTold(wanted.name) && !scan.isSheetTold(wanted.name)) await scan.tell(wanted, await scanner.scan(wanted.name));
+        }
+    }));
 }

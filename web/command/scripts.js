@@ -5,8 +5,8 @@ import { Fault } from '../core/faults.js';
 import { compareImages } from '../core/images/compare.js';
 import { MOST_SCRIPT_BYTES, RECORD_SIZE } from '../core/module/records.js';
 import { baseComment } from '../core/script/base_said.js';
+import { assertFits } from '../core/script/fitting.js';
 import { LineList } from '../core/script/line_list.js';
-import { afterColon } from '../core/script/line_words.js';
 import { Refusal } from '../core/script/script.js';
 import { ScriptParts } from '../core/script/script_writer.js';
 import { leftText } from '../core/script/sector_lines.js';
@@ -18,6 +18,7 @@ import { NewFile } from './new_file.js';
 import { openDiscOf, openTrack } from './opening.js';
 import { sayOfRuns } from './printed.js';
 
+/** @typedef {import('../core/disc/disc.js').DiscImage} DiscImage */
 /** @typedef {import('../core/images/compare.js').Comparison} Comparison */
 /** @typedef {import('../core/script/script_writer.js').Script} Script */
 /** @typedef {import('./run.js').Run} Run */
@@ -42,6 +43,21 @@ export async function writeScript(run, target, script, base) {
     const [head, ...pieces] = script.pieces;
     for (const piece of [head, new TextEncoder().encode(commentOf(base)), ...pieces]) await target.write(piece);
     sayOfScript(run, script, base);
+}
+
+/**
+ * Writes the script of parts, which fits the image.
+ * @param {Run} run
+ * @param {Target} target
+ * @param {ScriptParts} parts
+ * @param {DiscImage} image
+ * @param {string} none what is said if there are no lines
+ */
+export async function writeParts(run, target, parts, image, none) {
+    if (parts.patches === 0) throw new Fault(`${none}, so no script is written`);
+    const script = parts.script(run.calls);
+    await assertFits(run.calls, image, script);
+    await writeScript(run, target, script, image.base);
 }
 
 /**
@@ -140,7 +156,7 @@ export async function undoJob(run) {
     const script = run.files.piecesOf(run.names[1]);
     const crew = run.crew.crew(image.sectors, UNDOING_THREADS);
     const made = await undoScript(run.calls, run.watched(image.reader), script, { base: image.base, carry, long, crew });
-    if (made instanceof Refusal) throw new Fault(afterColon(new TextDecoder().decode(made.text).trim()));
+    if (made instanceof Refusal) throw new Fault(new TextDecoder().decode(made.text).trim().replace(/^cdpatch: /, ''));
     const refused = made.patched.outcomes.filter(({ result }) => result !== 0).length;
     const why = `${refused === 1 ? '1 patch is' : `${refused} patches are`} refused on ${image.name}: is it the image before the script?`;
     if (refused > 0 && made.script.patches === 0 && made.left.length === 0) throw new Fault(why);

@@ -2,6 +2,7 @@
 
 import { createHash } from 'node:crypto';
 import { readBytes } from '../core/bytes.js';
+import { lackOf } from '../core/iso/volume_end.js';
 import { MODE1, holesOf, mode1Tracks, otherRuns } from '../core/sectors/holes.js';
 import { sectorCount } from '../core/sectors/sector.js';
 import { surveyCounts } from '../core/sectors/survey.js';
@@ -12,15 +13,25 @@ import { turn } from './pausing.js';
 /** @typedef {import('../core/disc/disc.js').Disc} Disc */
 /** @typedef {import('../core/disc/disc.js').DiscFile} DiscFile */
 /** @typedef {import('../core/disc/disc.js').DiscImage} DiscImage */
+/** @typedef {import('../core/iso/volume_end.js').Lack} Lack */
 /** @typedef {import('../core/sectors/runs.js').Run} BlockRun */
 /** @typedef {import('../core/sectors/survey.js').Survey} Survey */
 /** @typedef {import('./run.js').Run} Run */
 /**
- * A track; whether `image` is all of its file; and the tracks that a sheet says are Mode 1 in it.
- * @typedef {{ number: number, file: number, image: DiscImage, isWhole: boolean, mode1Tracks: BlockRun[] | null }} Surveyed
+ * A track, which is `part` of `image`; whether that is all of its file; and the tracks that a sheet says are Mode 1 in it.
+ * @typedef {{ number: number, file: number, image: DiscImage, part: DiscImage, isWhole: boolean,
+ *     mode1Tracks: BlockRun[] | null }} Surveyed
  */
-/** @typedef {ReturnType<typeof surveyCounts> & { survey: Survey, holes: BlockRun[], long: BlockRun[] }} Counted */
+/** @typedef {ReturnType<typeof surveyCounts> & { survey: Survey, holes: BlockRun[], long: BlockRun[], lack: Lack | null }} Counted */
 /** @typedef {{ file: DiscFile, sha1: string, surveys: (Surveyed & Counted)[] }} FileFound a file of a disc, and what is found in it */
+
+/**
+ * The tracks of data that are not surveyed: their sectors have another size.
+ * @param {Disc} disc
+ */
+export function unsurveyedTracks({ tracks }) {
+    return tracks.filter(({ type, image }) => image === null && !['', 'AUDIO', 'CDG'].includes(type));
+}
 
 /** Bytes that are hashed at a time: threads have work for longer. */
 const HASH_STEP = 1 << 20;
@@ -54,17 +65,24 @@ function hashing(reader) {
     };
 }
 
+/** @param {Reader} reader */
+export function sha1Of(reader) {
+    return hashing(reader).digest();
+}
+
 /**
  * What is found in an image.
  * @param {Run} run
+ * @param {Disc} disc
  * @param {Surveyed} surveyed
  * @param {Reader} reader of the image
  * @returns {Promise<Counted>}
  */
-async function countedSurvey(run, { image, mode1Tracks: tracks }, reader) {
+async function countedSurvey(run, { sheet, tracks: all }, { image, part, mode1Tracks: tracks }, reader) {
     const survey = await run.survey(reader, image.base);
     const blocks = { first: image.base, last: image.base + image.sectors - 1 };
-    return { survey, ...surveyCounts(survey), ...holesOf(otherRuns(survey), blocks, tracks) };
+    const lack = await lackOf(image, part, sheet !== null && all.length === 1);
+    return { survey, ...surveyCounts(survey), ...holesOf(otherRuns(survey), blocks, tracks), lack };
 }
 
 /**
@@ -79,8 +97,9 @@ async function surveyedTracks(run, disc) {
     const { track: number, base } = run.options;
     if (tracks.length < 2 || number !== undefined || base !== undefined) {
         if (tracks.length === 0) return [];
-        const { track, image } = await openTrack(run, run.names[0], true);
-        return [{ number: track.number, file: track.file, image, isWhole: true, mode1Tracks: mode1Tracks(disc, track.file, image.base) }];
+        const { track, image, part } = await openTrack(run, run.names[0], true);
+        const ofSheet = mode1Tracks(disc, track.file, image.base);
+        return [{ number: track.number, file: track.file, image, part, isWhole: true, mode1Tracks: ofSheet }];
     }
     const surveyed = tracks.flatMap(({ number: own, file, type, image, part }, i) => {
         if (image === null || part === null) return [];
@@ -89,7 +108,7 @@ async function surveyedTracks(run, disc) {
         const own1 = type === MODE1 ? [{ first: part.base, last: part.base + part.sectors - 1 }] : [];
         const own2 = isWhole ? mode1Tracks(disc, file, image.base) : own1;
         const isLater = isWhole && tracks.findIndex(it => it.file === file) < i;
-        return isLater ? [] : [{ number: own, file, image: isWhole ? image : part, isWhole, mode1Tracks: own2 }];
+        return isLater ? [] : [{ number: own, file, image: isWhole ? image : part, part, isWhole, mode1Tracks: own2 }];
     });
     surveyed.forEach(({ image }) => sayUnknownBase(run, image));
     return surveyed;
@@ -120,7 +139,10 @@ export async function foundInFiles(run, disc) {
         const beside = isBeside ? hashed.digest() : null;
         if (beside !== null) beside.catch(() => {}); // it is thrown when its turn comes
         const surveys = [];
-        for (const it of own) surveys.push({ ...it, ...await countedSurvey(run, it, it.isWhole && !isBeside ? hashed : it.image.reader) });
+        for (const it of own) {
+            const reader = it.isWhole && !isBeside ? hashed : it.image.reader;
+            surveys.push({ ...it, ...await countedSurvey(run, disc, it, reader) });
+        }
         found.push({ file, sha1: await (beside || hashed.digest()), surveys });
     }
     return found;

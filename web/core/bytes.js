@@ -123,6 +123,21 @@ export function sameBytes(a, b) {
 }
 
 /**
+ * The first of ascending numbers that is greater than another one.
+ * @param {number[]} numbers
+ * @param {number} number
+ */
+export function firstAfter(numbers, number) {
+    let [low, high] = [0, numbers.length];
+    while (low < high) {
+        const middle = (low + high) >> 1;
+        if (numbers[middle] > number) high = middle;
+        else low = middle + 1;
+    }
+    return low;
+}
+
+/**
  * All bytes of a reader.
  * @param {Reader} reader
  */

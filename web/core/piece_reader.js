@@ -1,6 +1,6 @@
 // An image that is only in pieces yet, read as if it were a file.
 
-import { extentOf, forwardOf, pieceWithin, readInto } from './bytes.js';
+import { extentOf, firstAfter, forwardOf, pieceWithin, readInto } from './bytes.js';
 import { newBytes } from './faults.js';
 
 /** @typedef {import('./bytes.js').Reader} Reader */
@@ -33,19 +33,4 @@ export function pieceReader(reader, pieces) {
         },
         forward: () => pieceReader(forwardOf(reader), pieces),
     };
-}
-
-/**
- * The first of ascending numbers that is greater than another one.
- * @param {number[]} numbers
- * @param {number} number
- */
-function firstAfter(numbers, number) {
-    let [low, high] = [0, numbers.length];
-    while (low < high) {
-        const middle = (low + high) >> 1;
-        if (numbers[middle] > number) high = middle;
-        else low = middle + 1;
-    }
-    return low;
 }

@@ -139,11 +139,18 @@ function dumpKey(size, sha1) {
     return `${sha1}${size}`;
 }
 
+/** @param {Dump} dump */
+function saidOf({ name, isBad }) {
+    return `${isBad ? 'known as a bad dump:' : 'verified'} ${name}`;
+}
+
 /** The dumps that DATs list. */
 export class KnownDumps {
     constructor() {
         /** @type {Map<string, Dump>} */
         this.dumps = new Map();
+        /** @type {Map<string, Dump> | null} by their SHA-1, once somebody asks for it */
+        this.bySha1 = null;
     }
 
     /**
@@ -153,6 +160,7 @@ export class KnownDumps {
     async add(pieces) {
         const decoder = new TextDecoder();
         const reading = new DatReading(this.dumps);
+        this.bySha1 = null;
         for await (const piece of pieces) reading.push(decoder.decode(piece, { stream: true }));
         reading.push(decoder.decode());
         reading.end();
@@ -174,8 +182,17 @@ export class KnownDumps {
      */
     said(size, sha1) {
         const dump = this.find(size, sha1);
-        if (!dump) return null;
-        return `${dump.isBad ? 'known as a bad dump:' : 'verified'} ${dump.name}`;
+        return dump && saidOf(dump);
+    }
+
+    /**
+     * The same of a file whose size is not at hand.
+     * @param {string} sha1 in small letters
+     */
+    saidOfSha1(sha1) {
+        if (this.bySha1 === null) this.bySha1 = new Map([...this.dumps].reverse().map(([key, dump]) => [key.slice(0, sha1.length), dump]));
+        const dump = this.bySha1.get(sha1);
+        return dump ? saidOf(dump) : null;
     }
 
     /**

@@ -14,6 +14,9 @@ const SUBCHANNEL_SIZE = 2448;
 const VOLUME_MARK = 16 * USER_SIZE + 1;
 const LARGEST_SHEET = 1 << 17;
 const SAMPLED_PAIRS = 32;
+/** Of a file with a sample in so many bytes, so many are read at once: each read takes its time, however little it reads. */
+const NEAR = 1 << 16;
+const SAMPLED_AT_ONCE = 1 << 18;
 
 /** @type {Record<FileKind, [string, string]>} what it is, and what to do with it */
 const NATURES = {
@@ -106,9 +109,16 @@ export async function* sampledSectors(reader, size, together, most) {
     const sectors = Math.floor(reader.size / size);
     const groups = Math.ceil(sectors / together);
     const taken = Math.min(groups, most);
+    const [least, end] = [reader.size <= NEAR * taken ? SAMPLED_AT_ONCE : 0, sectors * size];
+    let [read, from] = [new Uint8Array(0), 0];
     for (let i = 0; i < taken; i++) {
         const first = together * Math.floor(groups * i / taken);
-        const bytes = await readBytes(reader, first * size, Math.min(together, sectors - first) * size);
+        const [begin, next] = [first * size, Math.min(first + together, sectors) * size];
+        if (next > from + read.length) {
+            read = await readBytes(reader, begin, Math.max(Math.min(least, end - begin), next - begin));
+            from = begin;
+        }
+        const bytes = read.subarray(begin - from, next - from);
         for (let at = 0; at < bytes.length; at += size) yield { number: first + at / size, sector: bytes.subarray(at, at + SECTOR_SIZE) };
     }
 }

@@ -36,6 +36,20 @@ export function commonPart(old, other) {
 }
 
 /**
+ * The blocks that another image has before and after those of an image.
+ * @param {DiscImage} old
+ * @param {DiscImage} other
+ * @returns {Run[]}
+ */
+export function blocksBeyond(old, other) {
+    const { later } = commonPart(old, other);
+    const [first, end] = [old.base + later, old.base + old.sectors];
+    const before = { first, last: old.base - 1 };
+    const after = { first: end, last: first + other.sectors - 1 };
+    return [before, after].filter(it => it.first <= it.last);
+}
+
+/**
  * Whether two images have the same blocks, and as many bytes.
  * @param {DiscImage} old
  * @param {DiscImage} other

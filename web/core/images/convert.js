@@ -45,7 +45,7 @@ export async function passUser(crew, reader, size, how, take) {
     let left = size;
     await crew.share('user', [reader], {}, how, async answer => {
         for (const it of answer.others) addToRuns(others, it);
-        const user = answer.user.subarray(0, left);
+        const user = answer.user.subarray(0, Math.max(left, 0));
         left -= answer.user.length;
         await take(user);
     });

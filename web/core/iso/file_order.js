@@ -1,5 +1,6 @@
 // The order in which the files of a track have its sectors: the extents of a file may lie apart.
 
+import { firstAfter } from '../bytes.js';
 import { SECTOR_SIZE, USER_SIZE } from '../sectors/sector.js';
 
 /** @typedef {import('../bytes.js').Reader} Reader */
@@ -8,20 +9,14 @@ import { SECTOR_SIZE, USER_SIZE } from '../sectors/sector.js';
 /** @typedef {{ from: number, count: number }} Sectors some of a track, by their places in it */
 
 /**
- * The last of several that has at most a value.
+ * The last of several runs that begins at a place or before it; the first one if none does.
  * @template T
- * @param {T[]} list in the order of values, of which the first is at most that one
- * @param {(it: T) => number} valueOf
- * @param {number} value
+ * @param {T[]} runs
+ * @param {number[]} begins where each begins, in order
+ * @param {number} place
  */
-function lastUpTo(list, valueOf, value) {
-    let [low, high] = [0, list.length];
-    while (high - low > 1) {
-        const middle = (low + high) >> 1;
-        if (valueOf(list[middle]) <= value) low = middle;
-        else high = middle;
-    }
-    return list[low];
+function runAt(runs, begins, place) {
+    return runs[Math.max(firstAfter(begins, place) - 1, 0)];
 }
 
 /** The sectors of a track, those of each file one after the other, and all others as they lie. */
@@ -35,12 +30,14 @@ export class FileOrder {
         const placed = runs.map(({ from, count }) => ({ from, count, at: (next += count) - count }));
         this.base = base;
         this.runs = placed;
+        this.ats = placed.map(({ at }) => at);
         this.byPlace = [...placed].sort((a, b) => a.from - b.from);
+        this.froms = this.byPlace.map(({ from }) => from);
         /** @type {Reader} in this order */
         this.reader = {
             size: sectors * SECTOR_SIZE,
             read: (place, length, room) => {
-                const { from, at, count } = lastUpTo(placed, it => it.at * SECTOR_SIZE, place);
+                const { from, at, count } = runAt(placed, this.ats, place / SECTOR_SIZE);
                 return reader.read(place + (from - at) * SECTOR_SIZE, Math.min(length, (at + count) * SECTOR_SIZE - place), room);
             },
         };
@@ -48,13 +45,13 @@ export class FileOrder {
 
     /** @param {number} index in this order */
     blockOf(index) {
-        const { from, at } = lastUpTo(this.runs, it => it.at, index);
+        const { from, at } = runAt(this.runs, this.ats, index);
         return this.base + from + index - at;
     }
 
     /** @param {number} block */
     indexOf(block) {
-        const { from, at } = lastUpTo(this.byPlace, it => it.from, block - this.base);
+        const { from, at } = runAt(this.byPlace, this.froms, block - this.base);
         return block - this.base + at - from;
     }
 }

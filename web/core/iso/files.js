@@ -15,8 +15,10 @@ import { walked } from './walk.js';
  */
 /**
  * The files by their blocks, with the best names that there are; what could not be read, in lines for a person; all that the trees of
- * names have, some of it several times; whether UDF names the files too; and which blocks are the volume's own, each with what it is.
- * @typedef {{ files: FileEntry[], faults: string[], entries: FileEntry[], udf: boolean, own: Map<number, OwnBlock> }} VolumeFiles
+ * names have, some of it several times; whether UDF names the files too; which blocks are the volume's own, each with what it is; and the
+ * number that the volume gives the first sector of its track.
+ * @typedef {{ files: FileEntry[], faults: string[], entries: FileEntry[], udf: boolean, own: Map<number, OwnBlock>, first: number }}
+ *     VolumeFiles
  */
 /** @typedef {'descriptor' | 'directory'} OwnBlock */
 /** @typedef {{ path: string, size: number, extents: FileEntry[] }} WholeFile a file, with its extents in the order of its bytes */
@@ -126,7 +128,7 @@ export async function filesOf(reader, base) {
     const faults = new Set(found.flatMap(it => it.faults));
     if (joliet && !other) faults.add("Joliet's volume descriptor has no root directory");
     const own = ownBlocks(volume, count, found.flatMap(it => [...it.met]));
-    return { files, faults: [...faults], entries: found.flatMap(it => it.files), udf, own };
+    return { files, faults: [...faults], entries: found.flatMap(it => it.files), udf, own, first };
 }
 
 /**
@@ -212,7 +214,7 @@ export function filesAt(files, block, offset) {
  * The descriptors of a volume: the primary one, and Joliet's, if there is one; and how many sectors have descriptors.
  * @param {VolumeReader} volume
  */
-async function descriptorsOf(volume) {
+export async function descriptorsOf(volume) {
     let [primary, joliet] = [new Uint8Array(0), /** @type {Uint8Array | null} */ (null)];
     let [ended, udf, count] = [false, false, 0];
     const most = volume.available(FIRST_DESCRIPTOR, MOST_DESCRIPTORS);

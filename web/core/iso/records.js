@@ -52,6 +52,15 @@ function agreesAt(bytes, at) {
 }
 
 /**
+ * A number that stands there twice, or null if it is not the same in both byte orders.
+ * @param {Uint8Array} bytes
+ * @param {number} at
+ */
+export function numberInBoth(bytes, at) {
+    return agreesAt(bytes, at) ? numberAt(bytes, at) : null;
+}
+
+/**
  * The record at a place, or null if none can stand there.
  * @param {Uint8Array} bytes
  * @param {number} at

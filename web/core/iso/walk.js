@@ -22,6 +22,9 @@ const CHARACTERS_AN_ENTRY = 128;
 
 const MOST_FAULTS = 1000;
 
+/** The fault of a file that goes on after the image's end, or lies there. */
+export const NOT_ALL = 'the image has not all of it';
+
 /** The directories of one tree of a volume. */
 class Walk {
     /**
@@ -129,7 +132,7 @@ class Walk {
         const count = Math.ceil(size / USER_SIZE);
         const isLess = this.volume.available(extent, count) < count && (fault === '' || fault === SEVERAL_EXTENTS);
         const record = { block: this.volume.blockOf(directory.extent) + Math.floor(at / USER_SIZE), offset: at % USER_SIZE };
-        return { path, block: this.volume.blockOf(extent), size, fault: isLess ? 'the image has not all of it' : fault, before, record };
+        return { path, block: this.volume.blockOf(extent), size, fault: isLess ? NOT_ALL : fault, before, record };
     }
 }
 

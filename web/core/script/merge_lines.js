@@ -23,6 +23,26 @@ function givesWay(line, range, isMade) {
 }
 
 /**
+ * Lines that set bytes, as they are read.
+ * @param {ScriptModel} script
+ * @param {string[]} texts
+ */
+function linesRead({ calls }, texts) {
+    return /** @type {{ text: string, patch: UserRange }[]} */ (new ScriptModel(calls, ['cdpatch 1', ...texts].join('\n')).lines.slice(1));
+}
+
+/**
+ * The lines of a script, in their order, that would give way to others which set bytes.
+ * @param {ScriptModel} script
+ * @param {string[]} come
+ * @param {(line: ScriptLine) => boolean} isMade whether a line was made as these, and not typed
+ */
+export function linesGivingWay(script, come, isMade) {
+    const gone = linesRead(script, come).flatMap(({ patch }) => script.linesWriting(patch).filter(line => givesWay(line, patch, isMade)));
+    return [...new Set(gone)].sort(byNumber);
+}
+
+/**
  * The texts of a script's lines after lines have come in that set bytes, of which none meets another: each in the place of the first one
  * that gives way to it, or at the end.
  * @param {ScriptModel} script
@@ -35,9 +55,8 @@ export function mergedLines(script, come, isMade) {
     /** @type {string[]} */
     const end = [];
     const counts = { added: 0, replaced: 0, same: 0 };
-    for (const { text, patch } of new ScriptModel(script.calls, ['cdpatch 1', ...come].join('\n')).lines.slice(1)) {
-        const range = /** @type {UserRange} */ (patch);
-        const gone = script.linesWriting(range).filter(line => givesWay(line, range, isMade)).sort(byNumber);
+    for (const { text, patch } of linesRead(script, come)) {
+        const gone = script.linesWriting(patch).filter(line => givesWay(line, patch, isMade)).sort(byNumber);
         const first = gone.find(({ number }) => !put.has(number));
         if (gone.length === 0) counts.added += 1;
         else if (gone.length === 1 && gone[0].text === text) counts.same += 1;

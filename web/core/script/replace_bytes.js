@@ -41,10 +41,13 @@ export function filledUp(bytes, size, fill) {
  * @param {Place} place
  * @param {Uint8Array} old
  * @param {Uint8Array} fresh as many
+ * @param {boolean} [isTriedLater] whether the lines are tried with others, and not here
  * @returns {Promise<Lines>}
  */
-export function replaceBytes(calls, image, place, old, fresh) {
-    return replaceEach(calls, image, [{ place, old, fresh }]);
+export async function replaceBytes(calls, image, place, old, fresh, isTriedLater = false) {
+    const lines = new LineList();
+    for (const change of cutAtExtents(image, { place, old, fresh })) await addChange(calls, image, lines, change, isTriedLater);
+    return lines.lines();
 }
 
 /**
@@ -66,38 +69,26 @@ function cutAtExtents({ order }, change) {
 }
 
 /**
- * The same for several changes, in the order of their places, of which none meets another.
+ * Adds the lines of a change of neighbouring sectors.
  * @param {Calls} calls
  * @param {DiscImage} image
- * @param {Change[]} changes
- * @param {boolean} [isTriedLater] whether the lines are tried with others, and not here
- * @returns {Promise<Lines>}
+ * @param {LineList} lines
+ * @param {Change} change
+ * @param {boolean} isTriedLater
  */
-export async function replaceEach(calls, image, changes, isTriedLater = false) {
-    const parts = changes.flatMap(change => cutAtExtents(image, change));
-    if (parts.length > changes.length) {
-        const made = await Promise.all(parts.map(part => replaceEach(calls, image, [part], isTriedLater)));
-        return { ...made[0], text: joinedBytes(made.map(({ text }) => text)), patches: made.reduce((sum, it) => sum + it.patches, 0) };
-    }
-    const { place: first } = changes[0];
-    const { place: last, old: lastOld } = changes[changes.length - 1];
-    const distance = (/** @type {Place} */ { block, offset }) => (block - first.block) * USER_SIZE + offset - first.offset;
-    const sectors = await sectorsOfRange(image, first, distance(last) + lastOld.length);
-    const blocks = Array.from({ length: sectorCount(sectors.length) }, (_, i) => first.block + i);
+async function addChange(calls, image, lines, { place, old, fresh }, isTriedLater) {
+    const sectors = await sectorsOfRange(image, place, old.length);
+    const blocks = Array.from({ length: sectorCount(sectors.length) }, (_, i) => place.block + i);
     const user = joinedUser(sectors);
     assertSound(calls.survey(sectors, 0), blocks);
-    const lines = new LineList();
-    for (const { place, old, fresh } of changes) {
-        const at = first.offset + distance(place);
-        const other = old.findIndex((byte, i) => byte !== user[at + i]);
-        const { block, offset } = placeAfter(place, Math.max(other, 0));
-        if (other >= 0) throw new Fault(`old bytes differ at block ${block} offset ${offset}`);
-        user.set(filledUp(fresh, old.length, null), at);
-        setLines(lines, place, old, fresh);
-    }
-    const made = lines.lines();
-    if (!isTriedLater) assertLeads(calls, made, { blocks, old: sectors, fresh: encodedUser(calls, sectors, user) }, false);
-    return made;
+    const other = old.findIndex((byte, i) => byte !== user[place.offset + i]);
+    const { block, offset } = placeAfter(place, Math.max(other, 0));
+    if (other >= 0) throw new Fault(`old bytes differ at block ${block} offset ${offset}`);
+    user.set(filledUp(fresh, old.length, null), place.offset);
+    const { size } = lines;
+    setLines(lines, place, old, fresh);
+    if (isTriedLater) return;
+    assertLeads(calls, lines.textFrom(size), { blocks, old: sectors, fresh: encodedUser(calls, sectors, user) }, false);
 }
 
 /**

@@ -4,7 +4,7 @@
 
 import { joinedBytes } from '../bytes.js';
 import { FAULT, failedBy } from '../faults.js';
-import { lacks } from './characters.js';
+import { lacks, numbersOf } from './characters.js';
 
 /** @typedef {import('./encoding.js').Encoding} Encoding */
 
@@ -16,15 +16,14 @@ const HALF_WIDTH_KANA = /[\uFF61-\uFF9F]+/g;
 const SAME_SIGN = { '\\': '¥', '¥': '\\' };
 
 /** Half-width forms by the full-width ones, and the other way round. */
-const NARROW = new Map([['\u3000', ' '], ['￥', '¥']]);
-for (let code = 0xFF01; code <= 0xFF5E; code++) NARROW.set(String.fromCharCode(code), String.fromCharCode(code - 0xFEE0));
-for (let code = 0xFF61; code <= 0xFF9F; code++) {
+const OTHER_WIDTHS = new Map();
+for (const code of numbersOf([0x3000, 0x3000], [0xFF01, 0xFF5E], [0xFF61, 0xFF9F], [0xFFE5, 0xFFE5])) {
     for (const mark of ['', 'ﾞ', 'ﾟ']) {
-        const narrow = String.fromCharCode(code) + mark;
-        if (narrow.normalize('NFKC').length === 1) NARROW.set(narrow.normalize('NFKC'), narrow);
+        const form = String.fromCharCode(code) + mark;
+        const other = form.normalize('NFKC');
+        if (other.length === 1) OTHER_WIDTHS.set(form, other).set(other, form);
     }
 }
-const WIDE = new Map([...NARROW].map(([wide, narrow]) => [narrow, wide]));
 
 /**
  * By the encodings, what was asked for before: strictly and loosely, of each character its spellings and those of its other forms, none if
@@ -44,7 +43,7 @@ function formsOf(character, loose) {
         const apart = it.normalize('NFD');
         if ([...apart].length > 1) forms.add(apart);
         if (it in SAME_SIGN) forms.add(SAME_SIGN[it]);
-        if (loose) for (const other of [it.toLowerCase(), it.toUpperCase(), NARROW.get(it), WIDE.get(it)]) forms.add(other || it);
+        if (loose) for (const other of [it.toLowerCase(), it.toUpperCase(), OTHER_WIDTHS.get(it)]) forms.add(other || it);
     }
     return [...forms];
 }

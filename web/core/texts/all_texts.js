@@ -57,7 +57,7 @@ export function stretchesOf(part, files) {
         between(first);
         const [last] = stretches.slice(-1);
         const own = Math.min(size, count * USER_SIZE);
-        if (before > 0 && last && last.path === path && (first - last.first) * USER_SIZE === before) last.size += own;
+        if (last && last.path === path && (first - last.first) * USER_SIZE === before) last.size += own;
         else stretches.push({ path, before, first, size: own });
         next = first + count;
     }

@@ -25,120 +25,105 @@ const MUTE = -2;
 /** The most bytes of a character. */
 const LONGEST = 3;
 
+const KINDS = AFTER_KINDS.length;
+
 /** Finds paths, one after the other. */
 export class PathFinder {
     constructor() {
         this.order = Int8Array.from(AFTER_KINDS.flat());
-        // By places: of the best path that ends there its score and its start, the kind of its last character, and how many kanji end it.
+        // By places after the first one: of the best path that ends there its score and its start, the kind of its last character, and how
+        // many kanji end it.
         this.score = new Int32Array(MOST + LONGEST);
         this.start = new Int32Array(MOST + LONGEST);
         this.kind = new Uint8Array(MOST + LONGEST);
         this.row = new Uint16Array(MOST + LONGEST);
-        this.origin = 0;
-        this.best = { start: 0, end: 0, score: 0 };
     }
 
     /**
-     * The best path that ends after a place, from one before it on. It stays until the next one is asked for.
+     * The best path that ends after a place, from one before it on.
      * @param {Scores} scores
      * @param {Uint8Array} bytes
      * @param {number} low where it begins at the earliest
      * @param {number} place
      */
     find(scores, bytes, low, place) {
-        this.origin = Math.max(low, place - BACK);
-        this.best.start = this.best.end = this.best.score = 0;
-        const end = Math.min(bytes.length, this.origin + MOST);
-        for (let k = 0; k < LONGEST; k++) this.begin(k);
-        for (let at = this.origin; at < end; at++) {
-            const k = at - this.origin;
-            this.begin(k + LONGEST);
-            if (at > place + LONGEST && this.isOver(k)) break;
-            const score = scores.one[bytes[at]];
-            const kind = scores.oneKind[bytes[at]];
-            if (score !== BAD) this.take(at, 1, score + this.orderAfter(k, kind), kind, 0, place);
-            this.takeLong(scores, bytes, at, place);
+        const { score, start, kind, order } = this;
+        const { one, oneKind, pairKind, size } = scores;
+        const origin = Math.max(low, place - BACK);
+        const last = Math.min(bytes.length, origin + MOST) - origin;
+        let [from, to, most] = [0, 0, 0];
+        for (let k = 0; k < LONGEST; k++) this.put(k, k, 0, 0, 0);
+        for (let k = 0; k < last; k++) {
+            const at = origin + k;
+            this.put(k + LONGEST, k + LONGEST, 0, 0, 0);
+            if (at > place + LONGEST && this.isOver(k, Math.max(most - FALL, 0))) break;
+            const byte = bytes[at];
+            const oneSum = one[byte] === BAD ? 0 : score[k] + one[byte] + order[kind[k] * KINDS + oneKind[byte]];
+            if (oneSum > score[k + 1]) {
+                this.put(k + 1, start[k], oneSum, oneKind[byte], 0);
+                if (oneSum > most && at >= place) [from, to, most] = [start[k], k + 1, oneSum];
+            }
+            const code = codeAt(scores, bytes, at, bytes.length);
+            if (code === 0) continue;
+            const row = pairKind[code] !== KANJI ? 0 : score[k] > 0 ? this.row[k] + 1 : 1;
+            const sum = score[k] + this.added(scores, bytes, at, k, code, row);
+            if (sum <= score[k + size]) continue;
+            this.put(k + size, start[k], sum, pairKind[code], row);
+            if (sum > most && at >= place) [from, to, most] = [start[k], k + size, sum];
         }
-        return this.best;
-    }
-
-    /** @param {number} k where a path may begin */
-    begin(k) {
-        this.score[k] = 0;
-        this.start[k] = this.origin + k;
-        this.kind[k] = 0;
-        this.row[k] = 0;
+        return { start: origin + from, end: origin + to, score: most };
     }
 
     /**
-     * What a character of a kind scores for the one that the best path to a place ends with.
+     * @param {number} k the place at which a path ends
+     * @param {number} start
+     * @param {number} score
+     * @param {number} kind
+     * @param {number} row
+     */
+    put(k, start, score, kind, row) {
+        this.score[k] = score;
+        this.start[k] = start;
+        this.kind[k] = kind;
+        this.row[k] = row;
+    }
+
+    /**
      * @param {number} k
-     * @param {number} kind
+     * @param {number} least
      */
-    orderAfter(k, kind) {
-        return this.order[this.kind[k] * AFTER_KINDS.length + kind];
-    }
-
-    /** @param {number} k whether no path from there on can be better */
-    isOver(k) {
-        const least = Math.max(this.best.score - FALL, 0);
+    isOver(k, least) {
         const { score } = this;
-        return score[k] <= least && score[k + 1] <= least && score[k + 2] <= least && score[k + 3] <= least;
+        return score[k] <= least && score[k + 1] <= least && score[k + 2] <= least;
     }
 
     /**
-     * @param {number} at
-     * @param {number} size
-     * @param {number} score of the character
-     * @param {number} kind
-     * @param {number} row how many kanji in a row it ends
-     * @param {number} place
-     */
-    take(at, size, score, kind, row, place) {
-        const k = at - this.origin;
-        const sum = this.score[k] + score;
-        if (sum <= this.score[k + size]) return;
-        this.score[k + size] = sum;
-        this.start[k + size] = this.start[k];
-        this.kind[k + size] = kind;
-        this.row[k + size] = row;
-        if (sum <= this.best.score || at < place) return;
-        this.best.start = this.start[k];
-        this.best.end = at + size;
-        this.best.score = sum;
-    }
-
-    /**
-     * Takes a character of several bytes.
+     * What a character of several bytes adds to the best path before it.
      * @param {Scores} scores
      * @param {Uint8Array} bytes
      * @param {number} at
-     * @param {number} place
+     * @param {number} k
+     * @param {number} code
+     * @param {number} row how many kanji in a row it ends
      */
-    takeLong(scores, bytes, at, place) {
-        const code = codeAt(scores, bytes, at, bytes.length);
-        if (code === 0) return;
-        const { size, wide } = scores;
-        const k = at - this.origin;
-        const kind = scores.pairKind[code];
+    added({ size, wide, pair, pairKind }, bytes, at, k, code, row) {
         const isEnd = wide && bytes[at] === 0 && at > 0 && bytes[at - 1] === 0;
-        const score = isEnd ? ZEROS : scores.pair[code];
-        const row = kind !== KANJI ? 0 : this.score[k] > 0 ? this.row[k] + 1 : 1;
-        const counted = score <= 0 ? score : row > KANJI_IN_A_ROW ? MUTE : stoodBefore(bytes, at, size, this.start[k]) ? 0 : score;
-        const order = counted === 0 || counted === MUTE ? 0 : this.orderAfter(k, kind);
-        this.take(at, size, counted + order, kind, row, place);
+        const score = isEnd ? ZEROS : pair[code];
+        const seen = Math.max(at - k + this.start[k], at - LAST_ONES * size);
+        const counted = score <= 0 ? score : row > KANJI_IN_A_ROW ? MUTE : stoodBefore(bytes, at, size, seen) ? 0 : score;
+        return counted === 0 || counted === MUTE ? counted : counted + this.order[this.kind[k] * KINDS + pairKind[code]];
     }
 }
 
 /**
- * Whether the character at a place stands among the last ones before it.
+ * Whether the character at a place stands before it too.
  * @param {Uint8Array} bytes
  * @param {number} at
  * @param {number} size
- * @param {number} start of the text
+ * @param {number} from where it is looked for
  */
-function stoodBefore(bytes, at, size, start) {
-    for (let before = at - size; before >= Math.max(start, at - LAST_ONES * size); before -= size) {
+function stoodBefore(bytes, at, size, from) {
+    for (let before = at - size; before >= from; before -= size) {
         let k = 0;
         while (k < size && bytes[before + k] === bytes[at + k]) k += 1;
         if (k === size) return true;

@@ -1,14 +1,15 @@
 // Places of bytes that may be texts, each in one encoding, with a score.
 
+import { asWords } from '../sectors/sector.js';
 import { PathFinder } from './best_path.js';
-import { ASCII, BAD, codeAt, seedBits, strengthOf } from './scores.js';
+import { ASCII, BAD, allScores, codeAt, seedBits, strengthOf } from './scores.js';
 import { SURE } from './told.js';
 
 /** @typedef {import('./scores.js').Scores} Scores */
 /**
- * A text: where it begins and ends, its score in bits, its encoding, on how many sides of it 00 stands, and whether only what is beside it
- * tells it.
- * @typedef {{ start: number, end: number, score: number, scores: Scores, zeros: number, near: boolean }} Candidate
+ * A text: where it begins and ends, its score in bits, its encoding, on how many sides of it 00 stands, whether only what is beside it
+ * tells it, and its characters, '' if they are not decoded yet.
+ * @typedef {{ start: number, end: number, score: number, scores: Scores, zeros: number, near: boolean, text: string }} Candidate
  */
 /** @typedef {{ covered: number, end: number }} Known how far an encoding has been looked at, and where its last text ended */
 
@@ -37,8 +38,8 @@ const RAREST = -28;
 
 /** Finds the candidates in bytes. The tables take a while to make. */
 export class CandidateFinder {
-    /** @param {Scores[]} all the encodings */
-    constructor(all) {
+    /** @param {Scores[]} [all] the encodings */
+    constructor(all = allScores()) {
         this.all = all;
         this.threes = all.reduce((bits, { size }, i) => size === 3 ? bits | 1 << i : bits, 0);
         this.seeds = seedBits(all);
@@ -47,13 +48,13 @@ export class CandidateFinder {
 
     /**
      * The candidates, by encodings, in order in each.
-     * @param {Uint8Array} bytes that begin where a word of four does
+     * @param {Uint8Array} bytes
      */
     find(bytes) {
         /** @type {Candidate[]} */
         const found = [];
         const known = this.all.map(() => ({ covered: 0, end: 0 }));
-        const words = new Int32Array(bytes.buffer, bytes.byteOffset, bytes.length >> 2);
+        const words = asWords(bytes);
         for (let at = 3; at < bytes.length; at++) {
             if (at % 4 === 0) at = 4 * this.nextWord(words, at / 4);
             const bits = at < bytes.length ? this.bitsAt(bytes, at) : 0;
@@ -108,7 +109,7 @@ export class CandidateFinder {
      * @returns {Candidate | null}
      */
     candidateAt(scores, bytes, at, known) {
-        const { size, wide, least } = scores;
+        const { size, wide, own, least } = scores;
         const last = bytes[at - 1] << 8 | bytes[at];
         const first = bytes[at - 3] << 8 | bytes[at - 2];
         // One character twice counts once.
@@ -117,21 +118,23 @@ export class CandidateFinder {
         const { start, end, score } = this.paths.find(scores, bytes, Math.min(known.end, place), place);
         known.covered = Math.max(end, at + 1);
         if (score / 4 + 2 * ZERO < SURE - LESS) return null;
+        const isSmooth = size < 3 && !own && isPicture(bytes, start, end);
         // In UTF-8 the characters do not count: few other bytes are read as that.
-        const text = size === 3 ? '' : scores.encoding.text(bytes.subarray(start, end));
-        if (isPattern(scores, bytes, start, end, text)) {
+        const text = size === 3 || isSmooth ? '' : scores.encoding.text(bytes.subarray(start, end));
+        if (isSmooth || isRepeated(text)) {
             // After a picture a text may stand.
             known.covered = Math.min(known.covered, at + MOST_EXTENSION);
             return null;
         }
         const reached = extended(scores, bytes, start, end, known.end);
+        const whole = reached.end - reached.start === end - start ? text : '';
         known.covered = Math.max(known.covered, reached.end);
         known.end = reached.end;
         const before = reached.start === 0 || isZero(scores, bytes, reached.start - (wide ? 2 : 1));
         const zeros = Number(before) + Number(isZero(scores, bytes, reached.end));
         const bits = score / 4 + ZERO * zeros - (wide && reached.start % 2 === 1 ? ODD : 0);
-        const isText = bits >= SURE - LESS && (zeros === 2 || !goesOneWay(scores, text));
-        return isText ? { start: reached.start, end: reached.end, score: bits, scores, zeros, near: false } : null;
+        const isText = bits >= SURE - LESS && (zeros === 2 || own || !goesOneWay(text));
+        return isText ? { start: reached.start, end: reached.end, score: bits, scores, zeros, near: false, text: whole } : null;
     }
 }
 
@@ -146,41 +149,27 @@ export function isZero({ wide, encoding: { end = 0 } }, bytes, at) {
 }
 
 /**
- * Whether bytes are those of a picture, or the same characters over and over. In UTF-8 they may be.
- * @param {Scores} scores
+ * Whether bytes are those of a picture.
  * @param {Uint8Array} bytes
  * @param {number} start
  * @param {number} end
- * @param {string} text of the bytes from there to there
  */
-function isPattern({ size, own }, bytes, start, end, text) {
-    if (size === 3) return false;
+function isPicture(bytes, start, end) {
     let steps = 0;
     for (let at = start + 1; at < end; at++) steps += Math.abs(bytes[at] - bytes[at - 1]);
+    return steps < SMOOTH * (end - start - 1);
+}
+
+/** @param {string} text whether it has the same characters over and over. A set would count them in three times the time. */
+function isRepeated(text) {
     const compared = text.slice(0, MOST_COMPARED);
-    return (!own && steps < SMOOTH * (end - start - 1))
-        || (compared.length >= LEAST_COMPARED && differentIn(compared) < DISTINCT * compared.length);
+    let different = 0;
+    for (let at = 0; at < compared.length; at++) different += Number(compared.indexOf(compared[at]) === at);
+    return compared.length >= LEAST_COMPARED && different < DISTINCT * compared.length;
 }
 
-/** @param {string} text a short one, whose different characters are counted: a set takes three times as long */
-function differentIn(text) {
-    /** @type {number[]} */
-    const seen = [];
-    for (let at = 0; at < text.length; at++) {
-        const code = text.codePointAt(at) || 0;
-        if (code > 0xFFFF) at += 1;
-        if (!seen.includes(code)) seen.push(code);
-    }
-    return seen.length;
-}
-
-/**
- * Whether a text is a table, in which each character comes after the one before it in Unicode, or before it.
- * @param {Scores} scores
- * @param {string} text
- */
-function goesOneWay({ size, own }, text) {
-    if (size === 3 || own) return false;
+/** @param {string} text whether each character comes after the one before it in Unicode, or before it, as in a table */
+function goesOneWay(text) {
     const ups = Array.from(text).filter((character, i) => i > 0 && character > text[i - 1]).length;
     const steps = text.length - 1;
     return steps >= LEAST_STEPS && Math.min(ups, steps - ups) <= Math.floor(steps / STEPS);

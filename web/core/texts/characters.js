@@ -56,6 +56,8 @@ export class CharacterTable {
         /** 1 for each byte after which a spelling has more. */
         this.inner = new Uint8Array(256);
         this.longestText = 0;
+        /** Characters that the two bytes at a place decide, by these. @type {({ size: number, text: string } | undefined)[]} */
+        this.known = new Array(65536);
     }
 
     /**
@@ -88,17 +90,6 @@ export class CharacterTable {
             branch = next;
         }
         return branch;
-    }
-
-    /**
-     * All bytes that mean a text, with it.
-     * @param {Branch} branch
-     * @param {number[]} bytes before it
-     * @returns {Generator<{ bytes: number[], text: string }>}
-     */
-    * meanings(branch = this.root, bytes = []) {
-        if (branch.text !== '') yield { bytes, text: branch.text };
-        for (const [byte, next] of branch.next || []) yield* this.meanings(next, [...bytes, byte]);
     }
 
     /**
@@ -140,16 +131,21 @@ export class CharacterTable {
      * @param {number} at
      */
     characterAt(bytes, at) {
+        const code = bytes[at] << 8 | bytes[at + 1];
+        const known = at + 1 < bytes.length ? this.known[code] : undefined;
+        if (known !== undefined) return known;
         let [size, text] = [1, NO_CHARACTER];
         let branch = this.root;
-        for (let end = at; end < bytes.length && branch.next !== null;) {
+        let end = at;
+        for (; end < bytes.length && branch.next !== null; end++) {
             const next = branch.next.get(bytes[end]);
             if (next === undefined) break;
-            end += 1;
             branch = next;
-            if (branch.text !== '') [size, text] = [end - at, branch.text];
+            if (branch.text !== '') [size, text] = [end + 1 - at, branch.text];
         }
-        return { size, text };
+        const found = { size, text };
+        if (at + 1 < bytes.length && (end < at + 2 || (end === at + 2 && branch.next === null))) this.known[code] = found;
+        return found;
     }
 
     /**
@@ -159,15 +155,15 @@ export class CharacterTable {
     text(bytes) {
         /** @type {string[]} */
         const pieces = [];
-        /** @type {string[]} */
-        const characters = [];
+        /** @type {number[]} */
+        const units = [];
         for (let at = 0; at < bytes.length;) {
             const { size, text } = this.characterAt(bytes, at);
-            characters.push(text);
+            for (let k = 0; k < text.length; k++) units.push(text.charCodeAt(k));
             at += size;
-            if (characters.length === PIECE) pieces.push(characters.splice(0).join(''));
+            if (units.length >= PIECE) pieces.push(String.fromCharCode(...units.splice(0)));
         }
-        return pieces.join('') + characters.join('');
+        return pieces.join('') + String.fromCharCode(...units);
     }
 }
 

@@ -4,13 +4,15 @@ import { lacks, textFault } from './characters.js';
 
 /** @typedef {import('./encoding.js').Encoding} Encoding */
 
+const PAIRS_OF_DIGITS = Array.from({ length: 256 }, (_, byte) => byte.toString(16).toUpperCase().padStart(2, '0'));
+
 /**
  * Bytes as hexadecimal digits.
  * @param {Uint8Array} bytes
  * @param {string} [between] what stands between the digits of two bytes
  */
 export function hexText(bytes, between = '') {
-    return Array.from(bytes, byte => byte.toString(16).toUpperCase().padStart(2, '0')).join(between);
+    return Array.from(bytes, byte => PAIRS_OF_DIGITS[byte]).join(between);
 }
 
 /**
@@ -49,6 +51,6 @@ export const HEX = {
         return units;
     },
     text: bytes => hexText(bytes),
-    characterAt: (bytes, at) => ({ size: 1, text: hexText(bytes.subarray(at, at + 1)) }),
+    characterAt: (bytes, at) => ({ size: 1, text: PAIRS_OF_DIGITS[bytes[at]] || '' }),
     goesOn: () => false,
 };

@@ -11,6 +11,7 @@ import { BESIDE } from './told.js';
 
 /** @typedef {import('./encoding.js').Encoding} Encoding */
 /** @typedef {import('./encoding.js').TableEncoding} TableEncoding */
+/** @typedef {import('./scores.js').Scores} Scores */
 /** @typedef {{ encoding?: string, table?: string }} AskedTexts the name of an encoding, or a table; neither for the usual encodings */
 /**
  * A text, as it can be posted: its place in its file, how many bytes its room has, the name of its encoding, its score, whether only what
@@ -47,19 +48,19 @@ export function textsOfRange(sectors, first, { count, size, ...asked }) {
     const shift = first * USER_SIZE;
     const bytes = userOfRange(sectors).subarray(0, size - shift);
     const [from, to] = [first === 0 ? 0 : BESIDE * USER_SIZE, (count + BESIDE) * USER_SIZE];
-    const texts = tellerOf(asked).tell(bytes);
     /** @type {Told[]} */
     const told = [];
-    texts.forEach(({ start, end, scores, score, near }, i) => {
-        if (start < from || start >= to) return;
-        let next = i + 1;
-        while (next < texts.length && texts[next].scores !== scores) next += 1;
+    /** @type {Map<Scores, number>} by encodings, where the next text begins */
+    const next = new Map();
+    for (const { start, end, scores, score, near, text: known } of tellerOf(asked).tell(bytes).reverse()) {
         const { encoding } = scores;
-        const room = end - start + fillingAfter(encoding, bytes, end, next < texts.length ? texts[next].start : bytes.length);
-        const text = cellOf(encoding, bytes.subarray(start, end));
+        const room = end - start + fillingAfter(encoding, bytes, end, next.get(scores) || bytes.length);
+        next.set(scores, start);
+        if (start < from || start >= to) continue;
+        const text = cellOf(encoding, bytes.subarray(start, end), known);
         told.push({ start: start + shift, end: end + shift, room, scores: encoding.name, score, near, text });
-    });
-    return told;
+    }
+    return told.reverse();
 }
 
 /**

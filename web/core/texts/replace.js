@@ -2,6 +2,7 @@
 
 import { Fault, cancelled } from '../faults.js';
 import { replaceBytes } from '../script/replace_bytes.js';
+import { ScriptParts } from '../script/script_writer.js';
 import { bytesBefore, contextOf } from './context.js';
 
 /** @typedef {import('../module/calls.js').Calls} Calls */
@@ -9,7 +10,7 @@ import { bytesBefore, contextOf } from './context.js';
 /** @typedef {import('../script/sector_lines.js').Lines} Lines */
 /** @typedef {import('./encoding.js').Encoding} Encoding */
 /** @typedef {import('./find.js').Hit} Hit */
-/** @typedef {{ hit: Hit, lines: Lines | null, why: string }} Replaced the lines that replace a hit, or why there are none */
+/** @typedef {Pick<import('../jobs.js').Sharing, 'signal' | 'progress'>} Watch who hears of texts, or ends the job */
 
 /**
  * Throws a Fault if a new text has more bytes than there are for it.
@@ -24,39 +25,57 @@ export function assertHasRoom({ name }, fresh, room) {
 
 /**
  * What is said of a hit, as why it is not replaced.
- * @param {{ hit: Hit, why: string }} left
+ * @param {{ text: Hit, why: string }} left
  */
-export function leftHitText({ hit: { block, offset }, why }) {
+export function leftHitText({ text: { block, offset }, why }) {
     return `block ${block} offset ${offset}: ${why}`;
 }
 
 /**
- * What replaces each of several hits by a text, in their order. The core has tried the lines on the sectors. There are none if the hit may
- * begin in the middle of a character, meets one before it, has no room for the text, or lies in a sector that is damaged or no Mode 1.
+ * The lines that replace texts, in the order of their places, and the texts that are left, with why there are no lines for them.
+ * @template {import('../script/replace_bytes.js').Place} T
+ * @param {DiscImage} image
+ * @param {T[]} texts
+ * @param {Watch} watch
+ * @param {(text: T, met: T | null) => Promise<{ lines: Lines, size: number }>} replace gives the lines, and how many bytes they are of. It
+ *     throws a Fault if there are none, as if the text meets one before it
+ */
+export async function replacedEach(image, texts, { signal, progress }, replace) {
+    const parts = new ScriptParts();
+    /** @type {{ text: T, why: string }[]} */
+    const left = [];
+    let [last, end] = [/** @type {T | null} */ (null), 0];
+    for (const [i, text] of texts.entries()) {
+        if (signal && signal.aborted) throw cancelled();
+        if (progress) progress(i, texts.length);
+        const at = bytesBefore(image, text);
+        try {
+            const { lines, size } = await replace(text, at < end ? last : null);
+            parts.push(lines);
+            [last, end] = [text, at + size];
+        } catch (error) {
+            if (!(error instanceof Fault)) throw error;
+            left.push({ text, why: error.message });
+        }
+    }
+    return { parts, left };
+}
+
+/**
+ * What replaces each of several hits by a text. The core has tried the lines on the sectors. There are none if the hit may begin in the
+ * middle of a character, meets one before it, has no room for the text, or lies in a sector that is damaged or no Mode 1.
  * @param {Calls} calls
  * @param {DiscImage} image
  * @param {Encoding} encoding
  * @param {Hit[]} hits
  * @param {(size: number) => Uint8Array} freshFor the new bytes for a number of old ones. Throws a Fault if they do not fit
- * @param {{ inside?: boolean, signal?: { aborted: boolean }, progress?: (done: number, all: number) => void }} how whether hits are
- *     taken too that may begin in the middle of a character
- * @returns {AsyncGenerator<Replaced>}
+ * @param {Watch & { inside?: boolean }} how whether hits are taken too that may begin in the middle of a character
  */
-export async function* replacedHits(calls, image, encoding, hits, freshFor, { inside = false, signal, progress }) {
-    let end = 0;
-    for (const [i, hit] of hits.entries()) {
-        if (signal && signal.aborted) throw cancelled();
-        if (progress) progress(i, hits.length);
-        const at = bytesBefore(image, hit);
-        try {
-            const { bytes, doubt } = await contextOf(image, encoding, hit, 0);
-            if (at < end) throw new Fault('it overlaps the one before it');
-            if (doubt !== '' && !inside) throw new Fault(doubt);
-            yield { hit, lines: await replaceBytes(calls, image, hit, bytes, freshFor(hit.size)), why: '' };
-            end = at + hit.size;
-        } catch (error) {
-            if (!(error instanceof Fault)) throw error;
-            yield { hit, lines: null, why: error.message };
-        }
-    }
+export function replacedHits(calls, image, encoding, hits, freshFor, { inside = false, ...watch }) {
+    return replacedEach(image, hits, watch, async (hit, met) => {
+        const { bytes, doubt } = await contextOf(image, encoding, hit, 0);
+        if (met !== null) throw new Fault('it overlaps the one before it');
+        if (doubt !== '' && !inside) throw new Fault(doubt);
+        return { lines: await replaceBytes(calls, image, hit, bytes, freshFor(hit.size)), size: hit.size };
+    });
 }

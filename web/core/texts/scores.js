@@ -1,12 +1,11 @@
 // How likely bytes are Japanese text: scores of characters in quarter bits, by encodings.
 
 import { CP932 } from './cp932.js';
-import { encodeText } from './encoding.js';
+import { TableEncoding, encodeText } from './encoding.js';
 import { SEARCHED } from './encodings.js';
 import { CHARACTERS_BY_BITS } from './frequencies.js';
 
 /** @typedef {import('./encoding.js').Encoding} Encoding */
-/** @typedef {import('./encoding.js').TableEncoding} TableEncoding */
 /** @typedef {import('./encoding.js').Usual} Usual */
 /**
  * An encoding whose texts can be told from other bytes: by each byte and each pair what it scores as a character, and its kind; whether
@@ -15,6 +14,7 @@ import { CHARACTERS_BY_BITS } from './frequencies.js';
  * @typedef {{ encoding: Encoding, wide: boolean, size: number, own: boolean, one: Int8Array, oneKind: Uint8Array, pair: Int8Array,
  *     pairKind: Uint8Array, least: number }} Scores
  */
+/** @typedef {{ bytes: Uint8Array, score: number, kind: number }} Scored bytes that are a character */
 
 /** What is no character. */
 export const BAD = -128;
@@ -29,9 +29,9 @@ const HALF_WIDTH = 9;
 /** What characters of one byte score, by their kinds. */
 const ONES = { [ASCII]: -1, [LINE_END]: -16, [CONTROL]: -32, [HALF_WIDTH]: -1 };
 
-/** What a character scores that the table lacks, by the rows of CP932: signs, the usual kanji, the others, Windows' own. */
+/** What a character scores that the table lacks, by the rows of CP932: signs, the usual kanji, the others, NEC's, a user's own, IBM's. */
 export const USUAL_KANJI = 3;
-const RARE = [[0x8900, -24], [0x9873, USUAL_KANJI], [0xED00, -20], [0x10000, -28]];
+const RARE = [[0x8900, -24], [0x9873, USUAL_KANJI], [0xED00, -20], [0xF000, -27], [0xFA00, -28], [0x10000, -27]];
 
 /** Two neighbours of a text have this score each at least, and so much together. */
 const STRONG = 8;
@@ -39,6 +39,9 @@ const STRONG_PAIR = 24;
 
 /** What a character of three bytes has more than one of two, which random bytes are more often. */
 const THREE = 24;
+
+/** The first two bytes of those of three that stand often in texts: of kana and signs, of kanji, and of wide letters. */
+const FIRST_OF_THREE = [[0xE380, 0xE383], [0xE480, 0xE9BF], [0xEFBC, 0xEFBD]];
 
 /** @param {number} code of a wide character */
 function kindOf(code) {
@@ -48,91 +51,79 @@ function kindOf(code) {
     return /[０-９Ａ-Ｚａ-ｚ]/.test(String.fromCharCode(code)) ? 5 : 4;
 }
 
-/** @param {number} byte of a character that has no others, but 00 */
+/** @param {number} byte of a character that has no others */
 function kindOfOne(byte) {
     if ([0x09, 0x0A, 0x0D].includes(byte)) return LINE_END;
+    if (byte >= 0x80) return HALF_WIDTH;
     return byte >= 0x20 && byte < 0x7F ? ASCII : CONTROL;
 }
 
-/** The score of each character of Unicode's first plane. Kanji that the table has seldom score more: the words of games are others. */
-function characterScores() {
-    const scores = new Int8Array(65536).fill(BAD);
-    for (const [text, [usual]] of CP932.table.spellings) {
-        const rare = RARE.find(([end]) => (usual[0] << 8 | usual[1]) < end);
-        if (usual.length === 2 && rare) scores[text.charCodeAt(0)] = rare[1];
-    }
+/** @param {number} byte */
+function scoredOne(byte) {
+    const kind = kindOfOne(byte);
+    return { score: ONES[kind], kind };
+}
+
+/** The scores and kinds of characters. Kanji that the table has seldom score more: the words of games are others. */
+function knownCharacters() {
+    const known = new Map(Array.from(CP932.table.spellings, ([text, [[first, second]]]) => {
+        const [, score] = RARE.find(([end]) => (first << 8 | second) < end) || [];
+        return [text, second === undefined ? scoredOne(first) : { score: Number(score), kind: kindOf(text.charCodeAt(0)) }];
+    }));
     CHARACTERS_BY_BITS.forEach((characters, bits) => {
         for (const it of characters) {
-            const isUsual = scores[it.charCodeAt(0)] === USUAL_KANJI;
-            scores[it.charCodeAt(0)] = isUsual ? Math.max(4 * bits, 6 + 2 * bits) : bits === 0 ? -2 : 4 * bits;
+            const isUsual = known.get(it)?.score === USUAL_KANJI;
+            const score = isUsual ? Math.max(4 * bits, 6 + 2 * bits) : bits === 0 ? -2 : 4 * bits;
+            known.set(it, { score, kind: kindOf(it.charCodeAt(0)) });
         }
     });
-    return scores;
+    return known;
 }
 
 /**
- * What pairs of bytes are in Unicode, or codes of three bytes in UTF-8; 0 for none.
+ * The scores of an encoding by those of its characters. Of several with the same bytes the first one counts.
  * @param {Encoding} encoding
- * @param {boolean} wide
- * @param {number} size
- * @returns {(code: number) => number}
- */
-function charactersIn(encoding, wide, size) {
-    if (size === 3) return code => code;
-    if (wide) {
-        const all = encoding.text(Uint8Array.from({ length: 2 * 65536 }, (_, i) => i % 2 === 0 ? i >> 9 : i >> 1));
-        return code => all.charCodeAt(code);
-    }
-    return code => {
-        const it = encoding.characterAt(Uint8Array.of(code >> 8, code & 0xFF), 0);
-        return it.size < 2 || code >> 8 < 0x81 ? 0 : it.text.charCodeAt(0);
-    };
-}
-
-/**
- * @param {Encoding} encoding one that has kana
- * @param {Int8Array} scores of characters
+ * @param {Iterable<Scored>} scored
+ * @param {Partial<Scores>} more what it has else
  * @returns {Scores}
  */
-function scoresOf(encoding, scores) {
-    const [pair, pairKind] = [new Int8Array(65536).fill(BAD), new Uint8Array(65536)];
-    const [one, oneKind] = [new Int8Array(256).fill(BAD), new Uint8Array(256)];
-    for (let byte = 1; byte < 0x80; byte++) [one[byte], oneKind[byte]] = [ONES[kindOfOne(byte)], kindOfOne(byte)];
-    const [size, wide] = [encodeText(encoding, 'あ').length, encodeText(encoding, 'a').length === 2];
-    const characterOf = charactersIn(encoding, wide, size);
-    for (let code = 0; code < 65536; code++) {
-        const character = characterOf(code);
-        if (character === 0) continue;
-        const score = character < 0x80 ? one[character] : scores[character];
-        pair[code] = size === 3 && score !== BAD ? score + THREE : score;
-        pairKind[code] = character < 0x80 ? oneKind[character] : kindOf(character);
+function scoresOf(encoding, scored, { size = 2, wide = false, own = false, least = STRONG_PAIR }) {
+    const [one, pair] = [256, 65536].map(count => new Int8Array(count).fill(BAD));
+    const [oneKind, pairKind] = [256, 65536].map(count => new Uint8Array(count));
+    for (const { bytes, score, kind } of scored) {
+        const [scores, kinds] = bytes.length === 1 ? [one, oneKind] : [pair, pairKind];
+        const code = bytes.length === 1 ? bytes[0] : bytes.length === size ? codeOf(size, bytes, 0) : 0;
+        if (code > 0 && scores[code] === BAD) [scores[code], kinds[code]] = [score, kind];
     }
-    if (wide) one.fill(BAD);
-    for (let byte = 0x80; byte < 0x100; byte++) {
-        if (/[｡-ﾟ]/.test(encoding.characterAt(Uint8Array.of(byte), 0).text)) [one[byte], oneKind[byte]] = [ONES[HALF_WIDTH], HALF_WIDTH];
+    return { encoding, wide, size, own, one, oneKind, pair, pairKind, least };
+}
+
+/**
+ * What an encoding has of the characters that are known.
+ * @param {Encoding} encoding
+ * @param {ReturnType<typeof knownCharacters>} known
+ * @returns {Generator<Scored>}
+ */
+function* scoredIn(encoding, known) {
+    for (const [text, { score, kind }] of known) {
+        const spellings = encoding instanceof TableEncoding ? encoding.table.spellings.get(text) : encoding.units(text)[0];
+        for (const bytes of spellings || []) {
+            if (bytes.length === 1 || kind !== HALF_WIDTH) yield { bytes, score: bytes.length === 3 ? score + THREE : score, kind };
+        }
     }
-    return { encoding, wide, size, own: false, one, oneKind, pair, pairKind, least: STRONG_PAIR };
 }
 
 /** The encodings whose texts can be told from other bytes: those that are searched. */
 export function allScores() {
-    const scores = characterScores();
-    return SEARCHED.map(encoding => scoresOf(encoding, scores));
+    const known = knownCharacters();
+    return SEARCHED.map(encoding => {
+        const [size, wide] = [encodeText(encoding, 'あ').length, encodeText(encoding, 'a').length === 2];
+        return scoresOf(encoding, scoredIn(encoding, known), { size, wide });
+    });
 }
 
 /** What pairs of bytes score that stand seldom in texts of another language. */
 const SELDOM = -16;
-
-/**
- * The scores of an encoding by the pairs of bytes that stand often in its texts, as if all of them were as frequent.
- * @param {Encoding} encoding
- * @param {Usual} usual
- */
-function usualScores(encoding, { first, last, score }) {
-    const made = scoresOf(encoding, new Int8Array(65536));
-    const pair = made.pair.map((known, code) => known === BAD ? BAD : code >= first && code <= last ? score : SELDOM);
-    return { ...made, pair, pairKind: new Uint8Array(65536), least: 2 * score };
-}
 
 /** What the small Latin letters and the space of a game's own table score, as texts in English have them, and what is in no table. */
 const LATIN = 45;
@@ -146,33 +137,36 @@ const STRONG_BYTES = 20;
 /**
  * The scores of a game's own table: of its characters of two bytes, and of one, which are as frequent as if there were no others.
  * @param {TableEncoding} encoding
- * @returns {Scores}
+ * @param {{ text: string, bytes: Uint8Array }[]} spelled
  */
-function ownScores(encoding) {
-    const known = characterScores();
-    const [one, pair] = [256, 65536].map(size => new Int8Array(size).fill(BAD));
-    const [oneKind, pairKind] = [256, 65536].map(size => new Uint8Array(size));
-    const all = [...encoding.table.meanings()].map(({ bytes: [first, second, more], text }) => {
-        const score = /^[a-z ]/.test(text) ? LATIN : known[text.charCodeAt(0)] === BAD ? OTHER : known[text.charCodeAt(0)];
-        return { first, second, more, score, kind: text.length > 1 || text < '\x80' ? 0 : kindOf(text.charCodeAt(0)) };
+function ownScores(encoding, spelled) {
+    const known = knownCharacters();
+    const scored = spelled.filter(({ bytes: [first, second] }) => second !== undefined || first !== encoding.end).map(({ text, bytes }) => {
+        const it = known.get(text[0]);
+        const score = /^[a-z ]/.test(text) ? LATIN : it && it.kind < ASCII ? it.score : OTHER;
+        return { bytes, score, kind: text.length > 1 || text < '\x80' ? 0 : kindOf(text.charCodeAt(0)) };
     });
-    const singles = all.filter(({ first, second }) => second === undefined && first !== encoding.end);
+    const singles = scored.filter(({ bytes }) => bytes.length === 1);
     const share = singles.reduce((sum, { score }) => sum + 2 ** (score / 4 - 16), 0);
-    for (const { first, score, kind } of singles) {
-        [one[first], oneKind[first]] = [Math.max(score + ONE_BYTE - 4 * Math.log2(share), LEAST_ONE), kind];
-    }
-    for (const { first, second, more, score, kind } of all) {
-        if (second !== undefined && more === undefined) [pair[first << 8 | second], pairKind[first << 8 | second]] = [score, kind];
-    }
-    return { encoding, wide: false, size: 2, own: true, one, oneKind, pair, pairKind, least: STRONG_BYTES };
+    for (const it of singles) it.score = Math.max(it.score + ONE_BYTE - 4 * Math.log2(share), LEAST_ONE);
+    return scoresOf(encoding, scored, { own: true, least: STRONG_BYTES });
 }
 
 /**
- * The scores of a game's own table, or of a set of characters of another language.
+ * The scores of a game's own table; or of a set of characters of another language, by the pairs of bytes that stand often in its texts, as
+ * if all of them were as frequent.
  * @param {TableEncoding} encoding
  */
 export function tableScores(encoding) {
-    return encoding.usual ? usualScores(encoding, encoding.usual) : ownScores(encoding);
+    const { usual } = encoding;
+    const spelled = [...encoding.table.spellings].flatMap(([text, all]) => all.map(bytes => ({ text, bytes })));
+    if (!usual) return ownScores(encoding, spelled);
+    const scored = spelled.map(({ bytes }) => {
+        const code = codeOf(2, bytes, 0);
+        const score = code >= usual.first && code <= usual.last ? usual.score : SELDOM;
+        return { bytes, ...bytes.length === 1 ? scoredOne(bytes[0]) : { score, kind: 0 } };
+    });
+    return scoresOf(encoding, scored, { least: 2 * usual.score });
 }
 
 /**
@@ -192,18 +186,21 @@ export function strengthOf({ one, pair }, code) {
  * @param {number} end
  */
 export function codeAt({ size, pair }, bytes, at, end) {
-    if (at + size > end) return 0;
-    const code = size === 2 ? bytes[at] << 8 | bytes[at + 1] : codeOfThree(bytes[at], bytes[at + 1], bytes[at + 2]);
+    const code = at + size > end ? 0 : codeOf(size, bytes, at);
     return pair[code] === BAD ? 0 : code;
 }
 
 /**
- * The code of a character of three bytes in UTF-8, or 0.
- * @param {number} first
- * @param {number} second
- * @param {number} third
+ * The code of two bytes, or of a character of three in UTF-8, 0 for none.
+ * @param {number} size
+ * @param {Uint8Array} bytes
+ * @param {number} at
  */
-function codeOfThree(first, second, third) {
+function codeOf(size, bytes, at) {
+    const first = bytes[at];
+    const second = bytes[at + 1];
+    if (size === 2) return first << 8 | second;
+    const third = bytes[at + 2];
     const isOne = first >= 0xE2 && first < 0xF0 && (second & 0xC0) === 0x80 && (third & 0xC0) === 0x80;
     return isOne ? (first & 15) << 12 | (second & 63) << 6 | third & 63 : 0;
 }
@@ -216,11 +213,9 @@ function codeOfThree(first, second, third) {
 export function seedBits(all) {
     const bits = new Uint8Array(65536);
     for (let code = 0; code < 65536; code++) {
-        const [first, second] = [code >> 8, code & 0xFF];
-        const isKana = first === 0xE3 && second >= 0x80 && second <= 0x83;
-        const isOther = (first >= 0xE4 && first <= 0xE9 && second >= 0x80 && second < 0xC0) || (first === 0xEF && (second | 1) === 0xBD);
+        const begins = (code & 0xC0) === 0x80 && FIRST_OF_THREE.some(([first, last]) => code >= first && code <= last);
         for (const [i, scores] of all.entries()) {
-            if (scores.size === 3 ? isKana || isOther : strengthOf(scores, code) >= STRONG) bits[second << 8 | first] |= 1 << i;
+            if (scores.size === 3 ? begins : strengthOf(scores, code) >= STRONG) bits[(code & 0xFF) << 8 | code >> 8] |= 1 << i;
         }
     }
     return bits;

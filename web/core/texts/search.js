@@ -43,7 +43,8 @@ export function encodingsWith(encodings, text, loose) {
  * bytes of another one, comes last.
  * @param {Sharer} crew
  * @param {DiscImage} image
- * @param {{ text: string, encodings: Encoding[], limit: number, loose?: boolean }} asked how many hits are kept in each encoding
+ * @param {{ text: string, encodings: Encoding[], limit: number, loose?: boolean }} asked how many hits are kept in each
+ *     encoding, one at least
  * @param {Sharing} [watch]
  */
 export async function searchText(crew, image, { text, encodings, limit, loose }, watch) {

@@ -1,7 +1,7 @@
 // Which bytes of a stretch of a disc are texts, told from code, pictures and sound by how likely they are Japanese.
 
 import { CandidateFinder, LESS, isZero } from './candidates.js';
-import { ASCII, BAD, KANJI, USUAL_KANJI, allScores, codeAt } from './scores.js';
+import { ASCII, BAD, KANJI, USUAL_KANJI, codeAt } from './scores.js';
 import { SURE } from './told.js';
 
 /** @typedef {import('./candidates.js').Candidate} Candidate */
@@ -24,17 +24,11 @@ const KANJI_BESIDE = 8;
 const RARE_BESIDE = -8;
 
 /** The texts of a stretch, in their order. */
-export class TextTeller {
-    /** @param {Scores[]} [all] the encodings */
-    constructor(all = allScores()) {
-        this.finder = new CandidateFinder(all);
-    }
-
+export class TextTeller extends CandidateFinder {
     /** @param {Uint8Array} bytes */
     tell(bytes) {
-        const aligned = bytes.byteOffset % 4 === 0 ? bytes : Uint8Array.from(bytes);
-        const sure = acceptedOf(withoutOverlaps(this.finder.find(aligned)));
-        return withNeighbours(aligned, sure).flatMap(it => chainOf(aligned, it) || it);
+        const sure = acceptedOf(withoutOverlaps(this.find(bytes)));
+        return withNeighbours(bytes, sure).flatMap(it => chainOf(bytes, it) || it);
     }
 }
 
@@ -93,17 +87,17 @@ function sureWithoutZeros(candidates) {
 function acceptedOf(candidates) {
     const least = sureWithoutZeros(candidates);
     const accepted = candidates.map(({ score, scores, zeros }) => score >= (zeros === 2 ? SURE : least.get(scores) || SURE));
-    const reaches = (/** @type {number} */ i, /** @type {number} */ step) => {
-        const { start, end, scores, zeros } = candidates[i];
-        const most = zeros > 0 ? REACH : REACH_WITHOUT_ZERO;
-        for (let k = i + step; k >= 0 && k < candidates.length; k += step) {
-            if ((step < 0 ? start - candidates[k].end : candidates[k].start - end) > most) return false;
-            if (accepted[k] && candidates[k].scores === scores) return true;
+    for (const step of [1, -1]) {
+        /** @type {Map<Scores, Candidate>} by encodings, the one that was accepted last */
+        const last = new Map();
+        for (let i = step > 0 ? 0 : candidates.length - 1; i >= 0 && i < candidates.length; i += step) {
+            const { start, end, scores, zeros } = candidates[i];
+            const near = last.get(scores);
+            const distance = near ? Math.max(start - near.end, near.start - end) : Infinity;
+            accepted[i] = accepted[i] || distance <= (zeros > 0 ? REACH : REACH_WITHOUT_ZERO);
+            if (accepted[i]) last.set(scores, candidates[i]);
         }
-        return false;
-    };
-    candidates.forEach((_, i) => { accepted[i] = accepted[i] || reaches(i, -1); });
-    for (let i = candidates.length - 1; i >= 0; i--) accepted[i] = accepted[i] || reaches(i, 1);
+    }
     return candidates.filter((_, i) => accepted[i]);
 }
 
@@ -122,7 +116,7 @@ function bitsOf(scores, bytes, start, end) {
         const kind = code > 0 ? pairKind[code] : oneKind[bytes[at]];
         if (code === 0 && (wide || one[bytes[at]] === BAD)) return -1;
         if (code > 0) sum += kind === KANJI ? Math.max(pair[code], pair[code] < USUAL_KANJI ? RARE_BESIDE : KANJI_BESIDE) : pair[code];
-        else sum += kind < ASCII ? one[bytes[at]] : kind === ASCII ? -1 : -4;
+        else sum += kind <= ASCII ? one[bytes[at]] : -4;
         isText = isText || kind < ASCII;
         at += code > 0 ? size : 1;
     }
@@ -153,7 +147,7 @@ function textsBeside(bytes, { start, end, scores }, limit, isAfter) {
         const to = Math.max(near, far);
         const score = isBound ? bitsOf(scores, bytes, from, to) : -1;
         if (score < (scores.own ? 0 : LEAST_BESIDE)) return found;
-        found.push({ start: from, end: to, score, scores, zeros: 2, near: true });
+        found.push({ start: from, end: to, score, scores, zeros: 2, near: true, text: '' });
         edge = far;
     }
 }
@@ -171,7 +165,9 @@ function chainOf(bytes, { start, end, score, scores, zeros, near }) {
         if (at !== end || count < 2) continue;
         /** @type {Candidate[]} */
         const parts = [];
-        for (at = from; at < end; at += 1 + bytes[at]) parts.push({ start: at + 1, end: at + 1 + bytes[at], score, scores, zeros, near });
+        for (at = from; at < end; at += 1 + bytes[at]) {
+            parts.push({ start: at + 1, end: at + 1 + bytes[at], score, scores, zeros, near, text: '' });
+        }
         return parts;
     }
     return null;

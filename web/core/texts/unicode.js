@@ -30,12 +30,9 @@ export function unicodeEncoding(name, bytesOf, goesOn, sizeAt) {
         hasCharacters: true,
         ...SPACES,
         units(text) {
-            let at = 0;
-            return Array.from(text, character => {
-                if (/\p{Cs}/u.test(character)) throw lacks(name, text, at);
-                at += character.length;
-                return [bytesOf(character)];
-            });
+            const lacking = text.search(/\p{Cs}/u);
+            if (lacking >= 0) throw lacks(name, text, lacking);
+            return Array.from(text, character => [bytesOf(character)]);
         },
         text: bytes => loose.decode(bytes),
         characterAt(bytes, at) {

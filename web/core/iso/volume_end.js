@@ -1,0 +1,71 @@
+// Whether an image ends before its volume does.
+
+import { sliceOf } from '../bytes.js';
+import { FAULT, failedBy } from '../faults.js';
+import { LAST_BASE, SECTOR_SIZE, USER_SIZE } from '../sectors/sector.js';
+import { VolumeReader, descriptorsOf, filesOf } from './files.js';
+import { numberInBoth } from './records.js';
+import { NOT_ALL } from './walk.js';
+
+/** @typedef {import('../disc/disc.js').DiscImage} DiscImage */
+/** @typedef {import('../sectors/runs.js').Run} Run */
+/**
+ * The blocks that an image lacks of its volume, how many blocks that has, and the path of a file that begins in the image and goes on after
+ * its end, '' if there is none. With `isSure` the image is cut; else the volume may count other tracks, or a pause after its own.
+ * @typedef {{ missing: Run, blocks: number, file: string, isSure: boolean }} Lack
+ */
+
+/** Where the primary descriptor has the number of the volume's blocks. */
+const VOLUME_BLOCKS = 80;
+
+/** Writers count a pause of two seconds after the data, which not every reader gives back. */
+const LONGEST_PAUSE = 150;
+
+/**
+ * What is thrown if a track has no volume is null here.
+ * @template T
+ * @param {Promise<T>} asked
+ */
+async function ifVolume(asked) {
+    try {
+        return await asked;
+    } catch (error) {
+        if (!failedBy(error, FAULT.VOLUME)) throw error;
+        return null;
+    }
+}
+
+/**
+ * The block after an extent.
+ * @param {import('./files.js').FileEntry} file
+ */
+function endOf({ block, size }) {
+    return block + Math.ceil(size / USER_SIZE);
+}
+
+/**
+ * What an image lacks of the volume of a track, null if it has all of it or the track has no volume.
+ * @param {DiscImage} image
+ * @param {DiscImage} part the track in it
+ * @param {boolean} isAlone whether a cue sheet says that the disc has no other track
+ * @returns {Promise<Lack | null>}
+ */
+export async function lackOf(image, part, isAlone) {
+    const reader = sliceOf(image.reader, (part.base - image.base) * SECTOR_SIZE, image.reader.size);
+    const volume = new VolumeReader(reader, part.base);
+    const descriptors = await ifVolume(descriptorsOf(volume));
+    const said = descriptors === null ? null : numberInBoth(descriptors.primary, VOLUME_BLOCKS);
+    if (said === null || said <= volume.sectors) return null;
+    const found = await ifVolume(filesOf(reader, part.base));
+    const [first, files] = found === null ? [part.base, []] : [found.first, found.files];
+    const [from, most] = [volume.sectors, said].map(count => part.base + count);
+    const cut = files.find(it => it.fault === NOT_ALL && it.block < from && endOf(it) <= most);
+    // A volume that counts from the disc's start has so many blocks, or up to that one: it is taken for the shorter one that has the file.
+    const isUpTo = said > first && (cut === undefined || endOf(cut) <= most - first);
+    const blocks = isUpTo ? said - first : said;
+    if (blocks <= volume.sectors) return null;
+    const last = part.base + blocks - 1;
+    const isLonger = isAlone && blocks - volume.sectors > LONGEST_PAUSE;
+    const isSure = last <= LAST_BASE && (cut !== undefined || isLonger);
+    return { missing: { first: from, last }, blocks, file: isSure && cut ? cut.path : '', isSure };
+}
