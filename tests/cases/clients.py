@@ -127,7 +127,22 @@ class Library(Coat):
         return parity_of(made.raw)
 
 
-class ByLines(Library):
+class ByParts(Coat):
+    """A client that makes the commands of calls on lines, patches and sectors: `check` of the same ones as `apply`, so that the second of
+    these that is asked is not made again."""
+
+    @lru_cache(1)
+    def applied(self, *given):
+        return super().made('apply', *given)
+
+    def made(self, command, *given):
+        if command in ('list', 'audit'):
+            return super().made(command, *given)
+        status, printed, out = self.applied(*given)
+        return status, printed, out if command == 'apply' else None
+
+
+class ByLines(ByParts, Library):
     """A client that makes the commands of a shared library's calls on lines, patches and sectors."""
     name = 'the library line by line'
     commands = by_lines
@@ -216,7 +231,7 @@ class Served(Coat):
         return parity_of(self.ask('parity', bytes(made))[1][0])
 
 
-class Module(Served):
+class Module(ByParts, Served):
     """A WebAssembly module with the calls of cdpatch.h that take no memory, by its calls on lines, patches and sectors, and by runs."""
     name = 'the module'
     server = 'modules/serve.mjs'

@@ -3,8 +3,8 @@
 import argparse
 import os
 import sys
+from concurrent.futures import ProcessPoolExecutor
 from functools import partial
-from multiprocessing import Pool
 
 from clients import Model, Program, add_clients, clients_of
 from forms import SIZE, Answer, worked_lines
@@ -56,15 +56,13 @@ def judged(judge, line):
 def failures(judge, lines, only_first=False):
     """How many lines a judge was asked and can answer, and those that it answers wrong, with what is wrong."""
     count, wrong = 0, []
-    with Pool(len(os.sched_getaffinity(0))) as pool:
-        for line, asked, reasons in pool.imap(partial(judged, judge), lines, chunksize=1):
+    with ProcessPoolExecutor(len(os.sched_getaffinity(0))) as pool:
+        for line, asked, reasons in pool.map(partial(judged, judge), lines):
             count += asked
             if reasons:
                 wrong.append((line, reasons))
                 if only_first:
-                    return count, wrong
-        pool.close()
-        pool.join()
+                    break
     return count, wrong
 
 
@@ -81,7 +79,7 @@ def judges_named():
     words.add_argument('--without-model', action='store_true', help='does not ask the model')
     words.add_argument('--first', action='store_true', help='ends at the first failure, the shortest lines first')
     add_clients(words)
-    given = words.parse_args()
+    given = words.parse_intermixed_args()
     judges = [] if given.without_model else [Model()]
     judges += [] if given.asked == 'model' else [Program(given.asked)]
     return judges + clients_of(given), given

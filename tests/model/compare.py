@@ -2,14 +2,15 @@
 the clients, which are those of worked cases."""
 
 import argparse
+import fcntl
 import os
 import pickle
 import shlex
 import sys
 import tempfile
 from collections import Counter
+from concurrent.futures import ProcessPoolExecutor
 from functools import partial
-from multiprocessing import Pool
 from pathlib import Path
 from urllib.parse import quote
 
@@ -31,19 +32,19 @@ def worked_out(seed, number, options):
 
 
 def known(seed, number, options):
-    """The same. If MODEL_ANSWERS names a directory, it is left there for the other clients that are asked, and have these options."""
+    """The same. If MODEL_ANSWERS names a directory, it is left there for the other clients that are asked, and have these options. Who wants
+    it at the same time waits for it."""
     if 'MODEL_ANSWERS' not in os.environ:
         return worked_out(seed, number, options)
     place = Path(os.environ['MODEL_ANSWERS'], quote(' '.join([seed, *options]), safe=''))
-    file = place / str(number)
-    if file.exists():
-        return pickle.loads(file.read_bytes())
-    made = worked_out(seed, number, options)
     place.mkdir(parents=True, exist_ok=True)
-    half = place / f'{number}.{os.getpid()}'
-    half.write_bytes(pickle.dumps(made))
-    half.rename(file)
-    return made
+    file = place / str(number)
+    with open(file.with_suffix('.lock'), 'wb') as lock:
+        fcntl.flock(lock, fcntl.LOCK_EX)
+        if not file.exists():
+            file.with_suffix('.made').write_bytes(pickle.dumps(worked_out(seed, number, options)))
+            file.with_suffix('.made').rename(file)
+    return pickle.loads(file.read_bytes())
 
 
 def keep(client, number, case, due, said, directory):
@@ -80,13 +81,11 @@ def judge(client, seed, kept, number):
 def compared(client, given, kept):
     """The counts of the kinds of case, and of right and wrong answers."""
     kinds, answers = Counter(), Counter()
-    with Pool(given.jobs) as pool:
+    with ProcessPoolExecutor(given.jobs) as pool:
         judged = partial(judge, client, given.seed, kept)
-        for found, right in pool.imap(judged, range(given.first, given.first + given.cases), chunksize=5):
+        for found, right in pool.map(judged, range(given.first, given.first + given.cases), chunksize=5):
             kinds.update(found)
             answers.update(right)
-        pool.close()
-        pool.join()
     return kinds, answers
 
 

@@ -4,7 +4,8 @@ import { readFileSync } from 'node:fs';
 import { setFlagsFromString } from 'node:v8';
 
 const PAGE = 65536;
-const KEPT = 0x5A;
+/** What stands between the pieces that a call is lent, and at first where it is to write. */
+export const [KEPT, UNWRITTEN] = [0x5A, 0xA5];
 
 /**
  * A module of a file. Node 18 and 20 take a 64-bit memory only with a flag of their engine.
@@ -20,7 +21,7 @@ export function opened(path) {
 export class Room {
     /** @param {number | Uint8Array} content its size, or the bytes that it begins with */
     constructor(content) {
-        this.bytes = typeof content === 'number' ? new Uint8Array(content).fill(0xA5) : content.slice();
+        this.bytes = typeof content === 'number' ? new Uint8Array(content).fill(UNWRITTEN) : content.slice();
     }
 }
 
@@ -52,60 +53,39 @@ export class Calls {
     }
 
     /**
-     * Calls a function. Bytes and rooms are copied into the module's memory, each sixteen bytes apart from the next, and rooms back.
-     * A list of bytes is followed by its size.
+     * Calls a function. Bytes and rooms are copied into the module's memory, and rooms back. A list of bytes is followed by its size.
      * @param {string} name
      * @param {...(Uint8Array | Room | Size | number | boolean)} given
      * @returns {number | bigint | undefined}
      */
     call(name, ...given) {
-        let at = this.start;
-        const placed = given.map(it => {
-            const bytes = it instanceof Room ? it.bytes : it;
-            if (!(bytes instanceof Uint8Array)) return 0;
-            const place = (at + 31) & ~15;
-            at = place + bytes.length;
-            return place;
-        });
-        this.grow(at + 16);
-        const memory = new Uint8Array(this.exports.memory.buffer);
-        memory.fill(KEPT, this.start, at + 16);
-        given.forEach((it, i) => {
-            if (it instanceof Room) memory.set(it.bytes, placed[i]);
-            if (it instanceof Uint8Array) memory.set(it, placed[i]);
-        });
-        const passed = given.map((it, i) => {
-            if (it instanceof Room || it instanceof Uint8Array) return BigInt(placed[i]);
+        const lent = new Lent(this, given.flatMap(it => it instanceof Room ? it.bytes : it instanceof Uint8Array ? [it] : []));
+        let next = 0;
+        const passed = given.map(it => {
+            if (it instanceof Room || it instanceof Uint8Array) return BigInt(lent.places[next++]);
             return it instanceof Size ? it.value : Number(it);
         });
         const result = this.exports[name](...passed);
-        this.takeBack(given, placed, at);
+        lent.seeBetween();
+        next = 0;
+        for (const it of given) {
+            if (it instanceof Room) it.bytes.set(lent.piece(next++));
+            else if (it instanceof Uint8Array) same(lent.piece(next++), it);
+        }
         return result;
-    }
-
-    /**
-     * Copies rooms back, and sees that all else is as it was.
-     * @param {(Uint8Array | Room | Size | number | boolean)[]} given
-     * @param {number[]} placed
-     * @param {number} end
-     */
-    takeBack(given, placed, end) {
-        const memory = new Uint8Array(this.exports.memory.buffer);
-        let kept = this.start;
-        given.forEach((it, i) => {
-            const bytes = it instanceof Room ? it.bytes : it;
-            if (!(bytes instanceof Uint8Array)) return;
-            if (memory.subarray(kept, placed[i]).some(byte => byte !== KEPT)) throw new Error('bytes changed between what was passed');
-            kept = placed[i] + bytes.length;
-            const now = memory.subarray(placed[i], kept);
-            if (it instanceof Room) it.bytes.set(now);
-            else if (Buffer.compare(now, bytes) !== 0) throw new Error('bytes changed that were only to be read');
-        });
-        if (memory.subarray(kept, end + 16).some(byte => byte !== KEPT)) throw new Error('bytes changed after what was passed');
     }
 }
 
-/** Memory of a module that is lent for many calls: pieces of these sizes, or with these bytes, each sixteen bytes or more after the last. */
+/**
+ * Sees that bytes are as they were.
+ * @param {Uint8Array} now
+ * @param {Uint8Array} before
+ */
+export function same(now, before) {
+    if (Buffer.compare(now, before) !== 0) throw new Error('bytes changed that were only to be read');
+}
+
+/** Memory of a module that is lent for one call or many: pieces of these sizes, or with these bytes, each sixteen bytes after the last. */
 export class Lent {
     /**
      * @param {Calls} calls
@@ -113,15 +93,16 @@ export class Lent {
      */
     constructor(calls, pieces) {
         let at = calls.start;
-        /** @type {[number, number][]} */
-        this.between = [];
-        this.places = pieces.map(piece => {
+        /** @type {number[]} */
+        this.places = [];
+        /** @type {number[]} */
+        this.ends = [at];
+        for (const piece of pieces) {
             const place = (at + 31) & ~15;
-            this.between.push([at, place]);
             at = place + (typeof piece === 'number' ? piece : piece.length);
-            return place;
-        });
-        this.between.push([at, at + 16]);
+            this.places.push(place);
+            this.ends.push(at);
+        }
         calls.grow(at + 16);
         this.memory = new Uint8Array(calls.exports.memory.buffer);
         this.memory.fill(KEPT, calls.start, at + 16);
@@ -130,10 +111,16 @@ export class Lent {
         });
     }
 
-    /** Sees that no byte between the pieces has changed. */
+    /** @param {number} i */
+    piece(i) {
+        return this.memory.subarray(this.places[i], this.ends[i + 1]);
+    }
+
+    /** Sees that no byte between the pieces, before the first or after the last has changed. */
     seeBetween() {
-        for (const [from, to] of this.between) {
-            for (let at = from; at < to; at++) if (this.memory[at] !== KEPT) throw new Error('bytes changed between what was lent');
-        }
+        this.ends.forEach((end, i) => {
+            const next = this.places[i] ?? end + 16;
+            for (let at = end; at < next; at++) if (this.memory[at] !== KEPT) throw new Error('bytes changed between what was lent');
+        });
     }
 }

@@ -1,6 +1,6 @@
 // What a client makes of the calls that take no memory: the four commands on an image.
 
-import { Room, Size } from './calls.mjs';
+import { KEPT, Lent, Room, Size, UNWRITTEN, same } from './calls.mjs';
 import { sameByRuns } from './run.mjs';
 
 /** @typedef {import('./calls.mjs').Calls} Calls */
@@ -10,7 +10,7 @@ import { sameByRuns } from './run.mjs';
 export const SECTOR = 2352;
 const PATCH_SIZE = 4096;
 const LINE_SIZE = 96;
-const PIECE = 256;
+const LINE_RECORD = 16;
 const PATCH_RECORD = 16;
 const RECORD_SIZE = 6;
 const MOST_IN_HAND = 3;
@@ -33,28 +33,59 @@ const fields = bytes => new DataView(bytes.buffer, bytes.byteOffset, bytes.lengt
 function lineBy(calls, name, ...given) {
     const room = new Room(LINE_SIZE);
     const size = Number(calls.call(name, ...given, room));
-    if (room.bytes.subarray(size).some(byte => byte !== 0xA5)) throw new Error('bytes changed after a line');
+    if (room.bytes.subarray(size).some(byte => byte !== UNWRITTEN)) throw new Error('bytes changed after a line');
     return room.bytes.subarray(0, size);
 }
 
-/**
- * The lines of a text. A call gets only a piece of it, since what it gets is copied.
- * @param {Calls} calls
- * @param {Uint8Array} text
- */
-function* linesOf(calls, text) {
-    for (let rest = text, most = PIECE; ;) {
-        const piece = rest.subarray(0, most);
-        const found = new Room(16);
-        if (!calls.call('cdpatch_first_line', piece, new Size(piece.length), found)) return;
-        const [size, taken] = [0, 8].map(at => Number(fields(found.bytes).getBigUint64(at, true)));
-        if (taken === piece.length && taken < rest.length) {
-            most *= 2; // The line may go on after the piece.
-            continue;
-        }
-        yield rest.subarray(0, size);
-        rest = rest.subarray(taken);
-        most = PIECE;
+/** The lines of a script, one after the other. What the calls are lent stands in the module's memory from the first line to the last. */
+class Lines {
+    /**
+     * @param {Calls} calls
+     * @param {Uint8Array} text
+     */
+    constructor(calls, text) {
+        this.exports = calls.exports;
+        this.text = text;
+        this.lent = new Lent(calls, [text, LINE_RECORD, text.length, PATCH_RECORD, PATCH_SIZE, PATCH_SIZE]);
+        [, this.found, this.line, this.record, this.fresh, this.old] = this.lent.places.map((_, i) => this.lent.piece(i));
+        this.places = this.lent.places.map(BigInt);
+        [this.number, this.size, this.end] = [0, 0, 0];
+    }
+
+    /** Goes to the next line, if there is one: a copy, with nothing of the script after it. */
+    next() {
+        const [text, found] = this.places;
+        this.found.fill(UNWRITTEN);
+        const isLine = this.exports.cdpatch_first_line(text + BigInt(this.end), BigInt(this.text.length - this.end), found);
+        this.lent.seeBetween();
+        if (!isLine) return false;
+        const [size, taken] = [0, 8].map(at => Number(fields(this.found).getBigUint64(at, true)));
+        this.line.set(this.text.subarray(this.end, this.end + size));
+        this.line.fill(KEPT, size, Math.max(size, this.size));
+        [this.number, this.size, this.end] = [this.number + 1, size, this.end + taken];
+        return true;
+    }
+
+    /**
+     * What stands in this line.
+     * @param {number} version
+     * @param {number} count of the patches so far
+     */
+    read(version, count) {
+        const [, , line, ...rooms] = this.places;
+        const given = this.line.slice(0, this.size);
+        const content = this.exports.cdpatch_read_line(version, this.number, BigInt(count), line, BigInt(this.size), ...rooms);
+        this.lent.seeBetween();
+        same(this.line.subarray(0, this.size), given);
+        return content;
+    }
+
+    /** The patch in this line. @returns {Patch} */
+    patch() {
+        const count = fields(this.record).getUint16(6, true);
+        const [set, hasOld] = [this.record[8] === SET, this.record[9] === 1];
+        return { number: this.number, block: fields(this.record).getUint32(0, true), record: this.record.slice(),
+            fresh: this.fresh.slice(0, set ? count : 0), old: this.old.slice(0, hasOld ? count : 0) };
     }
 }
 
@@ -65,24 +96,18 @@ function* linesOf(calls, text) {
  * @returns {Patch[] | Uint8Array}
  */
 export function script(calls, text) {
+    const lines = new Lines(calls, text);
     const patches = [];
-    const [record, fresh, old] = [new Room(PATCH_RECORD), new Room(PATCH_SIZE), new Room(PATCH_SIZE)];
-    let [version, number] = [0, 0];
-    for (const line of linesOf(calls, text)) {
-        number += 1;
-        const content = Number(calls.call('cdpatch_read_line', version, number, new Size(patches.length), line,
-            new Size(line.length), record, fresh, old));
-        if (content >= NO_HEAD && content <= NO_VERSION) return lineBy(calls, 'cdpatch_fault_line', number, content);
-        if (content === PATCH) {
-            const count = fields(record.bytes).getUint16(6, true);
-            const [set, hasOld] = [record.bytes[8] === SET, record.bytes[9] === 1];
-            patches.push({ number, block: fields(record.bytes).getUint32(0, true), record: record.bytes.slice(),
-                fresh: fresh.bytes.slice(0, set ? count : 0), old: old.bytes.slice(0, hasOld ? count : 0) });
-        } else {
-            version = content || version;
-        }
+    let [version, fault] = [0, 0];
+    while (fault === 0 && lines.next()) {
+        const content = lines.read(version, patches.length);
+        if (content >= NO_HEAD && content <= NO_VERSION) fault = content;
+        else if (content === PATCH) patches.push(lines.patch());
+        else version = content || version;
     }
-    if (version === 0) return lineBy(calls, 'cdpatch_fault_line', number + 1, NO_HEAD);
+    same(lines.lent.piece(0), text);
+    if (fault !== 0) return lineBy(calls, 'cdpatch_fault_line', lines.number, fault);
+    if (version === 0) return lineBy(calls, 'cdpatch_fault_line', lines.number + 1, NO_HEAD);
     return patches.sort((a, b) => a.block - b.block);
 }
 

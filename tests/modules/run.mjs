@@ -1,7 +1,7 @@
 // What a client makes of a script and an image by the two calls of a run. What these are lent stands in the module's memory from the
 // first call to the last.
 
-import { Lent } from './calls.mjs';
+import { Lent, same } from './calls.mjs';
 
 /** @typedef {import('./calls.mjs').Calls} Calls */
 /** @typedef {{ status: number, text: Uint8Array, out: Uint8Array | null }} Answer */
@@ -92,10 +92,7 @@ class Run {
 
     /** Sees that script and entries are as they were. */
     seeGiven() {
-        [this.asked.script, this.entries].forEach((bytes, i) => {
-            const now = this.lent.memory.subarray(this.places[i + 1], this.places[i + 1] + bytes.length);
-            if (Buffer.compare(now, bytes) !== 0) throw new Error('bytes changed that were only to be read');
-        });
+        [this.asked.script, this.entries].forEach((bytes, i) => same(this.lent.piece(i + 1), bytes));
     }
 }
 

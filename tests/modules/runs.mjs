@@ -2,7 +2,7 @@
 // how many cases there were.
 
 import { Calls } from './calls.mjs';
-import { Input } from './input.mjs';
+import { Input } from '../lib/input.mjs';
 import { runOnce, sameByRuns } from './run.mjs';
 
 /** @typedef {{ base: number, flags: number, status: number, sizes: number[], blank: number, blocks: number[] }} Head */
@@ -69,7 +69,7 @@ function seeShort(head, [image, script, text, out]) {
 let [number, differ] = [0, 0];
 for (; !input.ended(); number++) {
     const head = /** @type {Head} */ (JSON.parse(input.text(10)));
-    const parts = head.sizes.map(size => input.take(size).slice());
+    const parts = head.sizes.map(size => input.take(size));
     try {
         (head.blank > 0 ? seeLong : seeShort)(head, parts);
     } catch (fault) {

@@ -26,9 +26,6 @@ await serve((question, [first, second]) => {
     const { call, base, carry } = question;
     if (call === 'list') return list(calls, { image: first, base });
     if (call === 'audit') return audit(calls, { image: first, base });
-    if (call === 'check' || call === 'apply') {
-        const made = apply(calls, { image: first, base, carry, script: second });
-        return call === 'apply' ? made : { ...made, out: null };
-    }
+    if (call === 'apply') return apply(calls, { image: first, base, carry, script: second });
     return { status: 0, text: value(question, first) };
 });
