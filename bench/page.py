@@ -19,20 +19,19 @@ new PerformanceObserver(list => {
 }).observe({ type: 'longtask', buffered: true });'''
 
 # From the press of a button until it is said that all is well.
-TIMED = '''const [buttons, done] = arguments, began = performance.now();
+TIMED = '''const [buttons] = arguments, began = performance.now();
 globalThis.longest = 0;
 const found = [...document.querySelectorAll('button')].find(it =>
     it.checkVisibility() && buttons.some(text => it.innerText.trim().startsWith(text)));
-if (!found) return void done('no button ' + buttons);
+if (!found) return 'no button ' + buttons;
 const parts = () => [...document.querySelectorAll('.tally, .say.good')].filter(it => it.checkVisibility());
 const before = new Set(parts());
 found.click();
-const look = () => {
-    if (parts().some(it => !before.has(it))) done([(performance.now() - began) / 1000, globalThis.longest]);
-    else if (performance.now() - began > 120000) done('nothing new: ' + document.body.innerText);
-    else setTimeout(look, 5);
-};
-look()'''
+while (!parts().some(it => !before.has(it))) {
+    if (performance.now() - began > 120000) return 'nothing new: ' + document.body.innerText;
+    await new Promise(done => setTimeout(done, 5));
+}
+return [(performance.now() - began) / 1000, globalThis.longest];'''
 
 # The panel of each work, and how its button begins.
 WORKS = {
@@ -54,9 +53,9 @@ def opened(page: chromium.Chromium, name: str, shown: str, text: str, file: Path
 
 def main(where: str, image: str, script: str, *works: str) -> None:
     path = Path(where).resolve()
+    chromium.LOCAL_STATE.clear()  # as many frames as users see
     server, page = common.Server(path.parent), chromium.Chromium()
     page.before_pages(BEFORE)
-    page.driver.set_script_timeout(600)
     page.open(f'{server.url}/{path.name}')
     page.wait('#start h1')
     opened(page, 'hashes known', '#disc-line .sha1', '', Path(image).resolve())
@@ -71,7 +70,7 @@ def main(where: str, image: str, script: str, *works: str) -> None:
             print(f'trial: {time.monotonic() - began:.2f} s', flush=True)
             page.type('#patcher-title', 'Title')
         time.sleep(2)
-        answer = page.driver.execute_async_script(TIMED, buttons)
+        answer = page.run(TIMED, buttons)
         if isinstance(answer, str):
             sys.exit(f'{name}: {answer}')
         print(f'{name}: {answer[0]:.2f} s, longest task {answer[1]:.0f} ms', flush=True)

@@ -1,4 +1,4 @@
-"""Chromium, headless, by selenium: files chosen and dropped, downloads, what it tried to reach, screenshots, names and tab stops."""
+"""Chromium, headless: files chosen and dropped, keys, downloads, what it tried to reach, screenshots, names and tab stops."""
 
 import atexit
 import base64
@@ -9,18 +9,18 @@ from collections.abc import Callable, Sequence
 from pathlib import Path
 from typing import Any
 
-from selenium import webdriver
-from selenium.common.exceptions import JavascriptException
-from selenium.webdriver.chrome.service import Service
-from selenium.webdriver.common.action_chains import ActionChains
-from selenium.webdriver.common.by import By
-from selenium.webdriver.common.keys import Keys
-from selenium.webdriver.remote.webelement import WebElement
-
-from common import PATIENCE, await_start, folder, waited
+from common import PATIENCE, folder, waited
+from devtools import DevTools, Refused
+from keys import Keys, pressed
 
 FLAGS = ['--headless=new', '--no-sandbox', '--hide-scrollbars', '--force-color-profile=srgb', '--disable-gpu', '--no-first-run',
-         '--disable-background-networking', '--disable-component-update', '--disable-sync', '--disable-default-apps']
+         '--disable-background-networking', '--disable-component-update', '--disable-sync', '--disable-default-apps', '--disable-popup-blocking',
+         '--disable-prompt-on-repost', '--disable-hang-monitor', '--password-store=basic', '--allow-pre-commit-input', '--test-type',
+         # Without the bar of tabs, which turns a wheel while a page is opened.
+         '--kiosk']
+PREFERENCES = {'safebrowsing': {'enabled': False}, 'profile': {'default_content_setting_values': {'automatic_downloads': 1}}}
+# Who saves a battery draws 30 frames a second, half as many.
+LOCAL_STATE = {'performance_tuning': {'battery_saver_mode': {'state': 3}}}
 OWN_SCHEMES = ('blob:', 'data:', 'about:', 'chrome:', 'chrome-error:', 'devtools:')
 
 # A phone, half a screen, a screen.
@@ -34,17 +34,31 @@ DROPS = 3
 DROP_TAKES = 5
 
 # Looks again and again, less often the longer it takes.
-LOOK = '''const [most, ...given] = arguments, done = given.pop(), began = performance.now();
-const look = () => {{
+LOOK = '''const [most, ...given] = arguments, began = performance.now();
+for (;;) {{
     const found = {}, spent = performance.now() - began;
-    if (found || spent > most) done(found || null);
-    else setTimeout(look, Math.min(500, 10 + spent / 20));
-}};
-look();'''
+    if (found || spent > most) return found || null;
+    await new Promise(done => setTimeout(done, Math.min(500, 20 + spent / 20)));
+}}'''
 
-# Seconds that selenium waits for a script, and a look takes at most.
-SCRIPT_TIMEOUT = 120
+# Seconds that a look takes at most.
 LONGEST_LOOK = 100
+
+# The middle of what is seen of an element, if it is shown, and nothing else lies there. `met` is then whether the next press meets it.
+POINT = '''(it => {
+    if (!it?.checkVisibility({ visibilityProperty: true })) return null;
+    it.scrollIntoViewIfNeeded();
+    const { left, right, top, bottom } = it.getClientRects()[0], middle = (from, to, end) => (Math.max(from, 0) + Math.min(to, end)) / 2;
+    const [x, y] = [middle(left, right, innerWidth), middle(top, bottom, innerHeight)];
+    if (!it.contains(document.elementFromPoint(x, y))) return null;
+    globalThis.met = null;
+    addEventListener('mousedown', ({ target }) => { globalThis.met = it.contains(target); }, { capture: true, once: true });
+    return [x, y];
+})'''
+
+# How often something that moves away is pressed, and where the button is then released.
+PRESSES = 5
+OUTSIDE = (-1, -1)
 
 REACHING = ('Network.requestWillBeSent', 'Network.webSocketCreated', 'Network.webTransportCreated', 'Page.frameRequestedNavigation')
 
@@ -67,28 +81,26 @@ addEventListener('unhandledrejection', event => caught.push(`rejection: ${event.
 
 # What does not fit its window, when the page has drawn itself anew: how far it goes on below its footer and at its right, controls that
 # are cut at a side, and controls that lie over one another.
-MISFITS = '''const [width, done] = arguments, within = '.scroll, .hex, .editor, .hide, .fields, .log';
-    const drawn = () => {
-        const root = document.documentElement, words = it => (it.innerText || it.id).trim();
-        const foot = document.querySelector('footer').getBoundingClientRect().bottom + scrollY;
-        const shown = [...document.querySelectorAll('button, input, select, textarea, summary, dd, h1, h2, .tag')].filter(it =>
-            it.checkVisibility({ visibilityProperty: true }) && it.closest(within) === null && it.getBoundingClientRect().width > 1);
-        const cut = shown.filter(it => {
-            const { right, left } = it.getBoundingClientRect();
-            return right > width + 1 || left < -1;
-        });
-        const sheet = document.querySelector('dialog[open], :popover-open');
-        const controls = shown.filter(it => it.matches('button, input, select, textarea') && (!sheet || sheet.contains(it)));
-        const over = controls.flatMap((one, i) => controls.slice(i + 1).filter(other => {
-            const [a, b] = [one, other].map(it => it.getBoundingClientRect());
-            return !one.contains(other) && Math.min(a.right, b.right) - Math.max(a.left, b.left) > 1 &&
-                Math.min(a.bottom, b.bottom) - Math.max(a.top, b.top) > 1;
-        }).map(other => `${words(one)} lies over ${words(other)}`));
-        const [below, wide] = [root.scrollHeight - Math.max(Math.ceil(foot), innerHeight), root.scrollWidth - width];
-        done([...below > 0 ? [`goes on ${below} below its footer`] : [], ...wide > 0 ? [`is ${wide} too wide`] : [],
-            ...cut.map(it => `cut: ${words(it)}`), ...over]);
-    };
-    requestAnimationFrame(() => requestAnimationFrame(drawn))'''
+MISFITS = '''const [width] = arguments, within = '.scroll, .hex, .editor, .hide, .fields, .log';
+    await new Promise(done => requestAnimationFrame(() => requestAnimationFrame(done)));
+    const root = document.documentElement, words = it => (it.innerText || it.id).trim();
+    const foot = document.querySelector('footer').getBoundingClientRect().bottom + scrollY;
+    const shown = [...document.querySelectorAll('button, input, select, textarea, summary, dd, h1, h2, .tag')].filter(it =>
+        it.checkVisibility({ visibilityProperty: true }) && it.closest(within) === null && it.getBoundingClientRect().width > 1);
+    const cut = shown.filter(it => {
+        const { right, left } = it.getBoundingClientRect();
+        return right > width + 1 || left < -1;
+    });
+    const sheet = document.querySelector('dialog[open], :popover-open');
+    const controls = shown.filter(it => it.matches('button, input, select, textarea') && (!sheet || sheet.contains(it)));
+    const over = controls.flatMap((one, i) => controls.slice(i + 1).filter(other => {
+        const [a, b] = [one, other].map(it => it.getBoundingClientRect());
+        return !one.contains(other) && Math.min(a.right, b.right) - Math.max(a.left, b.left) > 1 &&
+            Math.min(a.bottom, b.bottom) - Math.max(a.top, b.top) > 1;
+    }).map(other => `${words(one)} lies over ${words(other)}`));
+    const [below, wide] = [root.scrollHeight - Math.max(Math.ceil(foot), innerHeight), root.scrollWidth - width];
+    return [...below > 0 ? [`goes on ${below} below its footer`] : [], ...wide > 0 ? [`is ${wide} too wide`] : [],
+        ...cut.map(it => `cut: ${words(it)}`), ...over];'''
 
 
 def settled(measure: Callable[[], Any]) -> Any:
@@ -103,17 +115,17 @@ class Chromium:
     """One window. `downloads` is where it saves files."""
 
     def __init__(self, width: int = 1280, height: int = 900) -> None:
-        self.downloads = folder('downloads')
-        options = webdriver.ChromeOptions()
-        for flag in FLAGS:
-            options.add_argument(flag)
-        options.binary_location = '/usr/bin/chromium'
-        options.set_capability('goog:loggingPrefs', {'performance': 'ALL', 'browser': 'ALL'})
-        options.add_experimental_option('prefs', {
-            'download.default_directory': str(self.downloads), 'download.prompt_for_download': False,
-            'profile.default_content_setting_values.automatic_downloads': 1})
-        self.driver = webdriver.Chrome(options=options, service=Service('/usr/bin/chromedriver'))
-        self.driver.set_script_timeout(SCRIPT_TIMEOUT)
+        self.downloads, profile = folder('downloads'), folder('chromium')
+        (profile / 'Default').mkdir()
+        places = {'download': {'default_directory': str(self.downloads), 'prompt_for_download': False}}
+        (profile / 'Default/Preferences').write_text(json.dumps({**PREFERENCES, **places}))
+        (profile / 'Local State').write_text(json.dumps(LOCAL_STATE))
+        self.noted: list[tuple[str, str]] = []
+        self.devtools = DevTools(['/usr/bin/chromium', *FLAGS, f'--user-data-dir={profile}', 'about:blank'], self.heard)
+        [target] = waited(lambda: [it for it in self.cdp('Target.getTargets')['targetInfos'] if it['type'] == 'page'], 'Chromium has no window')
+        self.devtools.session = self.cdp('Target.attachToTarget', targetId=target['targetId'], flatten=True)['sessionId']
+        for domain in ('Page', 'Network', 'Log', 'Runtime'):
+            self.cdp(f'{domain}.enable')
         self.cdp('Page.addScriptToEvaluateOnNewDocument', source=TRAP)
         self.emulated: dict[str, dict[str, Any]] = {}
         self.size(width, height)
@@ -121,11 +133,23 @@ class Chromium:
         self.stub = ''
 
     def quit(self) -> None:
-        self.driver.quit()
+        self.devtools.end()
+
+    def heard(self, event: str, given: dict[str, Any]) -> None:
+        """Notes what the page reaches for and what is wrong; a question whether to leave it has the answer yes."""
+        if event in REACHING:
+            self.noted.append(('request', given.get('url', given.get('request', {}).get('url', ''))))
+        elif event == 'Log.entryAdded' and given['entry']['level'] == 'error':
+            self.noted.append(('console', f"{given['entry'].get('url', '')} {given['entry']['text']}"))
+        elif event == 'Runtime.exceptionThrown':
+            self.noted.append(('console', str(given['exceptionDetails'])))
+        elif event == 'Runtime.consoleAPICalled' and given['type'] in ('error', 'assert'):
+            self.noted.append(('console', str(given['args'])))
+        elif event == 'Page.javascriptDialogOpening':
+            self.devtools.tell('Page.handleJavaScriptDialog', accept=True)
 
     def cdp(self, command: str, **given: Any) -> dict[str, Any]:
-        answer: dict[str, Any] = self.driver.execute_cdp_cmd(command, given)
-        return answer
+        return self.devtools.ask(command, **given)
 
     def before_pages(self, source: str) -> None:
         """Runs a script in each page that is opened from now on, before its own, and no script that was given so before."""
@@ -135,27 +159,33 @@ class Chromium:
 
     def open(self, page: Path | str) -> None:
         self.url = page if isinstance(page, str) else page.as_uri()
-        self.driver.get(self.url)
+        if failure := self.cdp('Page.navigate', url=self.url).get('errorText'):
+            raise AssertionError(f'{self.url}: {failure}')
+        self.awaited('document.readyState === "complete"')
+
+    def evaluated(self, script: str, *given: Any, **how: Any) -> dict[str, Any]:
+        """What the body of an async function gives."""
+        text = f'(async function () {{ {script}\n}}).apply(null, {json.dumps(given)})'
+        answer = self.cdp('Runtime.evaluate', expression=text, awaitPromise=True, userGesture=True, **how)
+        if 'exceptionDetails' in answer:
+            raise Refused(answer['exceptionDetails'].get('exception', {}).get('description', answer['exceptionDetails']['text']))
+        found: dict[str, Any] = answer['result']
+        return found
 
     def run(self, script: str, *given: Any) -> Any:
-        return self.driver.execute_script(script, *given)
+        """What the body of an async function returns."""
+        found = self.evaluated(script, *given, returnByValue=True)
+        return float(found['unserializableValue']) if 'unserializableValue' in found else found.get('value')
 
     def awaited(self, expression: str, *given: Any, seconds: float = PATIENCE) -> Any:
         """What an expression of what is given is, as soon as it is something; the page itself looks for it. None if it takes too long."""
         ends = time.monotonic() + seconds
         while (left := ends - time.monotonic()) > 0:
             try:
-                return self.driver.execute_async_script(LOOK.format(expression), 1000 * min(left, LONGEST_LOOK), *given)
-            except JavascriptException:  # another page was opened while it looked
+                return self.run(LOOK.format(expression), 1000 * min(left, LONGEST_LOOK), *given)
+            except Refused:  # another page was opened while it looked
                 time.sleep(0.05)
         return None
-
-    def find(self, css: str) -> WebElement:
-        """The first such element, as soon as there is one."""
-        found: WebElement | None = self.awaited('document.querySelector(given[0])', css)
-        if found is None:
-            raise AssertionError(f'there is no {css}')
-        return found
 
     def text(self, css: str) -> str:
         """The text of the first element, as it is shown; '' if there is none."""
@@ -167,30 +197,74 @@ class Chromium:
         if not self.awaited(shown, css, text, seconds=seconds):
             raise AssertionError(f'after {seconds:g} s: {css} with "{text}"; it has "{self.text(css)}"')
 
+    # ---- the mouse, and keys
+
+    def point(self, found: str, *given: Any) -> list[float]:
+        """Where the mouse meets the element that an expression of what is given finds, as soon as it can be pressed there."""
+        place: list[float] | None = self.awaited(f'{POINT}({found})', *given)
+        if place is None:
+            raise AssertionError(f'{given} cannot be pressed')
+        return place
+
+    def mouse(self, kind: str, at: Sequence[float], button: str = 'left') -> None:
+        """The mouse is Moved to a place, or a button Pressed or Released there."""
+        self.cdp('Input.dispatchMouseEvent', type=f'mouse{kind}', x=at[0], y=at[1], button=button, clickCount=int(kind != 'Moved'))
+
+    def hold(self, found: str, *given: Any) -> list[float]:
+        """Presses the button on what an expression of what is given finds, again if it has moved away meanwhile, and returns where."""
+        for _ in range(PRESSES):
+            place = self.point(found, *given)
+            self.mouse('Moved', place, 'none')
+            self.mouse('Pressed', place)
+            if self.run('return globalThis.met'):
+                return place
+            self.mouse('Released', OUTSIDE)
+        raise AssertionError(f'{given} moves away')
+
+    def click_found(self, found: str, *given: Any) -> None:
+        """Presses what an expression of what is given finds."""
+        self.mouse('Released', self.hold(found, *given))
+
     def click(self, css: str) -> None:
-        self.wait(css)
-        self.find(css).click()
+        self.click_found('document.querySelector(given[0])', css)
+
+    def focus(self, css: str) -> None:
+        """Puts the focus on the first such element, as soon as it is shown; all of its text is selected."""
+        focused = '(it => it?.checkVisibility() ? (it.focus(), it.select?.(), true) : false)(document.querySelector(given[0]))'
+        if not self.awaited(focused, css):
+            raise AssertionError(f'there is no {css}')
+
+    def send(self, css: str, *keys: str) -> None:
+        """Presses keys with the focus on an element."""
+        self.focus(css)
+        self.press(*keys)
 
     def type(self, css: str, text: str) -> None:
         """Writes a text into a field, in place of what it has."""
-        field = self.find(css)
-        field.clear()
-        field.send_keys(text)
+        self.send(css, Keys.DELETE, text)
+
+    def choose(self, css: str, value: str) -> None:
+        """Chooses an option of a list."""
+        self.run('const it = document.querySelector(arguments[0]); it.value = arguments[1]; it.dispatchEvent(new Event("change"))', css, value)
 
     def press(self, *keys: str, held: str = '') -> None:
-        """Presses keys, wherever the focus is."""
-        actions = ActionChains(self.driver)
+        """Presses keys, wherever the focus is, while another one is held."""
+        events = [event for key in ''.join(keys) for event in pressed(key, held)]
         if held:
-            actions.key_down(held)
-        actions.send_keys(*keys)
-        if held:
-            actions.key_up(held)
-        actions.perform()
+            down, up = pressed(held)
+            events = [down, *events, up]
+        for event in events:
+            self.cdp('Input.dispatchKeyEvent', **event)
+
+    # ---- files
 
     def give(self, css: str, files: Sequence[Path]) -> None:
         """Chooses files for an input, as soon as the page has started."""
-        await_start(self.run)
-        self.find(css).send_keys('\n'.join(map(str, files)))
+        found = 'document.querySelector("#not-started") === null && document.querySelector(given[0])'
+        field = self.evaluated(LOOK.format(found), 1000 * PATIENCE, css)
+        if 'objectId' not in field:
+            raise AssertionError(f'there is no {css}')
+        self.cdp('DOM.setFileInputFiles', files=list(map(str, files)), objectId=field['objectId'])
 
     def drop(self, css: str, files: Sequence[Path]) -> None:
         """Drops files on what is seen of an element as soon as it is shown, as from a file manager."""
@@ -211,9 +285,8 @@ class Chromium:
 
     def answer(self, text: str = '') -> None:
         """Presses a button of the sheet that asks: the one that begins with this text, or the main one."""
-        found = """return [...document.querySelectorAll("#sheet[open] button")].find(it =>
-            arguments[0] ? it.innerText.startsWith(arguments[0]) : it.classList.contains("main"))"""
-        waited(lambda: self.run(found, text), f'the sheet has no button {text}').click()
+        self.click_found('''[...document.querySelectorAll("#sheet[open] button")].find(it =>
+            given[0] ? it.innerText.startsWith(given[0]) : it.classList.contains("main"))''', text)
 
     def downloaded(self, name: str, seconds: float = PATIENCE) -> Path:
         """A file that was downloaded under this name, as soon as it is whole: an empty one keeps its place until then."""
@@ -228,13 +301,8 @@ class Chromium:
     def attempts(self) -> list[str]:
         """What the page tried to reach, ran against, or threw, since it was opened."""
         found = list(self.run('return globalThis.caught'))
-        for row in self.driver.get_log('performance'):
-            message = json.loads(row['message'])['message']
-            given = message['params']
-            url = given.get('url', given.get('request', {}).get('url', '')) if message['method'] in REACHING else ''
-            if url and url != self.url and not url.startswith(OWN_SCHEMES):
-                found.append(f'request: {url}')
-        return found + [f"console: {row['message']}" for row in self.driver.get_log('browser') if row['level'] == 'SEVERE']
+        noted, self.noted = self.noted, []
+        return found + [f'{kind}: {text}' for kind, text in noted if kind != 'request' or text and text != self.url and not text.startswith(OWN_SCHEMES)]
 
     def size(self, width: int, height: int = 900, scheme: str = 'light') -> None:
         """Sets the size of the window and the colour scheme. A narrow one is a phone."""
@@ -249,11 +317,11 @@ class Chromium:
             self.cdp(f'Emulation.{command}', **given)
             self.emulated[command] = given
 
-    def picture(self, path: Path, width: int = 1280, scheme: str = 'light', most: int = 2600) -> None:
+    def picture(self, path: Path, width: int = 1280, scheme: str = 'light', most: int = 2600, window: int = 900, scale: float = 1) -> None:
         """A screenshot of the whole page."""
-        self.size(width, 900, scheme)
+        self.size(width, window, scheme)
         height = min(max(int(self.run('return document.documentElement.scrollHeight')), 500), most)
-        clip = {'x': 0, 'y': 0, 'width': width, 'height': height, 'scale': 1}
+        clip = {'x': 0, 'y': 0, 'width': width, 'height': height, 'scale': scale}
         shot = self.cdp('Page.captureScreenshot', format='png', captureBeyondViewport=True, clip=clip)
         path.write_bytes(base64.b64decode(shot['data']))
 
@@ -268,12 +336,12 @@ class Chromium:
 
     def wider(self, *widths: int) -> int:
         """By how many pixels at most the page is wider than a window of one of these widths, when it has drawn itself anew."""
-        drawn = """const [done] = arguments;
-            requestAnimationFrame(() => requestAnimationFrame(() => done(document.documentElement.scrollWidth)))"""
+        drawn = """await new Promise(done => requestAnimationFrame(() => requestAnimationFrame(done)));
+            return document.documentElement.scrollWidth"""
         over = []
         for width in widths:
             self.size(width)
-            over.append(settled(lambda: max(0, int(self.driver.execute_async_script(drawn)) - width)))
+            over.append(settled(lambda: max(0, int(self.run(drawn)) - width)))
         self.size(1280)
         return int(max(over))
 
@@ -282,7 +350,7 @@ class Chromium:
         found: dict[int, list[str]] = {}
         for width in widths:
             self.size(width)
-            if wrong := settled(lambda: self.driver.execute_async_script(MISFITS, width)):
+            if wrong := settled(lambda: self.run(MISFITS, width)):
                 found[width] = wrong
         self.size(1280)
         return found
@@ -324,8 +392,7 @@ def shared(before_pages: str = '') -> Chromium:
     """The one window of this run, with nothing downloaded and nothing logged, which runs this script in each page before its own."""
     browser = window()
     browser.before_pages(before_pages)
-    for log in ('performance', 'browser'):
-        browser.driver.get_log(log)
+    browser.noted.clear()
     for path in browser.downloads.iterdir():
         path.unlink()
     return browser

@@ -3,7 +3,6 @@
 A table of the page stands between `<!-- made: NAME -->` and `<!-- end of NAME -->`.
 """
 
-import base64
 import math
 import re
 import sys
@@ -118,23 +117,14 @@ def remade(text: str, browser: chromium.Chromium) -> str:
     return text
 
 
-def draw(browser: chromium.Chromium, path: Path, width: int, scheme: str, scale: float, most: int) -> None:
-    browser.size(width, most, scheme)
-    height = min(int(browser.run('return document.documentElement.scrollHeight')), most)
-    clip = {'x': 0, 'y': 0, 'width': width, 'height': height, 'scale': scale}
-    shot = browser.cdp('Page.captureScreenshot', format='png', captureBeyondViewport=True, clip=clip)
-    path.parent.mkdir(exist_ok=True)
-    path.write_bytes(base64.b64decode(shot['data']))
-    browser.size(1280)
-
-
 def main() -> int:
     States.setUpClass()
     page = States()
     for name, (state, width, scheme, scale, most) in PICTURES.items():
         page.setUp()
         all_states()[state](page)
-        draw(page.browser, PAGES / name, width, scheme, scale, most)
+        page.browser.picture(PAGES / name, width, scheme, most, most, scale)
+        page.browser.size(1280)
     page.setUp()
     DESIGN.write_text(remade(DESIGN.read_text('utf-8'), page.browser), 'utf-8')
     return 0

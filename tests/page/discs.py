@@ -6,6 +6,7 @@ from pathlib import Path
 from common import damaged, folder, image_of, iso_of, run_program
 from sector import SYNC, address_of
 
+DATA = 'MODE1/2352'
 START = 'スタート'.encode('cp932')
 TEXTS = ['つづきから', 'はじめから', '設定', 'ゲームをスタートします', 'セーブしますか？', 'はい', 'いいえ', 'もう一度スタートに戻りますか？']
 
@@ -59,15 +60,19 @@ def written(**files: bytes | str) -> dict[str, Path]:
     return paths
 
 
-def many_texts() -> bytes:
-    """An image in which スタート stands 400 times."""
-    return image_of([b'.' * 24 + (START + b'\0').ljust(18, b'.') * 100 for _ in range(4)])
+def sheet_of(**kinds: str) -> str:
+    """A cue sheet of files with a track each, of this kind, by their stems."""
+    return ''.join(f'FILE "{stem}.bin" BINARY\n  TRACK {number:02} {kind}\n    INDEX 01 00:00:00\n' for number, (stem, kind) in enumerate(kinds.items(), 1))
+
+
+def many_texts(hundreds: int = 4) -> bytes:
+    """An image in which スタート stands so many hundred times."""
+    return image_of([b'.' * 24 + (START + b'\0').ljust(18, b'.') * 100] * hundreds)
 
 
 def scratched() -> bytes:
     """The game with a damaged sector."""
     return damaged(game(), first_block() + 1)
-
 
 
 SCRATCHED_SECTORS = 21000

@@ -9,8 +9,11 @@ from typing import Any
 
 import chromium
 import common
+import discs
+from keys import Keys
 
 NO_PICKER = 'delete window.showSaveFilePicker'
+CLIPBOARD = 'navigator.clipboard.writeText = async text => { globalThis.copied = text; };'
 
 # A chosen file that is written in memory: `failing` is the write that fails, from 0, or -1; writes that `hold` holds wait for `release`, and
 # after `pickLater` the user chooses at `pick`.
@@ -73,6 +76,18 @@ Blob.prototype.stream = function () {
     return made;
 };'''
 
+# What workers are given of files waits until `letGo` posts so many of it, or all and what comes later.
+HELD = '''const { postMessage } = Worker.prototype; Object.assign(globalThis, { waiting: [], holds: true });
+Worker.prototype.postMessage = function (...given) {
+    const post = () => postMessage.apply(this, given);
+    if (holds && given[0].pieces) waiting.push(post);
+    else post();
+};
+globalThis.letGo = (count = Infinity) => {
+    globalThis.holds = count < Infinity;
+    waiting.splice(0, count).forEach(post => post());
+};'''
+
 # How far the first such element is out of the window, in pixels.
 UNSEEN = '''const { top, bottom, left, right } = document.querySelector(arguments[0]).getBoundingClientRect();
     return Math.max(bottom - innerHeight, -top, right - innerWidth, -left)'''
@@ -97,6 +112,9 @@ class PageTest(unittest.TestCase):
         self.browser.wait('#start h1')
         self.browser.attempts()
 
+    def tearDown(self) -> None:
+        self.browser.size(1280)
+
     def open_files(self, *files: Path) -> None:
         self.browser.give('#files', files)
 
@@ -113,15 +131,61 @@ class PageTest(unittest.TestCase):
         self.open_files(file)
         self.browser.wait('#panel-script header', file.name)
 
+    def open_both(self, image: bytes, script: str) -> dict[str, Path]:
+        """Opens an image, game.bin, and then a script, english.txt."""
+        files = discs.written(game=image, english=script)
+        self.open_image(files['game'])
+        self.open_script(files['english'])
+        return files
+
+    def written_page(self, data: bytes, name: str = 'starlit.html') -> Path:
+        """A page in a file."""
+        path = common.folder('patcher') / name
+        path.write_bytes(data)
+        return path
+
+    def go_to(self, block: int) -> None:
+        """Opens a sector by the keyboard."""
+        self.browser.send('#map', 'g')
+        self.browser.type('#go-to', f'{block}\n')
+        self.browser.wait('#sector-title', f'block {block}')
+
+    def go_into(self, block: int) -> None:
+        """The same, and goes on to its bytes."""
+        self.go_to(block)
+        self.browser.send('#map', Keys.ENTER)
+        self.wait_for_focus('.hex')
+
+    def edit(self, *keys: str, held: str = '') -> None:
+        """Presses keys in the editor of the script."""
+        self.browser.click('#tab-script')
+        self.browser.click('.editor textarea')
+        self.browser.press(*keys, held=held)
+
+    def find(self, text: str = 'スタート') -> None:
+        """Searches a text by the button."""
+        self.browser.click('#tab-text')
+        self.browser.type('#find-text', text)
+        self.press('Find')
+        self.browser.wait('#panel-text .hits tbody mark')
+
+    def wait_for_focus(self, css: str) -> None:
+        self.assertTrue(self.browser.awaited('document.activeElement.matches(given[0])', css), f'{css} has no focus')
+
+    def begins(self, button: str) -> None:
+        """Presses a button that saves, and waits until a write is held."""
+        self.browser.run('chosen.hold()')
+        self.press(button)
+        common.waited(lambda: self.browser.run('return chosen.begun > 0'), 'nothing is written')
+
     def press(self, text: str) -> None:
         """Presses the first button that is shown and begins with this text."""
-        found = self.browser.awaited(f'(function () {{ {BUTTON} }})(...given)', text)
-        self.assertIsNotNone(found, f'no button {text}')
-        self.browser.run('arguments[0].scrollIntoView({ block: "center" })', found)
-        found.click()
+        self.browser.click_found(f'(it => {{ it?.scrollIntoView({{ block: "center" }}); return it; }})((function () {{ {BUTTON} }})(...given))', text)
 
     def is_off(self, text: str) -> bool:
-        return bool(self.browser.run(f'{BUTTON}.getAttribute("aria-disabled") === "true"', text))
+        said = self.browser.awaited(f'(it => it && `off: ${{it.getAttribute("aria-disabled")}}`)((function () {{ {BUTTON} }})(...given))', text)
+        self.assertIsNotNone(said, f'no button {text}')
+        return str(said) == 'off: true'
 
     def focused(self) -> str:
         """The card that has the focus, and the control in it."""
@@ -151,7 +215,7 @@ class PageTest(unittest.TestCase):
             let text = '';
             for (let at = 0; at < bytes.length; at += 8192) text += String.fromCharCode(...bytes.subarray(at, at + 8192));
             return btoa(text)'''
-        return base64.b64decode(self.browser.run(f'return (async () => {{ {script} }})()'))
+        return base64.b64decode(self.browser.run(script))
 
 
 def applied(image: Path, script: Path, *options: str) -> tuple[int, str, bytes]:

@@ -6,7 +6,7 @@ import { test } from 'node:test';
 import { calls, imageOf, imageOfBytes, page, parts } from './page.mjs';
 
 const { judgeImage } = await page('player/verdict.js');
-const { reasonForPlayer, reasonsOf } = await page('player/reason.js');
+const { reasonForPlayer, reasonsOf, refusalForPlayer } = await page('player/reason.js');
 const { applyPatches } = await page('../core/script/patches.js');
 const { bytesOfPieces } = await page('../core/bytes.js');
 const { isPatched, scriptFor } = await page('save/patch_job.js');
@@ -66,6 +66,15 @@ test('each reason that refuses a place has its own words', () => {
     assert.deepEqual(words.map(it => it.split('. ')[0]), ['2 of 9 places hold other bytes', '1 of 9 places is damaged',
         '1 of 9 places holds no data here', '1 of 9 places is not in this image']);
     assert.deepEqual(reasonsOf(2, [2]).filter(it => it.includes('release')), []);
+});
+
+test('an image with other bytes may have an older version of the patch, if it is as long as the author’s', () => {
+    const older = 'Or an older version of this patch has changed it: choose the original image.';
+    const words = (refused, size) => refusalForPlayer({ patches: 9, refused }, size, 2352);
+    assert.deepEqual(words([5, 5], 2352), [...reasonsOf(9, [5, 5]), older]);
+    for (const [refused, size] of [[[5, 5], 4704], [[5, 4], 2352], [[5, 1], 2352], [[2], 2352]]) {
+        assert.deepEqual(words(refused, size), reasonsOf(9, refused));
+    }
 });
 
 globalThis.Node = class {};

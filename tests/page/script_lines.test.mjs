@@ -5,6 +5,7 @@ import { test } from 'node:test';
 import { MESSAGES } from '../lib/messages.mjs';
 import { calls, core, page } from './page.mjs';
 
+const { linesGivingWay } = await core('script/merge_lines.js');
 const { modelInParts } = await core('script/model.js');
 const { ReplacedFiles } = await page('app/replaced_files.js');
 const { ScriptLines } = await page('app/script_lines.js');
@@ -233,4 +234,18 @@ test('what an import or a replacement made gives way where it is met in part, an
     lines.noteSaved();
     assert.deepEqual(lines.merge(['set 5 2 4242 was 2020']), { added: 0, replaced: 0, same: 1 });
     assert.ok(lines.isSaved());
+});
+
+test('lines that give way to others are found in their order, and taken out by one edit', () => {
+    const lines = linesOf('cdpatch 1\n# mine\nfill 5 0 3 00\n');
+    lines.add(['set 6 1 4141 was 2020'], '');
+    lines.add(['set 5 0 41 was 20', 'set 6 3 42 was 20', 'set 7 0 43 was 20'], 'bytes');
+    const found = linesGivingWay(lines, ['set 6 2 2020 was 2020', 'set 5 0 202020 was 202020'], ({ text }) => lines.made.has(text));
+    assert.deepEqual(found.map(({ number }) => number), [4, 5, 6]);
+    const before = lines.text();
+    assert.equal(lines.remove(new Set(found.map(({ text }) => text))), 3);
+    assert.equal(lines.text(), 'cdpatch 1\n# mine\nfill 5 0 3 00\nset 7 0 43 was 20\n');
+    assert.equal(lines.remove(new Set(['set 9 9 41'])), 0);
+    lines.undo();
+    assert.equal(lines.text(), before);
 });

@@ -2,11 +2,12 @@
 
 from collections.abc import Callable
 from pathlib import Path
+from typing import Any
 
 import common
 import discs
+from keys import Keys
 from pages import PICKER, PageTest, applied, patcher
-from selenium.webdriver.common.keys import Keys
 
 NAME = 'Hoshizora Tantei (Japan).bin'
 FAULTY = ('cdpatch 1\n# Starlit Detective: English, version 1.2\n# title screen\nset {0} 26 537461727420202 was 8358835E815B8367\n'
@@ -67,7 +68,7 @@ class States(PageTest):
     def sheet(self, files: dict[str, Path]) -> Path:
         """The cue sheet of the image `game`."""
         cue = files['game'].with_suffix('.cue')
-        cue.write_text(f'FILE "{NAME}" BINARY\n  TRACK 01 MODE1/2352\n    INDEX 01 00:00:00\n')
+        cue.write_text(discs.sheet_of(**{NAME.removesuffix('.bin'): discs.DATA}))
         return cue
 
     def begin(self, image: bytes, script: str = '') -> dict[str, Path]:
@@ -159,8 +160,7 @@ class States(PageTest):
         """A disc of three tracks, of which one is not here."""
         files = self.place(game=discs.game(), t2=bytes(2352 * 300))
         sheet = files['t2'].with_name('Hoshizora Tantei (Japan).cue')
-        kinds = ((NAME, 'MODE1/2352'), ('t2.bin', 'AUDIO'), ('Hoshizora Tantei (Japan) (Track 3).bin', 'AUDIO'))
-        sheet.write_text(''.join(f'FILE "{name}" BINARY\n  TRACK 0{i + 1} {kind}\n    INDEX 01 00:00:00\n' for i, (name, kind) in enumerate(kinds)))
+        sheet.write_text(discs.sheet_of(**{'Hoshizora Tantei (Japan)': discs.DATA, 't2': 'AUDIO', 'Hoshizora Tantei (Japan) (Track 3)': 'AUDIO'}))
         self.open_files(sheet, files['game'], files['t2'])
         self.wait_for_hash()
         self.browser.wait('#disc-line', '2 audio tracks')
@@ -219,9 +219,7 @@ class States(PageTest):
     def to_close_asked(self) -> None:
         """An image is closed while work would be lost."""
         self.begin(discs.game())
-        self.browser.click('#tab-script')
-        self.browser.click('.editor textarea')
-        self.browser.press(Keys.ARROW_DOWN, 'rebuild 1')
+        self.edit(Keys.ARROW_DOWN, 'rebuild 1')
         self.press('Close')
         self.browser.wait('#sheet', 'Close it anyway')
 
@@ -254,10 +252,8 @@ class States(PageTest):
     def to_script_saving(self) -> None:
         """The patched image is being saved."""
         self.begin(discs.scratched(), discs.refused())
-        self.browser.run('chosen.hold()')
-        self.press('Apply and save')
+        self.begins('Apply and save')
         self.browser.wait('#panel-script .progress')
-        common.waited(lambda: self.browser.run('return chosen.begun > 0'), 'nothing is written')
 
     def to_script_saved(self) -> None:
         """It was saved, and its hashes are known."""
@@ -321,7 +317,7 @@ class States(PageTest):
         """The hits of a text, one of them to be replaced, and the bytes around it."""
         self.begin(discs.game(), discs.script())
         self.search('スタート')
-        common.waited(lambda: self.browser.run('return document.activeElement.id === "new-text"'), 'the new text has no focus')
+        self.wait_for_focus('#new-text')
         self.browser.press('Start')
 
     def to_text_long(self) -> None:
@@ -331,12 +327,12 @@ class States(PageTest):
 
     def to_text_added(self) -> None:
         """All hits were replaced: that is said beside the button."""
-        self.begin(discs.many_texts())
+        self.begin(discs.many_texts(1))
         self.search('スタート')
-        common.waited(lambda: self.browser.run('return document.activeElement.id === "new-text"'), 'the new text has no focus')
+        self.wait_for_focus('#new-text')
         self.browser.press('Start')
         self.press('Replace all')
-        self.browser.wait('[aria-label=Replace] .say.good', '400 lines added to the script.')
+        self.browser.wait('[aria-label=Replace] .say.good', '100 lines added to the script.')
 
     def to_text_none(self) -> None:
         """No hit: what was searched, and what else it may be."""
@@ -344,10 +340,14 @@ class States(PageTest):
         self.search('存在しない')
         self.browser.wait('#panel-text .say', 'No hit')
 
-    def table(self, fresh: dict[int, str]) -> None:
-        """Imports the table of all texts, with new ones in rows of these numbers."""
+    def table(self, fresh: dict[int, str]) -> Path:
+        """Opens an image, and imports the table of its texts, with new ones in rows of these numbers."""
         image = self.begin(told())['game']
         self.browser.click('#tab-text')
+        self.import_table(image, fresh)
+        return image
+
+    def import_table(self, image: Path, fresh: dict[int, str]) -> None:
         path = image.with_name('texts.tsv')
         path.write_text(with_new(common.cdscript_prints('texts', image), fresh))
         self.browser.give('#panel-text input[accept^=".tsv"]', [path])
@@ -370,6 +370,13 @@ class States(PageTest):
         self.browser.wait('#panel-text h2', '2 rows do not fit')
         self.press('3')
         self.browser.wait('#panel-text .hex.around')
+
+    def to_texts_withdrawn(self) -> None:
+        """A table without the new texts of lines that an earlier one made."""
+        image = self.table({2: 'The game starts.', 3: 'Save?'})
+        self.browser.wait('#panel-text .say.good', 'All 2 new texts fit.')
+        self.import_table(image, {2: 'The game starts.'})
+        self.browser.wait('#panel-text .say.warn', 'The table has no new text for line 3 of the script.')
 
     # ---- publishing, and the page of a patcher
 
@@ -427,10 +434,8 @@ class States(PageTest):
     def to_player_saving(self) -> None:
         """The patched image is being saved."""
         self.to_player_right()
-        self.browser.run('chosen.hold()')
-        self.press('Patch and save')
+        self.begins('Patch and save')
         self.browser.wait('#player .progress')
-        common.waited(lambda: self.browser.run('return chosen.begun > 0'), 'nothing is written')
 
     def to_player_done(self) -> None:
         """It was saved, and the cue sheet is the last step."""
@@ -472,6 +477,12 @@ class States(PageTest):
     def to_note_proved(self) -> None:
         """What is proved, and what is not."""
         self.note('proved')
+
+
+def each_state(kind: type[States], judge: Callable[[Any, str], None], step: int = 1) -> None:
+    """Gives a class a test of each state, or of one in so many."""
+    for name in list(all_states())[::step]:
+        setattr(kind, f'test_{name}', lambda self, name=name: judge(self, name))
 
 
 def all_states() -> dict[str, Callable[[States], None]]:

@@ -4,8 +4,8 @@ from collections.abc import Callable
 
 import discs
 from common import waited
+from keys import Keys
 from pages import BUTTON
-from selenium.webdriver.common.keys import Keys
 from states import States
 
 # What has the focus, by its name for screen readers.
@@ -50,9 +50,9 @@ class Access(States):
 
     def test_the_focus_stays_in_a_sheet_while_it_asks(self) -> None:
         self.to_second_asked()
-        self.assertEqual(self.has_focus(), 'Repair Hoshizora Tantei (Japan).bin from it')
-        swap = 'Repair Hoshizora Tantei (Japan) (Alt).bin from Hoshizora Tantei (Japan).bin'
-        self.assertEqual(self.browser.tab_stops(8), [swap, 'Compare', 'Open it instead', 'Cancel'])
+        main, swap = 'Repair Hoshizora Tantei (Japan).bin from it', 'Repair Hoshizora Tantei (Japan) (Alt).bin from Hoshizora Tantei (Japan).bin'
+        self.assertEqual(self.has_focus(), main)
+        self.assertEqual(self.browser.tab_stops(8), [swap, 'Compare', 'Open it instead', 'Cancel', main])
 
     def test_the_focus_goes_back_to_the_word_when_its_note_closes(self) -> None:
         self.begin(discs.game(), discs.script())
@@ -73,7 +73,6 @@ class Access(States):
                 self.browser.click(f'[popovertarget={name}]:not([popovertargetaction])')
                 self.browser.click(f'#{name} .shut')
                 self.assertFalse(self.browser.run('return document.querySelector(":popover-open") !== null'), f'{name} at {width}')
-        self.browser.size(1280)
 
     def test_a_finger_beside_a_note_closes_it_and_presses_nothing(self) -> None:
         browser = self.browser
@@ -86,4 +85,3 @@ class Access(States):
             browser.cdp('Input.dispatchTouchEvent', type='touchEnd', touchPoints=[])
             waited(lambda: not browser.run('return document.querySelector(":popover-open") !== null'), 'the note stays')
             waited(lambda: browser.run('return asked') == asked, f'the job is pressed, and not {asked} times')
-        browser.size(1280)

@@ -67,14 +67,12 @@ class Actions(PageTest):
     def written(self) -> dict[str, Path]:
         files = discs.written(game=discs.game(), scratched=discs.scratched(), changed=changed(), english=discs.script())
         files['cue'] = files['game'].with_suffix('.cue')
-        files['cue'].write_text('FILE "game.bin" BINARY\n  TRACK 01 MODE1/2352\n    INDEX 01 00:00:00\n')
+        files['cue'].write_text(discs.sheet_of(game=discs.DATA))
         return files
 
     def test_a_player_takes_three(self) -> None:
         files = self.written()
-        page = common.folder('patcher') / 'starlit.html'
-        page.write_bytes(patcher(discs.game(), changed(), discs.script()))
-        self.browser.open(page)
+        self.browser.open(self.written_page(patcher(discs.game(), changed(), discs.script())))
         self.browser.wait('#player h1')
         self.chooses('Choose the image', files['cue'], files['game'], field='#player-files')
         self.presses('Patch and save')
@@ -153,12 +151,12 @@ class Actions(PageTest):
         self.chooses('Translate a disc', image)
         self.wait_for_hash()
         self.presses('Export texts')
-        table = self.browser.downloaded('game (texts).tsv')
-        self.browser.wait('#panel-text .say.good', 'Saved: game (texts).tsv')
+        table = self.browser.downloaded('game (texts).csv')
+        self.browser.wait('#panel-text .say.good', 'Saved: game (texts).csv')
         head, *rows = common.waited(table.read_text, 'the table is empty').splitlines()
         told = [row for row in rows if '章' in row]
         self.assertEqual(len(told), 300)
-        mine = common.folder('table') / 'mine.tsv'
+        mine = common.folder('table') / 'mine.csv'
         mine.write_text('\n'.join([head, *(f'{row}text {number}' for number, row in enumerate(told)), '']))
         self.chooses('Import a table', mine, field='#panel-text input[accept^=".tsv"]')
         self.browser.wait('#panel-text .say.good', 'All 300 new texts fit.')

@@ -5,8 +5,8 @@ from pathlib import Path
 import common
 import discs
 from chromium import WIDTHS
+from keys import Keys
 from pages import PICKER, UNSEEN, PageTest, patcher
-from selenium.webdriver.common.keys import Keys
 
 # How many bytes of the file `other.bin` the page reads by itself, and how many pieces of it workers are given.
 WATCHED = '''Object.assign(globalThis, { bytes: 0, pieces: 0 });
@@ -23,9 +23,6 @@ Worker.prototype.postMessage = function (message, ...given) {
 
 class Asked(PageTest):
     stub = PICKER
-
-    def tearDown(self) -> None:
-        self.browser.size(1280)
 
     def begin(self, first: bytes, second: bytes) -> dict[str, Path]:
         files = discs.written(game=first, other=second, english=discs.script())
@@ -120,9 +117,7 @@ class Asked(PageTest):
 
     def test_unsaved_work_is_asked_about_before_an_image_is_closed(self) -> None:
         self.begin(discs.game(), discs.game())
-        self.browser.click('#tab-script')
-        self.browser.click('.editor textarea')
-        self.browser.press(Keys.ARROW_DOWN, 'rebuild 1')
+        self.edit(Keys.ARROW_DOWN, 'rebuild 1')
         self.browser.click('#tab-publish')
         self.browser.type('#patcher-title', 'Mine')
         self.close()
@@ -138,9 +133,7 @@ class Asked(PageTest):
     def test_an_image_is_not_closed_while_it_is_saved(self) -> None:
         files = self.begin(discs.game(), discs.game())
         self.open_script(files['english'])
-        self.browser.run('chosen.hold()')
-        self.press('Apply and save')
-        common.waited(lambda: self.browser.run('return chosen.begun > 0'), 'nothing is written')
+        self.begins('Apply and save')
         self.close()
         self.browser.wait('#messages .say.warn', 'An image is being saved.')
         self.browser.run('chosen.release()')
@@ -161,7 +154,6 @@ class Asked(PageTest):
             self.assertLessEqual(self.browser.run(UNSEEN, '#drop-says'), 0, width)
             self.drag('dragCancel', [file])
             common.waited(lambda: self.browser.run('return document.querySelector("#drop-says").hidden'), 'it says it still')
-        self.browser.size(1280)
 
     def test_what_a_drop_does_is_said_before_it(self) -> None:
         files = discs.written(game=discs.game(), other=discs.scratched(), english=discs.script())
@@ -172,13 +164,9 @@ class Asked(PageTest):
         self.open_script(files['english'])
         self.says('A script: it is opened in place of the one that is open, and checked.', files['english'])
         self.browser.wait('#panel-script .say.good')
-        self.browser.run('chosen.hold()')
-        self.press('Apply and save')
-        common.waited(lambda: self.browser.run('return chosen.begun > 0'), 'nothing is written')
+        self.begins('Apply and save')
         self.says('An image is being saved: nothing is opened before that has ended.', files['other'])
         self.browser.run('chosen.release()')
-        page = common.folder('patcher') / 'starlit.html'
-        page.write_bytes(patcher(discs.game(), discs.game(), discs.script()))
-        self.browser.open(page)
+        self.browser.open(self.written_page(patcher(discs.game(), discs.game(), discs.script())))
         self.browser.wait('#player h1')
         self.says('Drop your disc image: it is checked, and not changed.', files['game'])

@@ -8,12 +8,9 @@ import decoders
 import discs
 import marionette
 import webkit
-from pages import BUTTON, NO_PICKER, applied, patcher
+from pages import NO_PICKER, applied, patcher
 
 Browser = marionette.Firefox | webkit.WebKit
-
-# WebKit of 2022 has no checkVisibility.
-PRESS = f'{BUTTON.replace("it.checkVisibility()", "it.offsetParent !== null")}.click()'
 
 
 class Browsers(unittest.TestCase):
@@ -81,7 +78,6 @@ class Browsers(unittest.TestCase):
             self.press(browser, 'Back to Check')
         self.assertLess(browser.memory() - before, 100e6)
 
-    @common.wants('WebKitWebDriver', 'webkit2gtk-driver')
-    @common.wants('Xvfb', 'xvfb')
+    @webkit.wanted
     def test_webkit_opens_audits_applies_and_plays(self) -> None:
         self.whole(webkit.WebKit())

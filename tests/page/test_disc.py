@@ -3,7 +3,6 @@
 import math
 import random
 import subprocess
-import unittest
 import zipfile
 import zlib
 from pathlib import Path
@@ -11,24 +10,12 @@ from pathlib import Path
 import chromium
 import discs
 from common import PAGE, SECTOR_SIZE, TOP, Server, damaged, folder, image_of, run_program, sector, sha1, waited
+from keys import Keys
+from pages import CLIPBOARD, HELD, PageTest
 from sector import SYNC
-from selenium.webdriver.common.action_chains import ActionChains
-from selenium.webdriver.common.keys import Keys
 
 VERDICT = '#disc-line .lead'
 SECTORS = len(discs.game()) // SECTOR_SIZE
-
-# What workers are given to survey waits until `letGo` posts so many of it, or all and what comes later.
-HELD = '''const { postMessage } = Worker.prototype; Object.assign(globalThis, { waiting: [], holds: true });
-Worker.prototype.postMessage = function (...given) {
-    const post = () => postMessage.apply(this, given);
-    if (holds && given[0].pieces) waiting.push(post);
-    else post();
-};
-globalThis.letGo = (count = Infinity) => {
-    globalThis.holds = count < Infinity;
-    waiting.splice(0, count).forEach(post => post());
-};'''
 
 # Counts the bytes of files that the page reads, or has its workers read.
 READ = '''globalThis.bytesRead = 0;
@@ -67,17 +54,8 @@ def file_of(data: bytes, name: str = 'game.bin') -> Path:
     return path
 
 
-class Disc(unittest.TestCase):
-    browser: chromium.Chromium
-
-    @classmethod
-    def setUpClass(cls) -> None:
-        cls.browser = chromium.shared()
-
-    def setUp(self) -> None:
-        self.browser.open(PAGE)
-        self.browser.wait('#open-files')
-        self.browser.attempts()
+class Disc(PageTest):
+    stub = ''
 
     def opened(self, *paths: Path) -> chromium.Chromium:
         """The page, which was just opened, with these files, read to the end."""
@@ -92,19 +70,10 @@ class Disc(unittest.TestCase):
     def at(self) -> int:
         return int(self.browser.run("return document.querySelector('#map').getAttribute('aria-valuenow')"))
 
-    def wait_for_bytes(self) -> None:
-        """Until the bytes of the sector have the focus."""
-        name = "return document.activeElement.getAttribute('aria-label')"
-        waited(lambda: self.browser.run(name) == 'Bytes of the sector', 'no focus in the sector')
-
     def typed_script(self) -> str:
         """The script in its panel, as it is saved."""
         self.browser.click('#tab-script')
-        self.browser.run("[...document.querySelectorAll('#panel-script button')].find(it => it.innerText === 'Save script…').click()")
-        path = self.browser.downloaded('script.txt')
-        text = str(waited(path.read_text, 'the script is empty'))
-        path.unlink()
-        return text
+        return self.script_text()
 
     # ---- opening
 
@@ -135,14 +104,11 @@ class Disc(unittest.TestCase):
         music.write_bytes(random.Random(4).randbytes(500 * SECTOR_SIZE))
         second.write_bytes(image_of([b'second', b'track'] * 40, base=680 + 150))
         sheet = place / 'game.cue'
-        tracks = ((1, first, 'MODE1/2352'), (2, music, 'AUDIO'), (3, second, 'MODE1/2352'))
-        sheet.write_text(''.join(f'FILE "{path.name}" BINARY\n  TRACK {number:02} {kind}\n    INDEX 01 00:00:00\n'
-                                 for number, path, kind in tracks))
+        sheet.write_text(discs.sheet_of(**{first.stem: discs.DATA, music.stem: 'AUDIO', second.stem: discs.DATA}))
         browser = self.opened(sheet, music, second, first)
         self.assertIn('game.cue', browser.text('#disc-line'))
         self.assertEqual(browser.text('#disc-line .name'), first.name)
-        browser.run('''const choice = document.querySelector('#disc-line select'); choice.value = '3';
-            choice.dispatchEvent(new Event('change'))''')
+        browser.choose('#disc-line select', '3')
         browser.wait('#disc-line .name', second.name)
         browser.wait(VERDICT, 'All 80 Mode 1 sectors are sound')
         self.assertEqual(browser.text('#disc-line dl dd').split()[0], '830')
@@ -150,8 +116,7 @@ class Disc(unittest.TestCase):
     def test_a_cue_sheet_by_itself_says_what_to_open(self) -> None:
         place = folder('cue')
         sheet = place / 'game.cue'
-        sheet.write_text(''.join(f'FILE "game (Track {i}).bin" BINARY\n  TRACK 0{i} {kind}\n    INDEX 01 00:00:00\n'
-                                 for i, kind in ((1, 'MODE1/2352'), (2, 'AUDIO'))))
+        sheet.write_text(discs.sheet_of(**{'game (Track 1)': discs.DATA, 'game (Track 2)': 'AUDIO'}))
         self.browser.give('#files', [sheet])
         self.browser.wait('.say.bad', 'game.cue also needs game (Track 1).bin, game (Track 2).bin.')
         self.assertIn('game (Track 1).bin, game (Track 2).bin', self.browser.text('.say.bad'))
@@ -174,7 +139,7 @@ class Disc(unittest.TestCase):
 
     def test_a_cue_sheet_says_which_files_it_does_not_name(self) -> None:
         sheet = folder('cue') / 'game.cue'
-        sheet.write_text('FILE "game.bin" BINARY\n  TRACK 01 MODE1/2352\n    INDEX 01 00:00:00\n')
+        sheet.write_text(discs.sheet_of(game=discs.DATA))
         browser = self.opened(sheet, file_of(discs.game()), file_of(scratched(), 'other.bin'))
         browser.wait('#messages', 'Not opened: other.bin.')
         self.assertIn('The cue sheet does not name it: game.cue.', browser.text('#messages'))
@@ -190,14 +155,14 @@ class Disc(unittest.TestCase):
 
     def test_an_image_of_audio_is_shown(self) -> None:
         audio = random.Random(4).randbytes(500 * SECTOR_SIZE)
-        sheet = file_of(b'FILE "game.bin" BINARY\n  TRACK 01 AUDIO\n    INDEX 01 00:00:00\n', 'game.cue')
+        sheet = file_of(discs.sheet_of(game='AUDIO').encode(), 'game.cue')
         for sheets in ((), (sheet,)):
             with self.subTest(sheets=len(sheets)):
                 self.setUp()
                 browser = self.opened(file_of(audio), *sheets)
                 browser.wait(VERDICT, 'There is no Mode 1 sector here')
                 browser.wait('.sha1', sha1(audio))
-                browser.find('#map').send_keys(Keys.END)
+                browser.send('#map', Keys.END)
                 waited(lambda: self.place() == 'Block 499, no sync field: audio, or nothing that is known', self.place())
 
     def test_more_images_than_one_beside_the_open_one_are_refused(self) -> None:
@@ -228,10 +193,20 @@ class Disc(unittest.TestCase):
     def test_all_hashes_are_copied(self) -> None:
         browser = self.opened(file_of(discs.game()))
         browser.wait('.sha1', sha1(discs.game()))
-        browser.run('navigator.clipboard.writeText = async text => { globalThis.copied = text; }')
-        browser.run("[...document.querySelectorAll('#disc-line button')].find(it => it.innerText === 'Copy all hashes').click()")
+        browser.run(CLIPBOARD)
+        self.press('Copy all hashes')
         lines = ['game.bin', f'size {len(discs.game())}', f'CRC-32 {zlib.crc32(discs.game()):08x}', f'SHA-1 {sha1(discs.game())}', '']
         self.assertEqual(browser.run('return globalThis.copied'), '\n'.join(lines))
+
+    def test_an_image_is_opened_without_the_characters_of_an_encoding(self) -> None:
+        self.browser.run('''globalThis.labels = [];
+            const { TextDecoder } = globalThis;
+            globalThis.TextDecoder = function (label, ...given) {
+                labels.push(label);
+                return new TextDecoder(label, ...given);
+            }''')
+        self.open_image(file_of(discs.game()))
+        self.assertNotIn('shift_jis', self.browser.run('return labels'))
 
     def test_the_style_is_that_of_the_sources(self) -> None:
         """What esbuild squeezes has the same rules."""
@@ -252,7 +227,7 @@ class Disc(unittest.TestCase):
         browser = self.opened(path)
         browser.wait('.sha1', sha1(discs.game()))
         path.write_bytes(bytes(100))
-        browser.find('#map').send_keys(Keys.END)
+        browser.send('#map', Keys.END)
         browser.wait('.say.bad', 'cannot be read any more')
         self.assertIn('game.bin', browser.text('.say.bad'))
 
@@ -320,11 +295,11 @@ class Disc(unittest.TestCase):
         browser.run('letGo(4)')
         waited(lambda: browser.text(VERDICT) != shown, 'the disc is not read')
         self.assertEqual(browser.run('return kept.map(it => it.isConnected)'), [True, True])
-        ActionChains(browser.driver).click_and_hold(browser.find('#disc-line .change')).perform()
+        change = browser.hold('document.querySelector("#disc-line .change")')
         browser.run('letGo()')
         browser.wait('#disc-line .sha1')
         self.assertTrue(browser.run('return document.activeElement === kept[1]'))
-        ActionChains(browser.driver).release().perform()
+        browser.mouse('Released', change)
         browser.wait('#disc-line #base')
 
     # ---- the map
@@ -374,7 +349,6 @@ class Disc(unittest.TestCase):
     def test_one_bad_sector_among_many_is_seen_and_met_by_a_click(self) -> None:
         block = 17000
         self.browser.size(360)
-        self.addCleanup(self.browser.size, 1280)
         other = SYNC + bytes([0, 2, 0, 2]) + bytes(SECTOR_SIZE - 16)
         image = other * block + damaged(sector(block, b'bad'), 0) + other * 8000
         browser = self.opened(file_of(image))
@@ -390,7 +364,7 @@ class Disc(unittest.TestCase):
                 const place = { clientX: box.left + arguments[0] + 0.5, clientY: box.top + arguments[1] + 0.5 };
                 map.dispatchEvent(new MouseEvent('click', place))''', x, y)
             self.assertEqual(self.at(), block)
-            browser.find('#map').send_keys(Keys.HOME)
+            browser.send('#map', Keys.HOME)
 
     def test_the_legend_shows_one_kind_alone(self) -> None:
         browser = self.opened(file_of(scratched()))
@@ -453,15 +427,12 @@ class Disc(unittest.TestCase):
         image = discs.game()
         browser = self.opened(file_of(image))
         block = discs.first_block()
-        browser.press('g')
-        browser.type('#go-to', f'{block}\n')
-        browser.wait('#sector-title', f'block {block}')
+        self.go_to(block)
         digits = browser.run("return [...document.querySelectorAll('.hex i[data-at]')].map(it => it.innerText).join('')")
         self.assertEqual(bytes.fromhex(digits), image[block * SECTOR_SIZE:(block + 1) * SECTOR_SIZE])
         self.assertIn('スタート', browser.text('.hex'))
         browser.wait('#panel-disc .foot', 'file /DATA/MSG00.DAT at 0')
-        browser.run('''const choice = document.querySelector('#panel-disc select'); choice.value = 'UTF-16BE';
-            choice.dispatchEvent(new Event('change'))''')
+        browser.choose('#panel-disc select', 'UTF-16BE')
         waited(lambda: 'スタート' not in browser.text('.hex'), 'the encoding stays')
 
     def test_the_bytes_are_outlined_where_broken_columns_and_diagonals_cross(self) -> None:
@@ -476,11 +447,7 @@ class Disc(unittest.TestCase):
         image = discs.game()
         path = file_of(image)
         browser = self.opened(path)
-        browser.press('g')
-        browser.type('#go-to', '60\n')
-        browser.wait('#sector-title', 'block 60')
-        browser.find('#map').send_keys(Keys.ENTER)
-        self.wait_for_bytes()
+        self.go_into(60)
         browser.press(Keys.ARROW_DOWN, 'c', '0', 'f', 'f')
         browser.press(Keys.ARROW_LEFT, '1', '2')
         browser.press(Keys.ARROW_DOWN, '3', '4')
@@ -497,11 +464,7 @@ class Disc(unittest.TestCase):
 
     def test_bytes_that_were_typed_are_taken_back(self) -> None:
         browser = self.opened(file_of(discs.game()))
-        browser.press('g')
-        browser.type('#go-to', '60\n')
-        browser.wait('#sector-title', 'block 60')
-        browser.find('#map').send_keys(Keys.ENTER)
-        self.wait_for_bytes()
+        self.go_into(60)
         browser.press('c', '0', 'f', 'f', Keys.ARROW_DOWN, '3', '4', '5')
         browser.press('z', held=Keys.CONTROL)
         browser.press('z', held=Keys.CONTROL)
@@ -515,11 +478,7 @@ class Disc(unittest.TestCase):
     def test_a_byte_that_is_typed_twice_keeps_what_was_there_first(self) -> None:
         image = discs.game()
         browser = self.opened(file_of(image))
-        browser.press('g')
-        browser.type('#go-to', '61\n')
-        browser.wait('#sector-title', 'block 61')
-        browser.find('#map').send_keys(Keys.ENTER)
-        self.wait_for_bytes()
+        self.go_into(61)
         browser.press('a', 'a', Keys.ARROW_LEFT, 'b', 'b')
         old = image[61 * SECTOR_SIZE + 16]
         self.assertEqual(self.typed_script(), f'cdpatch 1\nset 61 0 BB was {old:02X}\n')
@@ -528,17 +487,15 @@ class Disc(unittest.TestCase):
         browser = self.opened(file_of(damaged(discs.game(), 50, 75)))
         browser.press('n')
         browser.wait('.foot', 'This sector is damaged: Check refuses the change, unless damaged sectors are patched too (carry)')
-        browser.press('g')
-        browser.type('#go-to', '60\n')
-        browser.wait('#sector-title', 'block 60')
+        self.go_to(60)
         waited(lambda: 'This sector is damaged' not in browser.text('.foot'), 'a sound sector is called damaged')
 
     def test_parity_cannot_be_typed_over(self) -> None:
         browser = self.opened(file_of(discs.game()))
-        browser.find('#map').send_keys(Keys.ENTER)
+        browser.send('#map', Keys.ENTER)
         browser.wait('.fields')
         browser.run("[...document.querySelectorAll('.fields button')].find(it => it.innerText.startsWith('P parity')).click()")
-        browser.find('.hex').send_keys('00')
+        browser.send('.hex', '00')
         self.assertIn('Only the user data', browser.text('#announced'))
         self.assertEqual(browser.run("return document.querySelector('#count-script').hidden"), True)
 

@@ -12,8 +12,8 @@ STOPS = "return document.querySelectorAll('#findings-body [tabindex=\"0\"], #fin
 
 
 def many() -> bytes:
-    """An image of 900 files."""
-    return common.image_of(common.iso_of({f'DIR{i // 100}/FILE{i:03}.DAT': b'file %d' % i for i in range(900)}))
+    """An image of 420 files."""
+    return common.image_of(common.iso_of({f'DIR{i // 100}/FILE{i:03}.DAT': b'file %d' % i for i in range(420)}))
 
 
 class Files(PageTest):
@@ -64,7 +64,7 @@ class Files(PageTest):
         image = self.begin(many())
         printed = common.cdscript_prints('files', image)
         names = [line.split('\t')[2] for line in printed.splitlines()]
-        self.assertEqual(self.browser.text('#findings [data-tab=files]'), 'Files 900')
+        self.assertEqual(self.browser.text('#findings [data-tab=files]'), 'Files 420')
         self.assertEqual(len(self.shown()), 200)
         self.assertEqual(self.browser.run(STOPS), 1)
         self.browser.run("document.querySelector('#findings .files tbody tr:nth-child(3)').mine = true")
@@ -72,9 +72,9 @@ class Files(PageTest):
         self.assertTrue(self.browser.run("return document.querySelector('#findings .files tbody tr:nth-child(3)').mine"))
         self.press('Next')
         self.assertEqual([row.split(' ')[0] for row in self.shown()], names[200:400])
-        self.assertIn('201–400 of 900', self.browser.text('#findings'))
-        self.browser.type('#files-filter', 'dir8/file89')
-        self.assertEqual([row.split(' ')[0] for row in self.shown()], [name for name in names if '/DIR8/FILE89' in name])
+        self.assertIn('201–400 of 420', self.browser.text('#findings'))
+        self.browser.type('#files-filter', 'dir4/file41')
+        self.assertEqual([row.split(' ')[0] for row in self.shown()], [name for name in names if '/DIR4/FILE41' in name])
         self.browser.type('#files-filter', 'nothing')
         self.assertEqual(self.shown(), ['No name has this in it.'])
 

@@ -112,8 +112,7 @@ class Harness(unittest.TestCase):
         self.addCleanup(browser.quit)
         self.choose_and_save(browser, *files())
 
-    @common.wants('WebKitWebDriver', 'webkit2gtk-driver')
-    @common.wants('Xvfb', 'xvfb')
+    @webkit.wanted
     def test_webkit_takes_chosen_files_and_saves(self) -> None:
         browser = webkit.WebKit()
         self.addCleanup(browser.quit)

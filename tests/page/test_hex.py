@@ -3,11 +3,9 @@
 import chromium
 import discs
 from common import SECTOR_SIZE, damaged, waited
-from pages import PageTest
-from selenium.webdriver.common.action_chains import ActionChains
-from selenium.webdriver.common.keys import Keys
+from keys import Keys
+from pages import CLIPBOARD, PageTest
 
-CLIPBOARD = 'navigator.clipboard.writeText = async text => { globalThis.copied = text; };'
 
 # How many rows the tools of a sector take.
 TOOL_ROWS = '''const tools = [...document.querySelector('#go-to').closest('header').querySelectorAll('input, select, button')];
@@ -21,11 +19,7 @@ class Hex(PageTest):
         """Opens a sector of an image, whose bytes get the focus."""
         browser = self.browser
         self.open_image(discs.written(game=image)['game'])
-        browser.find('#map').send_keys('g')
-        browser.type('#go-to', f'{block}\n')
-        browser.wait('#sector-title', f'block {block}')
-        browser.find('#map').send_keys(Keys.ENTER)
-        waited(lambda: self.browser.run("return document.activeElement === document.querySelector('.hex')"), 'no focus in the sector')
+        self.go_into(block)
         return browser
 
     def selected(self) -> list[int]:
@@ -80,8 +74,11 @@ class Hex(PageTest):
 
     def drag(self, first: int, last: int) -> None:
         """Selects from one user byte to another with the mouse."""
-        cells = [self.browser.find(f'#byte-{16 + at}') for at in (first, last)]
-        ActionChains(self.browser.driver).click_and_hold(cells[0]).move_to_element(cells[1]).release().perform()
+        byte = 'document.querySelector(`#byte-${given[0]}`)'
+        self.browser.hold(byte, 16 + first)
+        place = self.browser.point(byte, 16 + last)
+        self.browser.mouse('Moved', place)
+        self.browser.mouse('Released', place)
 
     def test_bytes_are_pasted_and_texts_are_typed(self) -> None:
         image = discs.game()
@@ -113,7 +110,6 @@ class Hex(PageTest):
         for width in (1280, 900):
             self.browser.size(width)
             self.assertEqual(self.browser.run(TOOL_ROWS), [1, 3], width)
-        self.browser.size(1280)
 
     def test_the_keys_stand_over_the_bytes_in_one_line(self) -> None:
         browser = self.sector_of(discs.first_block(), discs.game())
@@ -146,7 +142,6 @@ class Hex(PageTest):
         x, y = browser.run('const { left, top } = document.querySelector(".hex").getBoundingClientRect(); return [left + 200, top + 40]')
         browser.cdp('Input.dispatchMouseEvent', type='mouseWheel', x=x, y=y, deltaX=0, deltaY=200)
         waited(lambda: browser.run('return scrollY') > 50, 'the page stands still')
-        browser.size(1280)
 
     def test_offsets_are_shown_in_hexadecimal_too(self) -> None:
         browser = self.sector_of(60, discs.game())

@@ -4,8 +4,8 @@ from pathlib import Path
 
 import common
 import discs
-from pages import GATE, PICKER, PageTest, applied, patcher
-from selenium.webdriver.common.keys import Keys
+from keys import Keys
+from pages import GATE, HELD, PICKER, PageTest, applied, patcher
 
 
 def repairable() -> tuple[bytes, bytes]:
@@ -22,12 +22,6 @@ class Kept(PageTest):
 
     def state(self) -> str:
         return str(self.browser.run('return chosen.state'))
-
-    def begins(self, button: str) -> None:
-        """Presses a button that saves, and waits until a write is held."""
-        self.browser.run('chosen.hold()')
-        self.press(button)
-        common.waited(lambda: self.browser.run('return chosen.begun > 0'), 'nothing is written')
 
     def repairs(self) -> dict[str, Path]:
         """Opens two dumps, and begins to save the repaired one."""
@@ -76,7 +70,7 @@ class Kept(PageTest):
         self.press('Set the base')
         self.browser.wait('#disc-line form', 'Set it only if a script or a list counts the blocks of this file from another number.')
         self.press('Set')
-        self.assertEqual(self.browser.text('#disc-line .name'), 'first.bin')
+        self.browser.wait('#disc-line .name', 'first.bin')
         self.browser.wait('#second-title', 'second.bin')
         self.browser.wait('#second-body .progress')
         self.ends_well(discs.game())
@@ -85,14 +79,14 @@ class Kept(PageTest):
         first, second = repairable()
         files = discs.written(first=first, later=common.image_of([b'later'] * 300, base=900), second=second)
         cue = files['first'].with_name('disc.cue')
-        cue.write_text(''.join(f'FILE "{name}.bin" BINARY\n  TRACK 0{i} MODE1/2352\n    INDEX 01 00:00:00\n' for i, name in ((1, 'first'), (2, 'later'))))
+        cue.write_text(discs.sheet_of(first=discs.DATA, later=discs.DATA))
         self.open_files(cue, files['first'], files['later'])
         self.wait_for_hash()
         self.open_files(files['second'])
         self.browser.answer('Repair first.bin from it')
         self.browser.wait('.tally', 'can be repaired')
         self.begins('Save repaired image')
-        self.browser.run('const it = document.querySelector("#disc-line select"); it.value = "2"; it.dispatchEvent(new Event("change"))')
+        self.browser.choose('#disc-line select', '2')
         self.browser.wait('#messages .say.warn', 'An image is being saved.')
         self.assertEqual(self.browser.text('#disc-line .name'), 'first.bin')
         self.ends_well(discs.game())
@@ -106,9 +100,7 @@ class Kept(PageTest):
         self.ends_well(discs.game())
 
     def test_a_slow_choice_of_a_file_is_not_asked_for_twice(self) -> None:
-        files = discs.written(game=discs.game(), english=discs.script())
-        self.open_image(files['game'])
-        self.open_script(files['english'])
+        files = self.open_both(discs.game(), discs.script())
         self.browser.run('chosen.pickLater()')
         self.press('Apply and save')
         self.browser.wait('#panel-script .progress')
@@ -127,13 +119,11 @@ class Kept(PageTest):
         self.browser.click('#find-text')
         self.browser.press('a', Keys.ESCAPE)
         self.browser.click('#tab-disc')
-        self.browser.find('#map').send_keys(Keys.HOME, Keys.ENTER)
-        common.waited(lambda: self.browser.run('return document.activeElement.className === "hex"'), 'no focus in the sector')
+        self.browser.send('#map', Keys.HOME, Keys.ENTER)
+        self.wait_for_focus('.hex')
         self.browser.press(Keys.ESCAPE)
         self.browser.press(Keys.ESCAPE)
-        self.browser.click('#tab-script')
-        self.browser.click('.editor textarea')
-        self.browser.press(Keys.ESCAPE)
+        self.edit(Keys.ESCAPE)
         self.browser.wait('#panel-script .progress')
         self.assertNotIn('End the saving?', self.browser.text('#panel-script'))
         self.ends_well(applied(files['game'], files['english'])[2])
@@ -161,15 +151,13 @@ class Kept(PageTest):
 
     def test_escape_elsewhere_does_not_stop_the_reading_of_a_disc(self) -> None:
         game = discs.written(game=discs.game() * 60)['game']
-        self.browser.run('''const post = Worker.prototype.postMessage; globalThis.late = [];
-            Worker.prototype.postMessage = function (...given) { if (given[0].pieces) late.push(() => post.apply(this, given)); else post.apply(this, given); };
-            globalThis.goOn = () => { Worker.prototype.postMessage = post; late.forEach(it => it()); }''')
+        self.browser.run(HELD)
         self.open_files(game)
         self.browser.wait('#disc-line .lead', 'Reading the disc')
         self.browser.click('#tab-text')
         self.browser.click('#find-text')
         self.browser.press(Keys.ESCAPE)
-        self.browser.run('goOn()')
+        self.browser.run('letGo()')
         self.browser.click('#tab-disc')
         self.browser.wait('#disc-line .lead', 'Mode 1 sectors fit')
         self.wait_for_hash()
@@ -177,8 +165,7 @@ class Kept(PageTest):
     def test_no_patcher_is_opened_and_none_is_left_while_an_image_is_saved(self) -> None:
         files = self.patches()
         made = applied(files['game'], files['english'])[2]
-        page = common.folder('patcher') / 'starlit.html'
-        page.write_bytes(patcher(discs.game(), made, discs.script()))
+        page = self.written_page(patcher(discs.game(), made, discs.script()))
         self.browser.drop('#main', [page])
         self.browser.wait('#messages .say.warn', 'Not opened: starlit.html.')
         self.ends_well(made)
@@ -208,9 +195,7 @@ class Kept(PageTest):
 
     def test_a_script_that_was_only_shown_to_players_is_in_no_file(self) -> None:
         self.open_image(discs.written(game=discs.game())['game'])
-        self.browser.click('#tab-script')
-        self.browser.click('.editor textarea')
-        self.browser.press(Keys.ARROW_DOWN, f'set {discs.first_block()} 0 41')
+        self.edit(Keys.ARROW_DOWN, f'set {discs.first_block()} 0 41')
         self.browser.click('#tab-publish')
         self.browser.type('#patcher-title', 'Mine')
         self.browser.wait('#panel-publish', '1 change, which fits')
@@ -229,9 +214,7 @@ class Kept(PageTest):
         self.browser.wait('#panel-script header h2', 'New script')
         self.browser.click('#tab-text')
         self.browser.wait('#panel-text')
-        self.browser.click('#tab-script')
-        self.browser.click('.editor textarea')
-        self.browser.press('y', held=Keys.CONTROL)
+        self.edit('y', held=Keys.CONTROL)
         self.browser.wait('#panel-script header h2', 'english.txt')
 
     def test_an_undo_script_has_the_name_of_its_own_script(self) -> None:
@@ -273,9 +256,7 @@ class Kept(PageTest):
 
     def test_lines_that_are_being_made_keep_their_bar(self) -> None:
         self.open_image(discs.written(many=discs.many_texts())['many'])
-        self.browser.click('#tab-text')
-        self.browser.type('#find-text', 'スタート')
-        self.press('Find')
+        self.find()
         self.browser.wait('#panel-text .hits tbody tr:nth-child(200)', 'スタート')
         self.browser.type('#new-text', 'Start')
         self.browser.run(GATE)

@@ -6,12 +6,11 @@ import os
 import re
 import shutil
 import sys
-from collections.abc import Callable
 from pathlib import Path
 
 import common
 from pages import PICKER
-from states import States, all_states
+from states import States, all_states, each_state
 
 sys.path.insert(0, str(common.TOP / 'tools'))
 import pack  # noqa: E402
@@ -110,9 +109,4 @@ class Language(States):
         self.assertEqual([text for text in texts if re.search(f'[a-z]{{2}}(?!{MARK})', without_known(text))], [], 'stands in code')
 
 
-def judged(name: str) -> Callable[[Language], None]:
-    return lambda self: self.judge(name)
-
-
-for each in list(all_states())[::STEP]:
-    setattr(Language, f'test_{each}', judged(each))
+each_state(Language, Language.judge, STEP)

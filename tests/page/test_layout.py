@@ -23,15 +23,11 @@ FACTS = '''const dl = document.querySelector('#disc-line dl');
 class Layout(PageTest):
     stub = PICKER
 
-    def tearDown(self) -> None:
-        self.browser.size(1280)
-
     def judge(self, state: str) -> None:
         self.assertEqual(self.browser.misfits(*ALL_WIDTHS), {}, state)
         if 'PICTURES' in os.environ:
             for width in ALL_WIDTHS:
                 self.browser.picture(Path(os.environ['PICTURES']) / f"layout-{state.replace(' ', '-')}-{width}.png", width)
-            self.browser.size(1280)
 
     def begin(self, image: bytes, name: str = LONG_NAME) -> Path:
         path = common.folder('disc') / name
@@ -41,9 +37,7 @@ class Layout(PageTest):
         return path
 
     def search(self) -> None:
-        self.browser.click('#tab-text')
-        self.browser.type('#find-text', 'スタート')
-        self.press('Find')
+        self.find()
         self.browser.wait('#panel-text .hits tbody tr:nth-child(200)', 'スタート')
         self.browser.type('#new-text', 'Start')
 
@@ -97,9 +91,8 @@ class Layout(PageTest):
         self.judge('publish')
 
     def test_a_patcher_with_long_texts_makes_the_page_no_longer(self) -> None:
-        path = common.folder('patcher') / 'starlit.html'
-        path.write_bytes(patcher(discs.game(), discs.game(), discs.script(), title='The long ' * 20, note='All menus. ' * 200, name=LONG_NAME))
-        self.browser.open(path)
+        long = {'title': 'The long ' * 20, 'note': 'All menus. ' * 200, 'name': LONG_NAME}
+        self.browser.open(self.written_page(patcher(discs.game(), discs.game(), discs.script(), **long)))
         self.browser.wait('#player h1')
         self.browser.give('#player-files', [discs.written(game=discs.game())['game']])
         self.browser.wait('#verdict')
@@ -107,13 +100,13 @@ class Layout(PageTest):
 
     def test_a_long_name_leaves_room_for_the_facts_of_the_image(self) -> None:
         self.begin(discs.game())
-        for panel in ('disc', 'script'):
+        for panel, fact in (('disc', 'Mode 1'), ('script', 'SHA-1')):
             self.browser.click(f'#tab-{panel}')
+            self.browser.wait('#disc-line dl', fact)
             for width, most in ((1280, 1), (900, 1), (640, 2), (360, 3)):
                 self.browser.size(width)
                 rows, facts = self.browser.run(FACTS)
                 self.assertLessEqual(rows, most, f'{facts} facts in {rows} rows at {width} on {panel}')
-            self.browser.size(1280)
 
     def test_a_map_without_a_ruler_leaves_no_room_for_one(self) -> None:
         lefts = '''return ['#map', '.readout button'].map(css =>

@@ -3,27 +3,22 @@
 import common
 import discs
 from chromium import WIDTHS
-from pages import UNSEEN, PageTest
+from pages import CLIPBOARD, UNSEEN, PageTest
 
-CLIPBOARD = 'navigator.clipboard.writeText = async text => { globalThis.copied = text; };'
 # The words of the notes that are seen now, by their numbers among all.
 WORDS = '''return [...document.querySelectorAll('.term')].flatMap((it, i) => it.checkVisibility() && !it.closest('[popover]') ? i : [])'''
 # Opens the note of a word, and says how far it is from the word and how far out of the window.
-OPENED = '''const [number, done] = arguments, word = document.querySelectorAll('.term')[number];
+OPENED = '''const [number] = arguments, word = document.querySelectorAll('.term')[number];
     word.scrollIntoView({ block: 'end' });
     word.click();
-    requestAnimationFrame(() => {
-        const [note, box] = [document.querySelector(':popover-open').getBoundingClientRect(), word.getBoundingClientRect()];
-        document.querySelector(':popover-open').hidePopover();
-        const far = Math.max(note.top - box.bottom, box.top - note.bottom, note.left - box.right, box.left - note.right);
-        done([far, Math.max(-note.top, -note.left, note.bottom - innerHeight, note.right - innerWidth)]);
-    })'''
+    await new Promise(requestAnimationFrame);
+    const [note, box] = [document.querySelector(':popover-open').getBoundingClientRect(), word.getBoundingClientRect()];
+    document.querySelector(':popover-open').hidePopover();
+    const far = Math.max(note.top - box.bottom, box.top - note.bottom, note.left - box.right, box.left - note.right);
+    return [far, Math.max(-note.top, -note.left, note.bottom - innerHeight, note.right - innerWidth)];'''
 
 
 class Messages(PageTest):
-    def tearDown(self) -> None:
-        self.browser.size(1280)
-
     def is_seen(self, css: str, words: str) -> None:
         self.browser.wait(css, words)
         self.assertLessEqual(self.browser.run(UNSEEN, css), 0, words)
@@ -35,19 +30,16 @@ class Messages(PageTest):
 
     def search(self, image: bytes) -> None:
         self.open_image(discs.written(texts=image)['texts'])
-        self.browser.click('#tab-text')
-        self.browser.type('#find-text', 'スタート')
-        self.press('Find')
-        self.browser.wait('#panel-text .hits mark')
+        self.find()
         self.browser.type('#new-text', 'Start')
 
     def test_how_many_lines_were_added_is_said_in_the_replace_card(self) -> None:
         for width in WIDTHS:
             self.browser.size(width)
             self.setUp()
-            self.search(discs.many_texts())
+            self.search(discs.many_texts(1))
             self.press('Replace all')
-            self.is_seen('[aria-label=Replace] .say.good', '400 lines added to the script.')
+            self.is_seen('[aria-label=Replace] .say.good', '100 lines added to the script.')
         self.browser.click('#tab-script')
         self.browser.click('#tab-text')
         self.is_gone('#panel-text .say.good')
@@ -84,6 +76,7 @@ class Messages(PageTest):
 
     def copies(self, css: str, label: str, begins: str) -> None:
         """A button copies, says so, and has its own label again; also if it is drawn anew meanwhile."""
+        self.browser.wait(css)
         box = 'const { x, y, width, height } = document.querySelector(arguments[0]).getBoundingClientRect(); return [x + scrollX, y + scrollY, width, height]'
         self.browser.run('copied = ""')
         before = self.browser.run(box, css)
@@ -95,29 +88,24 @@ class Messages(PageTest):
         common.waited(lambda: self.browser.text(css).split('\n')[0].strip() == label, f'{css} says it still', 4)
 
     def test_each_copy_button_says_so_for_a_moment(self) -> None:
-        place = common.folder('pair')
-        for name, image in (('game.bin', discs.scratched()), ('other.bin', discs.scratched())):
-            (place / name).write_bytes(image)
-        (place / 'game.chd').write_bytes(b'MComprHD' + bytes(5000))
-        (place / 'english.txt').write_text(discs.script())
+        files = discs.written(game=discs.scratched(), other=discs.scratched(), english=discs.script())
+        packed = files['game'].with_suffix('.chd')
+        packed.write_bytes(b'MComprHD' + bytes(5000))
         self.browser.run(CLIPBOARD)
-        self.open_files(place / 'game.chd')
+        self.open_files(packed)
         self.copies('#start-message [data-copies]', 'Copy the command', 'chdman ')
-        self.open_image(place / 'game.bin')
+        self.open_image(files['game'])
         self.copies('#disc-line [data-copies]', 'Copy all hashes', 'game.bin\nsize ')
         self.copies('#findings [data-copies]', 'Copy', f'{discs.first_block() + 1} ')
-        self.open_files(place / 'other.bin')
+        self.open_files(files['other'])
         self.browser.answer('Repair')
         self.browser.wait('[aria-label="Cannot be repaired: 1"]')
         self.copies('[aria-label="Cannot be repaired: 1"] [data-copies]', 'Copy', f'{discs.first_block() + 1}\t')
-        self.open_files(place / 'english.txt')
+        self.open_files(files['english'])
         self.press('What cdpatch check prints')
         self.browser.wait('#panel-script .log', 'applied')
         self.copies('[aria-label=Log] [data-copies]', 'Copy', 'line 4: applied')
-        self.browser.click('#tab-text')
-        self.browser.type('#find-text', 'スタート')
-        self.press('Find')
-        self.browser.wait('#panel-text .hits mark')
+        self.find()
         self.copies('[aria-label=Hits] [data-copies]', 'Copy as a table', 'block\toffset\tfile\ttext\n')
 
     def test_a_copy_button_that_is_drawn_anew_says_it_too(self) -> None:
@@ -137,9 +125,7 @@ class Messages(PageTest):
     # ---- notes
 
     def test_a_note_opens_beside_its_word(self) -> None:
-        files = discs.written(game=discs.scratched(), english=discs.refused())
-        self.open_image(files['game'])
-        self.open_script(files['english'])
+        self.open_both(discs.scratched(), discs.refused())
         self.browser.wait('.tally')
         self.browser.click('#tab-disc')
         self.press('Next finding')
@@ -151,6 +137,6 @@ class Messages(PageTest):
                 words = self.browser.run(WORDS)
                 self.assertGreater(len(words), 0)
                 for number in words:
-                    far, out = self.browser.driver.execute_async_script(OPENED, number)
+                    far, out = self.browser.run(OPENED, number)
                     self.assertLessEqual(far, 12, (width, panel, number))
                     self.assertLessEqual(out, 0, (width, panel, number))

@@ -13,9 +13,6 @@ ALL_FIT = 'english.txt: 6 changes, all fit game.bin.'
 
 
 class Next(PageTest):
-    def tearDown(self) -> None:
-        self.browser.size(1280)
-
     def files(self) -> dict[str, Path]:
         return discs.written(game=discs.game(), scratched=discs.scratched(), english=discs.script(), refused=discs.refused())
 
@@ -133,12 +130,11 @@ class Next(PageTest):
 
     def test_after_a_disc_was_saved_its_cue_sheet_is_next(self) -> None:
         files = self.files()
-        one_track = 'FILE "{}" BINARY\n  TRACK 01 MODE1/2352\n    INDEX 01 00:00:00\n'
-        songs = 'FILE "song.bin" BINARY\n  TRACK 02 AUDIO\n    INDEX 01 00:00:00\n'
         sheet, image = files['game'].with_suffix('.cue'), files['game']
-        for names, more in (([image], ''), ([sheet, image], ''), ([sheet, image], songs)):
+        cases: list[tuple[list[Path], dict[str, str]]] = [([image], {}), ([sheet, image], {}), ([sheet, image], {'song': 'AUDIO'})]
+        for names, more in cases:
             with self.subTest(names=len(names), more=more):
-                sheet.write_text(one_track.format('game.bin') + more)
+                sheet.write_text(discs.sheet_of(game=discs.DATA, **more))
                 self.setUp()
                 self.browser.drop('#drop', [*names, files['english']])
                 self.browser.wait(f'{SAID}.good', ALL_FIT)
@@ -147,11 +143,11 @@ class Next(PageTest):
                 side = self.browser.text('#panel-script .side')
                 self.assertIn('Your emulator opens a cue sheet', side)
                 self.assertEqual('It is for a disc of one track.' in side, sheet not in names)
-                self.assertEqual('Copy there too, since the cue sheet names it: song.bin.' in side, more != '')
+                self.assertEqual('Copy there too, since the cue sheet names it: song.bin.' in side, more != {})
                 self.assertEqual(self.browser.run("return document.querySelector('#panel-script .side .row .btn').innerText"), 'Save a cue sheet…')
                 self.press('Save a cue sheet')
                 saved = self.browser.downloaded('game (patched).cue')
-                common.waited(lambda: saved.read_text() == one_track.format('game (patched).bin') + more, 'another cue sheet')
+                common.waited(lambda: saved.read_text() == discs.sheet_of(**{'game (patched)': discs.DATA, **more}), 'another cue sheet')
                 self.assertEqual(self.focused(), 'Check: Save a cue sheet…')
 
     def test_after_a_disc_that_may_have_more_tracks_was_saved_no_cue_sheet_is_made_up(self) -> None:

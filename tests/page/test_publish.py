@@ -9,7 +9,7 @@ import common
 import discs
 from pages import GATE, PICKER, UNSEEN, PageTest, applied, patcher
 
-CUE = 'FILE "game.bin" BINARY\n  TRACK 01 MODE1/2352\n    INDEX 01 00:00:00\n'
+CUE = discs.sheet_of(game=discs.DATA)
 HOSTILE = '<img src=x onerror=alert(1)>'
 
 # What an extension does that gives pages a style of its own: before all others, or after them.
@@ -97,35 +97,29 @@ class Publish(PageTest):
         self.press('Save as a patcher')
         self.browser.wait('#panel-publish .progress')
         self.press('Save as a patcher')
-        self.browser.click('#tab-script')
-        self.browser.click('.editor textarea')
-        self.browser.press('# later')
+        self.edit('# later')
         self.browser.run('openGate()')
         saved = self.browser.downloaded('img src=x onerror=alert(1).html').read_bytes()
         self.assertEqual(data_of(saved)['script'], discs.script())
         self.assertEqual([it.name for it in self.browser.downloads.iterdir()], ['img src=x onerror=alert(1).html'])
 
-    def test_a_style_that_is_put_before_the_pages_own_lets_nothing_be_published_and_the_page_says_why(self) -> None:
+    def refuses_changed(self, change: str, *given: str) -> None:
+        """A page that a script has changed saves no patcher, and says why."""
         self.publish()
-        self.browser.run(FOREIGN, 'prepend')
+        self.browser.run(change, *given)
         self.press('Save as a patcher')
         self.browser.wait('#panel-publish .say.bad', 'Something in this browser has changed this page')
-        self.browser.wait('#panel-publish .say.bad', 'No patcher was saved.')
         self.assertEqual(list(self.browser.downloads.iterdir()), [])
+
+    def test_a_style_that_is_put_before_the_pages_own_lets_nothing_be_published_and_the_page_says_why(self) -> None:
+        self.refuses_changed(FOREIGN, 'prepend')
+        self.browser.wait('#panel-publish .say.bad', 'No patcher was saved.')
 
     def test_a_policy_that_is_put_before_the_pages_own_lets_nothing_be_published(self) -> None:
-        self.publish()
-        self.browser.run('const it = document.createElement("meta"); it.httpEquiv = "Content-Security-Policy"; document.head.prepend(it)')
-        self.press('Save as a patcher')
-        self.browser.wait('#panel-publish .say.bad', 'Something in this browser has changed this page')
-        self.assertEqual(list(self.browser.downloads.iterdir()), [])
+        self.refuses_changed('const it = document.createElement("meta"); it.httpEquiv = "Content-Security-Policy"; document.head.prepend(it)')
 
     def test_a_style_that_was_changed_is_not_published(self) -> None:
-        self.publish()
-        self.browser.run('document.querySelector("style").append(" ")')
-        self.press('Save as a patcher')
-        self.browser.wait('#panel-publish .say.bad', 'Something in this browser has changed this page')
-        self.assertEqual(list(self.browser.downloads.iterdir()), [])
+        self.refuses_changed('document.querySelector("style").append(" ")')
 
     def test_a_style_that_is_put_after_the_pages_own_is_in_no_patcher(self) -> None:
         self.publish()
@@ -136,9 +130,7 @@ class Publish(PageTest):
         self.assertEqual(saved[:len(page)], page)
 
     def test_it_is_refused_while_a_patch_is_refused(self) -> None:
-        files = discs.written(game=discs.game(), english=discs.refused())
-        self.open_image(files['game'])
-        self.open_script(files['english'])
+        self.open_both(discs.game(), discs.refused())
         self.browser.click('#tab-publish')
         self.browser.wait('#panel-publish', 'english.txt: 6 of 8 changes fit game.bin, 2 do not.')
         self.browser.type('#patcher-title', 'Title')
@@ -170,9 +162,7 @@ class Player(PageTest):
         self.browser.drop('#player', [discs.written(mine=image)['mine']])
 
     def open_patcher(self, data: bytes) -> None:
-        self.path = common.folder('patcher') / 'starlit.html'
-        self.path.write_bytes(data)
-        self.browser.open(self.path)
+        self.browser.open(self.written_page(data))
 
     def test_the_right_disc(self) -> None:
         self.play(discs.game())
@@ -201,6 +191,7 @@ class Player(PageTest):
         self.play(other)
         self.browser.wait('#verdict', 'This is a different dump, and the patch does not fit it.')
         self.assertIn('1 of 6 places holds other bytes.', self.browser.text('#player'))
+        self.assertIn('Or an older version of this patch has changed it: choose the original image.', self.browser.text('#player'))
         self.press('Details')
         self.browser.wait('.hashes', f'refused: old bytes differ at block {block} offset 0')
         self.assertEqual(list(self.browser.downloads.iterdir()), [])
@@ -223,7 +214,7 @@ class Player(PageTest):
         self.open_patcher(patcher(discs.game(), result(), discs.script()))
         image = discs.written(mine=result())['mine']
         sheet = image.with_suffix('.cue')
-        sheet.write_text('FILE "mine.bin" BINARY\n  TRACK 01 MODE1/2352\n    INDEX 01 00:00:00\n')
+        sheet.write_text(discs.sheet_of(mine=discs.DATA))
         self.browser.drop('#player', [sheet, image])
         self.browser.wait('#verdict', 'This image is patched already.')
         self.press('Save the cue sheet')
@@ -231,18 +222,18 @@ class Player(PageTest):
         self.assertEqual(common.waited(saved.read_text, 'the cue sheet is empty'), sheet.read_text())
 
     def saves_sheet(self, label: str, file: str) -> None:
-        """Patches the image, and saves a cue sheet that names the new one."""
+        """Patches the image, and saves a cue sheet that names the new one by its stem."""
         self.press('Patch and save')
         self.press(label)
         saved = self.browser.downloaded('Starlit (English).cue')
-        sheet = f'FILE "{file}" BINARY\n  TRACK 01 MODE1/2352\n    INDEX 01 00:00:00\n'
+        sheet = discs.sheet_of(**{file: discs.DATA})
         common.waited(lambda: saved.read_text() == sheet, f'another cue sheet: {saved.read_text()}')
         saved.unlink()
         self.browser.wait('#player .step.now', 'Saved. Now open Starlit (English).cue in your emulator.')
 
     def test_without_a_cue_sheet_one_is_made_for_a_disc_of_one_track(self) -> None:
         self.play(discs.game())
-        self.saves_sheet('Save a cue sheet', 'Starlit (English).bin')
+        self.saves_sheet('Save a cue sheet', 'Starlit (English)')
         self.assertIn('if you have a .cue of the old image, it starts the old game', self.browser.text('#player .step.now'))
 
     def test_of_a_disc_with_music_no_cue_sheet_is_made_up(self) -> None:
@@ -278,7 +269,7 @@ class Player(PageTest):
     def test_a_cue_sheet_and_its_image_may_be_chosen_one_after_the_other(self) -> None:
         image = discs.written(mine=discs.game())['mine']
         sheet = image.with_suffix('.cue')
-        sheet.write_text('FILE "mine.bin" BINARY\n  TRACK 01 MODE1/2352\n    INDEX 01 00:00:00\n')
+        sheet.write_text(discs.sheet_of(mine=discs.DATA))
         for first, then, said in ((sheet, image, '.say.bad'), (image, sheet, '#verdict')):
             self.open_patcher(patcher(discs.game(), result(), discs.script()))
             self.browser.drop('#player', [first])
@@ -286,24 +277,20 @@ class Player(PageTest):
             self.browser.run('document.querySelector(arguments[0]).remove()', said)
             self.browser.drop('#player', [then])
             self.browser.wait('#verdict', 'This is the right disc.')
-            self.saves_sheet('Save the cue sheet', 'Starlit (English).bin')
+            self.saves_sheet('Save the cue sheet', 'Starlit (English)')
 
     def test_on_a_phone_the_last_step_comes_into_view(self) -> None:
         self.browser.size(360, 640)
-        try:
-            self.play(discs.game())
-            self.press('Patch and save')
-            self.browser.wait('#saved')
-            common.waited(lambda: self.browser.run(UNSEEN, '#player .step:last-child') <= 0, 'the last step is out of the window')
-        finally:
-            self.browser.size(1280)
+        self.play(discs.game())
+        self.press('Patch and save')
+        self.browser.wait('#saved')
+        common.waited(lambda: self.browser.run(UNSEEN, '#player .step:last-child') <= 0, 'the last step is out of the window')
 
     def test_what_else_the_cue_sheet_names_is_to_be_copied(self) -> None:
         self.open_patcher(patcher(discs.game(), result(), discs.script()))
         image = discs.written(mine=result())['mine']
         sheet = image.with_suffix('.cue')
-        sheet.write_text('FILE "mine.bin" BINARY\n  TRACK 01 MODE1/2352\n    INDEX 01 00:00:00\n' + ''.join(
-            f'FILE "song {track}.bin" BINARY\n  TRACK 0{track} AUDIO\n    INDEX 01 00:00:00\n' for track in range(2, 9)))
+        sheet.write_text(discs.sheet_of(mine=discs.DATA, **{f'song {track}': 'AUDIO' for track in range(2, 9)}))
         self.browser.drop('#player', [sheet, image])
         self.browser.wait('#player .step.now', 'Save this one beside mine.bin.')
         self.browser.wait('#player .step.now', 'Copy there too, since the cue sheet names them: song 2.bin, song 3.bin, song 4.bin, song 5.bin and 3 more files.')
@@ -340,8 +327,7 @@ class Player(PageTest):
         self.open_patcher(patcher(discs.game(), result(), discs.script()))
         files = discs.written(first=common.image_of([b'first'] * 20), game=discs.game())
         sheet = files['game'].with_suffix('.cue')
-        sheet.write_text(''.join(f'FILE "{name}.bin" BINARY\n  TRACK 0{i + 1} MODE1/2352\n    INDEX 01 00:00:00\n'
-                                 for i, name in enumerate(files)))
+        sheet.write_text(discs.sheet_of(**dict.fromkeys(files, discs.DATA)))
         self.browser.drop('#player', [sheet, *files.values()])
         self.browser.wait('#verdict', 'This is the right disc.')
 
@@ -390,9 +376,7 @@ class Player(PageTest):
         for data, said in ((good, 'This cdpatch, byte for byte: starlit.html'),
                            (good.replace(b'<title>', b'<title >', 1), 'Not this cdpatch: starlit.html')):
             self.browser.open(common.PAGE)
-            path = common.folder('patcher') / 'starlit.html'
-            path.write_bytes(data)
-            self.browser.drop('#drop', [path])
+            self.browser.drop('#drop', [self.written_page(data)])
             self.browser.wait('#compared', said)
             self.browser.wait('#player h1', 'Starlit Detective in English')
             self.assertEqual(self.browser.run('return location.href'), common.PAGE.as_uri())
@@ -400,10 +384,8 @@ class Player(PageTest):
         self.browser.wait('#verdict', 'This is the right disc.')
 
     def test_a_patcher_is_compared_with_the_page_also_if_a_style_is_put_before_its_own(self) -> None:
-        path = common.folder('patcher') / 'starlit.html'
-        path.write_bytes(patcher(discs.game(), result(), discs.script()))
         self.browser.run(FOREIGN, 'prepend')
-        self.browser.drop('#drop', [path])
+        self.browser.drop('#drop', [self.written_page(patcher(discs.game(), result(), discs.script()))])
         self.browser.wait('#compared', 'This cdpatch, byte for byte: starlit.html')
 
     def test_the_full_page_opens_from_a_patcher(self) -> None:
@@ -454,13 +436,10 @@ class Streamed(PageTest):
     stub = PICKER
 
     def test_what_is_dropped_while_an_image_is_saved_is_refused_by_name(self) -> None:
-        path = common.folder('patcher') / 'starlit.html'
-        path.write_bytes(patcher(discs.game(), result(), discs.script()))
-        self.browser.open(path)
+        self.browser.open(self.written_page(patcher(discs.game(), result(), discs.script())))
         self.browser.give('#player-files', [discs.written(mine=discs.game())['mine']])
         self.browser.wait('#verdict', 'This is the right disc.')
-        self.browser.run('chosen.hold()')
-        self.press('Patch and save')
+        self.begins('Patch and save')
         self.browser.wait('#player .progress')
         self.assertEqual(self.focused(), 'steps: Cancel')
         self.browser.drop('#player', [discs.written(other=discs.game())['other']])
@@ -471,9 +450,7 @@ class Streamed(PageTest):
 
     def test_a_player_streams_what_the_author_made_and_nothing_else(self) -> None:
         for wanted, state in ((common.sha1(result()), 'closed'), ('0' * 40, 'aborted')):
-            path = common.folder('patcher') / 'starlit.html'
-            path.write_bytes(patcher(discs.game(), result(), discs.script(), result=wanted))
-            self.browser.open(path)
+            self.browser.open(self.written_page(patcher(discs.game(), result(), discs.script(), result=wanted)))
             self.browser.give('#player-files', [discs.written(mine=discs.game())['mine']])
             self.browser.wait('#verdict', 'This is the right disc.')
             self.press('Patch and save')

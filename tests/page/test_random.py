@@ -12,9 +12,9 @@ from typing import Any
 import common
 import discs
 import random_model
+from keys import Keys
 from pages import PICKER, PageTest, applied
 from random_model import Model
-from selenium.webdriver.common.keys import Keys
 from test_publish import data_of
 
 ACTIONS = int(os.environ.get('RANDOM_ACTIONS', '300'))
@@ -183,10 +183,7 @@ class Random(PageTest):
 
     def type_byte(self) -> None:
         block = self.model.next_block()
-        self.browser.find('#map').send_keys('g')
-        self.browser.type('#go-to', str(block))
-        self.browser.press(Keys.ENTER)
-        self.browser.wait('#sector-title', f'block {block}')
+        self.go_to(block)
         self.browser.run('document.querySelector(".hex").focus()')
         self.browser.press(Keys.HOME)
         at = 'return document.querySelector(".hex").getAttribute("aria-activedescendant")'
@@ -201,7 +198,7 @@ class Random(PageTest):
         self.browser.type('#find-text', 'スタート')
         self.browser.press(Keys.ENTER)
         self.browser.wait('#panel-text .hits tbody mark')
-        common.waited(lambda: self.browser.run('return document.activeElement.id === "new-text"'), 'the new text has no focus')
+        self.wait_for_focus('#new-text')
         self.browser.type('#new-text', 'Start')
         self.browser.press(Keys.ENTER)
         self.browser.wait('#panel-text .hits', 'in the script')

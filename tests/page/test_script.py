@@ -5,9 +5,9 @@ from pathlib import Path
 
 import common
 import discs
+from keys import Keys
 from messages import MESSAGES
 from pages import BUTTON, GATE, PICKER, PageTest, applied
-from selenium.webdriver.common.keys import Keys
 
 # Counts the characters that the page encodes, the texts that it decodes, the elements that it makes, and the pieces of files that it reads.
 COUNTED = '''globalThis.counted = {};
@@ -26,9 +26,7 @@ count(Blob.prototype, 'arrayBuffer', 'sectors', () => 1);'''
 
 class Script(PageTest):
     def test_check_says_what_the_program_prints(self) -> None:
-        files = discs.written(game=discs.scratched(), english=discs.refused())
-        self.open_image(files['game'])
-        self.open_script(files['english'])
+        files = self.open_both(discs.scratched(), discs.refused())
         self.press('Check')
         self.browser.wait('.tally', 'not fit')
         _, text = common.run_program('check', files['game'], files['english'])
@@ -53,18 +51,15 @@ class Script(PageTest):
             self.browser.size(width)
             tops = 'return [".src", ".texts"].map(it => Math.round(document.querySelector(`.editor [data-line="4"] ${it}`).getBoundingClientRect().top))'
             common.waited(lambda: (lambda it: it[1] > it[0])(self.browser.run(tops)) == below, f'at {width} the texts stand elsewhere')
-        self.browser.size(1280)
         for encoding, text in (('EUC-JP', ' → Start␣␣␣'), ('hex', '')):
             self.browser.click('#tab-text')
-            self.browser.run('const it = document.querySelector("#find-encoding"); it.value = arguments[0]; it.dispatchEvent(new Event("change"))', encoding)
+            self.browser.choose('#find-encoding', encoding)
             self.browser.click('#tab-script')
             self.assertEqual(self.texts()[3][-len(text):] if text else self.texts()[3], text, encoding)
             self.assertNotIn('スタート', self.texts()[3])
 
     def test_a_line_fits_or_does_not_before_it_is_saved(self) -> None:
-        files = discs.written(game=discs.game(), english=discs.refused())
-        self.open_image(files['game'])
-        self.open_script(files['english'])
+        self.open_both(discs.game(), discs.refused())
         self.press('Check')
         self.browser.wait('.tally', '6\nfit\n2\ndo not fit')
         words = [row.split('|')[2] for row in self.rows() if row.split('|')[2]]
@@ -80,9 +75,7 @@ class Script(PageTest):
         self.browser.wait('.explain', f'It does not fit: old bytes differ at block {discs.first_block()} offset 600.')
 
     def test_apply_saves_what_the_program_writes(self) -> None:
-        files = discs.written(game=discs.scratched() + b'tail', english=discs.refused())
-        self.open_image(files['game'])
-        self.open_script(files['english'])
+        files = self.open_both(discs.scratched() + b'tail', discs.refused())
         self.press('Apply and save')
         saved = self.browser.downloaded('game (patched).bin')
         status, text, out = applied(files['game'], files['english'])
@@ -103,14 +96,13 @@ class Script(PageTest):
         files = discs.written(first=common.image_of([b'first'] * 20), music=bytes(range(256)) * 2352, last=common.image_of([b'last'] * 20, 500),
                               both='cdpatch 1\nset 3 0 46 was 66\nset 503 0 4C was 6C\n')
         sheet = files['both'].with_name('game.cue')
-        sheet.write_text(''.join(f'FILE "{name}.bin" BINARY\n  TRACK 0{i + 1} {kind}\n    INDEX 01 00:00:00\n' for i, (name, kind) in enumerate(
-            {'first': 'MODE1/2352', 'music': 'AUDIO', 'last': 'MODE1/2352'}.items())))
+        sheet.write_text(discs.sheet_of(first=discs.DATA, music='AUDIO', last=discs.DATA))
         self.open_files(sheet, *[files[name] for name in ('first', 'music', 'last')])
         self.wait_for_hash()
         self.open_script(files['both'])
         self.press('Apply and save')
         self.browser.downloaded('first (patched).bin')
-        self.browser.run("const it = document.querySelector('#disc-line select'); it.value = '3'; it.dispatchEvent(new Event('change'))")
+        self.browser.choose('#disc-line select', '3')
         self.browser.wait('#disc-line .name', 'last.bin')
         self.press('Apply and save')
         self.browser.downloaded('last (patched).bin')
@@ -121,9 +113,7 @@ class Script(PageTest):
         self.assertEqual(common.waited(saved.read_text, 'the cue sheet is empty'), wanted)
 
     def test_carry_patches_damaged_sectors_too(self) -> None:
-        files = discs.written(game=discs.scratched(), english=discs.script())
-        self.open_image(files['game'])
-        self.open_script(files['english'])
+        files = self.open_both(discs.scratched(), discs.script())
         self.press('Check')
         self.browser.wait('.tally', '1\ndoes not fit')
         self.browser.click('#panel-script input[type=checkbox]')
@@ -133,9 +123,7 @@ class Script(PageTest):
         self.assertEqual((status, saved.read_bytes()), (0, out))
 
     def test_a_saved_file_that_is_dropped_again_is_checked(self) -> None:
-        files = discs.written(game=discs.game(), english=discs.script())
-        self.open_image(files['game'])
-        self.open_script(files['english'])
+        files = self.open_both(discs.game(), discs.script())
         self.press('Apply and save')
         saved = self.browser.downloaded('game (patched).bin')
         self.browser.wait('#saved-sha1', common.sha1(saved.read_bytes()))
@@ -167,9 +155,7 @@ class Script(PageTest):
             self.browser.wait('#panel-script .side h2', 'Check')
 
     def test_a_saved_file_is_not_judged_before_the_sum_of_the_image_is_known(self) -> None:
-        files = discs.written(game=discs.game(), english=discs.script())
-        self.open_image(files['game'])
-        self.open_script(files['english'])
+        self.open_both(discs.game(), discs.script())
         self.browser.run(f'{GATE} Object.assign(globalThis, {{ held: 1, least: {len(discs.game())} }})')
         self.press('Apply and save')
         self.browser.drop('#panel-script', [self.browser.downloaded('game (patched).bin')])
@@ -202,9 +188,7 @@ class Script(PageTest):
 
     def test_keys_edit_lines_and_undo_takes_back(self) -> None:
         self.open_image(discs.written(game=discs.game())['game'])
-        self.browser.click('#tab-script')
-        self.browser.click('.editor textarea')
-        self.browser.press(Keys.ARROW_DOWN, 'rebuild 1', Keys.ENTER, 'rebuild 2', Keys.ENTER, '# end')
+        self.edit(Keys.ARROW_DOWN, 'rebuild 1', Keys.ENTER, 'rebuild 2', Keys.ENTER, '# end')
         self.assertEqual([row.split('|')[1] for row in self.rows()], ['cdpatch 1', 'rebuild 1', 'rebuild 2', '# end'])
         self.browser.press(Keys.HOME, Keys.BACKSPACE)
         self.assertEqual([row.split('|')[1] for row in self.rows()][2:], ['rebuild 2# end'])
@@ -220,9 +204,7 @@ class Script(PageTest):
 
     def type_script(self) -> None:
         """Writes a script of one patch."""
-        self.browser.click('#tab-script')
-        self.browser.click('.editor textarea')
-        self.browser.press(Keys.ARROW_DOWN, 'rebuild 1')
+        self.edit(Keys.ARROW_DOWN, 'rebuild 1')
 
     def test_a_script_that_is_opened_does_not_lose_the_one_before_it(self) -> None:
         files = discs.written(game=discs.game(), english=discs.script())
@@ -251,9 +233,7 @@ class Script(PageTest):
         self.assertNotIn('not saved', self.browser.text('#panel-script header'))
 
     def test_the_focus_stays_in_the_card_that_works(self) -> None:
-        files = discs.written(game=discs.scratched(), english=discs.script())
-        self.open_image(files['game'])
-        self.open_script(files['english'])
+        self.open_both(discs.scratched(), discs.script())
         self.browser.wait('.tally')
         for name, shown, then in (('Check', '.tally', 'Check: Go to line'), ('Apply and save', '#saved-sha1', 'Check: Save a cue sheet')):
             self.browser.run(f'{BUTTON}.focus()', name)
@@ -275,9 +255,7 @@ class Script(PageTest):
         self.assertEqual(where, [f'Script, line {i} of 6' for i in (2, 5, 2, 5)])
 
     def test_the_line_with_the_caret_is_explained(self) -> None:
-        files = discs.written(game=discs.game(), english=discs.script())
-        self.open_image(files['game'])
-        self.open_script(files['english'])
+        self.open_both(discs.game(), discs.script())
         self.browser.click('.editor textarea')
         self.browser.press(Keys.ARROW_DOWN, Keys.ARROW_DOWN, Keys.ARROW_DOWN)
         self.browser.wait('.explain', f'Line 4: write 8 bytes at offset 0 of block {discs.first_block()}, in /DATA/MSG00.DAT')
@@ -325,10 +303,9 @@ class Script(PageTest):
         files = discs.written(game=discs.game(), english=discs.script())
         block = discs.first_block()
         self.open_image(files['game'])
-        self.browser.press('g')
-        self.browser.type('#go-to', f'{block}\n')
-        self.browser.wait('#sector-title', f'block {block}')
+        self.go_to(block)
         self.open_script(files['english'])
+        self.browser.wait('#panel-script .say.good', 'all fit')
         self.browser.run(f'{GATE} globalThis.held = 0')
         self.browser.click('.editor textarea')
         self.browser.press(Keys.END, held=Keys.CONTROL)
@@ -339,9 +316,7 @@ class Script(PageTest):
         common.waited(lambda: self.browser.run(shown) == ['53', '41'], 'the sector is that of another script')
 
     def test_the_undo_script_makes_the_old_image_again(self) -> None:
-        files = discs.written(game=discs.game(), english=discs.script())
-        self.open_image(files['game'])
-        self.open_script(files['english'])
+        files = self.open_both(discs.game(), discs.script())
         self.press('Save a script that takes it back')
         undo = self.browser.downloaded('english (undo).txt')
         _, _, patched = applied(files['game'], files['english'])
@@ -350,9 +325,7 @@ class Script(PageTest):
         self.assertEqual((status, again), (0, discs.game()))
 
     def test_in_firefox_the_address_of_an_image_is_forgotten_when_the_next_is_saved(self) -> None:
-        files = discs.written(game=discs.game(), english=discs.script())
-        self.open_image(files['game'])
-        self.open_script(files['english'])
+        files = self.open_both(discs.game(), discs.script())
         self.browser.run('''Object.assign(globalThis, { mozInnerScreenX: 0, made: [], forgotten: [] });
             const { createObjectURL, revokeObjectURL } = URL;
             URL.createObjectURL = it => { made.push(createObjectURL(it)); return made.at(-1); };
@@ -376,9 +349,7 @@ class Script(PageTest):
         self.assertGreaterEqual(self.browser.run('return turns'), 4)
 
     def test_workers_make_the_undo_script(self) -> None:
-        files = discs.written(game=discs.game(), english=discs.script())
-        self.open_image(files['game'])
-        self.open_script(files['english'])
+        self.open_both(discs.game(), discs.script())
         self.browser.run('''globalThis.posted = 0;
             const { postMessage } = Worker.prototype;
             Worker.prototype.postMessage = function (...given) {
@@ -390,9 +361,7 @@ class Script(PageTest):
         self.assertEqual(self.browser.run('return posted'), 1)
 
     def test_the_undo_script_of_carried_damage_says_that_it_wants_carry(self) -> None:
-        files = discs.written(game=discs.scratched(), english=discs.script())
-        self.open_image(files['game'])
-        self.open_script(files['english'])
+        files = self.open_both(discs.scratched(), discs.script())
         self.browser.click('#panel-script input[type=checkbox]')
         self.press('Save a script that takes it back')
         self.browser.wait('#panel-script .said .say', 'Apply it with carry, as this script.')
@@ -402,9 +371,7 @@ class Script(PageTest):
         self.assertEqual((status, again), (0, discs.scratched()))
 
     def test_an_undo_script_can_be_cancelled(self) -> None:
-        files = discs.written(game=discs.game(), english=discs.script())
-        self.open_image(files['game'])
-        self.open_script(files['english'])
+        self.open_both(discs.game(), discs.script())
         self.browser.run(GATE)
         self.press('Save a script that takes it back')
         self.browser.wait('#panel-script .progress')
@@ -422,9 +389,7 @@ class Script(PageTest):
         self.assertFalse(self.is_off('Save a script that takes it back'))
 
     def test_a_file_that_shrinks_saves_nothing(self) -> None:
-        files = discs.written(game=discs.game(), english=discs.script())
-        self.open_image(files['game'])
-        self.open_script(files['english'])
+        files = self.open_both(discs.game(), discs.script())
         files['game'].write_bytes(discs.game()[:100000])
         self.press('Apply and save')
         self.browser.wait('#panel-script .say.bad', 'cannot be read any more')
@@ -466,6 +431,7 @@ class Streaming(PageTest):
 
     def test_the_file_is_asked_for_at_the_click(self) -> None:
         self.begin()
+        self.browser.wait('#panel-script .say.good', 'all fit')
         script = f'{BUTTON.replace("return", "const it =", 1)}; it.click(); return chosen.asked'
         self.assertEqual(self.browser.run(script, 'Apply and save'), 1)
 
@@ -492,9 +458,7 @@ class Streaming(PageTest):
 
     def test_cancel_in_the_middle_keeps_no_image(self) -> None:
         self.begin()
-        self.browser.run('chosen.hold()')
-        self.press('Apply and save')
-        common.waited(lambda: self.browser.run('return chosen.begun > 0'), 'nothing was written')
+        self.begins('Apply and save')
         self.press('Cancel')
         self.browser.run('chosen.release()')
         self.browser.wait('#panel-script .say', 'Cancelled.')

@@ -2,12 +2,12 @@
 
 import math
 import random
-import unittest
 from pathlib import Path
 
-import chromium
 import discs
-from common import PAGE, SECTOR_SIZE, damaged, folder, run_program, sector, sha1, waited
+from common import SECTOR_SIZE, damaged, image_of, run_program, sector, sha1, waited
+from keys import Keys
+from pages import PageTest
 
 AUDIO = random.Random(8).randbytes(30 * SECTOR_SIZE)
 SECTORS = len(discs.game()) // SECTOR_SIZE + 30
@@ -27,36 +27,25 @@ def audited(path: Path) -> set[int]:
     return {int(line.split()[0]) for line in run_program('audit', path)[1].splitlines()[:-1]}
 
 
-class Second(unittest.TestCase):
-    browser: chromium.Chromium
+class Second(PageTest):
+    def asked(self, first: bytes, second: bytes) -> dict[str, Path]:
+        """Two files, game.bin and other.bin, which are opened one after the other."""
+        files = discs.written(game=first, other=second)
+        self.open_files(files['game'])
+        self.browser.wait('#disc-line .lead', 'Mode 1')
+        self.open_files(files['other'])
+        return files
 
-    @classmethod
-    def setUpClass(cls) -> None:
-        # So that files are saved as downloads, which a test can read.
-        cls.browser = chromium.shared('delete window.showSaveFilePicker')
+    def pair(self, first: bytes, second: bytes, shown: tuple[str, str] = ('#second-title', 'other.bin')) -> Path:
+        """Two files, and what the main button of the sheet does with them; the first one."""
+        files = self.asked(first, second)
+        self.browser.answer()
+        self.browser.wait(*shown)
+        return files['game']
 
-    def setUp(self) -> None:
-        self.browser.open(PAGE)
-        self.browser.wait('#open-files')
-        self.browser.attempts()
-
-    def pair(self, first: bytes, second: bytes, shown: tuple[str, str] = ('#second-title', 'other.bin')) -> tuple[Path, Path]:
-        """Two files, which are opened one after the other, and what the main button of the sheet does with them."""
-        place = folder('pair')
-        paths = place / 'game.bin', place / 'other.bin'
-        for path, data in zip(paths, (first, second)):
-            path.write_bytes(data)
-        browser = self.browser
-        browser.give('#files', paths[:1])
-        browser.wait('#disc-line .lead', 'Mode 1')
-        browser.give('#files', paths[1:])
-        browser.answer()
-        browser.wait(*shown)
-        return paths
-
-    def press(self, label: str) -> None:
-        waited(lambda: self.browser.run(f'return Boolean({BUTTON})', label), f'no button {label}')
-        self.browser.run(f'{BUTTON}.click()', label)
+    def press(self, text: str) -> None:
+        waited(lambda: self.browser.run(f'return Boolean({BUTTON})', text), f'no button {text}')
+        self.browser.run(f'{BUTTON}.click()', text)
 
     def tally(self) -> list[int]:
         self.browser.wait('.tally')
@@ -72,7 +61,7 @@ class Second(unittest.TestCase):
         first = bytearray(with_faults((40, 9), (60, 9), (80, 9)))
         first[100 * SECTOR_SIZE:100 * SECTOR_SIZE + 12] = bytes(12)
         second = with_faults((60, 500), (90, 7))
-        path, _ = self.pair(bytes(first), second)
+        path = self.pair(bytes(first), second)
         self.assertEqual(self.tally(), [3, 1, 0])
         self.assertEqual([self.legend('can be repaired'), self.legend('cannot be repaired')], [3, 1])
         self.press('Save repaired image')
@@ -99,11 +88,7 @@ class Second(unittest.TestCase):
         waited(lambda: self.tally() == [1, 0, 0], 'another image is repaired')
 
     def test_two_images_are_taken_the_other_way_round_if_the_second_is_to_be_repaired(self) -> None:
-        place = folder('both')
-        paths = place / 'game.bin', place / 'other.bin'
-        for path, data in zip(paths, (with_faults(), with_faults((40, 9)))):
-            path.write_bytes(data)
-        self.browser.give('#files', paths)
+        self.open_files(*discs.written(game=with_faults(), other=with_faults((40, 9))).values())
         self.browser.answer('Repair other.bin from game.bin')
         self.sees_swapped()
 
@@ -119,7 +104,7 @@ class Second(unittest.TestCase):
 
     def test_a_repair_as_a_script_gives_the_same_image(self) -> None:
         first, second = with_faults((40, 9), (60, 9)), with_faults()
-        path, _ = self.pair(first, second)
+        path = self.pair(first, second)
         self.press('Write it as a script')
         self.press('Save the script')
         script = self.browser.downloaded('game (repair).txt')
@@ -160,7 +145,7 @@ class Second(unittest.TestCase):
             user = bytearray(first[block * SECTOR_SIZE + 16:][:2048])
             user[5:9] = b'new!'
             second[block * SECTOR_SIZE:(block + 1) * SECTOR_SIZE] = sector(block, bytes(user))
-        path, _ = self.pair(first, bytes(second))
+        path = self.pair(first, bytes(second))
         self.browser.wait('#second-body .tally')
         self.assertEqual(self.tally(), [3, 0, 0])
         self.sees_what_differs(first, bytes(second), 70)
@@ -198,7 +183,7 @@ class Second(unittest.TestCase):
 
     def test_damage_of_the_second_is_named_and_left_out_only_if_asked(self) -> None:
         first = with_faults()
-        path, _ = self.pair(first, with_faults((33, 5), (44, 5)))
+        path = self.pair(first, with_faults((33, 5), (44, 5)))
         self.assertEqual(self.tally(), [2, 0, 2])
         self.press('Save the script')
         self.browser.wait('#second-body .say.bad', 'the second image is damaged in blocks 33 and 44')
@@ -224,19 +209,17 @@ class Second(unittest.TestCase):
         self.browser.wait('#second-body .say.bad', f'nosync in block {SECTORS - 1}, and a script changes only mode1')
 
     def test_another_length_can_be_repaired_from_and_not_compared(self) -> None:
-        place = folder('lengths')
-        files = [place / 'game.bin', place / 'more.bin', place / 'tail.bin', place / 'later.bin']
-        for file, image in zip(files, (with_faults(), with_faults() + AUDIO[:2 * SECTOR_SIZE], with_faults() + b'tail', with_faults()[SECTOR_SIZE:])):
-            file.write_bytes(image)
-        self.browser.give('#files', files[:1])
+        image = with_faults()
+        files = discs.written(game=image, more=image + AUDIO[:2 * SECTOR_SIZE], tail=image + b'tail', later=image[SECTOR_SIZE:])
+        self.open_files(files['game'])
         self.browser.wait('#disc-line .lead', 'Mode 1')
-        for file, words in zip(files[1:], ('It has 2 sectors more', 'It has another tail', 'It is shifted: it begins 1 sector later')):
-            self.browser.give('#files', [file])
+        for name, words in {'more': 'It has 2 sectors more', 'tail': 'It has another tail', 'later': 'It is shifted: it begins 1 sector later'}.items():
+            self.open_files(files[name])
             self.browser.wait('#sheet', f'{words} than game.bin. A repair uses the blocks that both have.')
             buttons = self.browser.run('return [...document.querySelectorAll("#sheet button")].map(it => it.innerText)')
-            self.assertEqual(buttons, ['Repair game.bin from it', f'Repair {file.name} from game.bin', 'Open it instead', 'Cancel'])
+            self.assertEqual(buttons, ['Repair game.bin from it', f'Repair {name}.bin from game.bin', 'Open it instead', 'Cancel'])
             self.browser.answer('Cancel')
-        self.browser.give('#files', files[1:2])
+        self.open_files(files['more'])
         self.browser.answer('Open it instead')
         self.browser.wait('#disc-line .name', 'more.bin')
         self.assertFalse(self.browser.run("return document.querySelector('#second-title').checkVisibility()"))
@@ -258,9 +241,7 @@ class Second(unittest.TestCase):
 
     def sees_second(self, block: int, words: str) -> None:
         """Opens a sector, of which this is said."""
-        self.browser.find('#map').send_keys('g')
-        self.browser.type('#go-to', f'{block}\n')
-        self.browser.wait('#sector-title', f'block {block}')
+        self.go_to(block)
         self.browser.wait('#panel-disc .say', words)
 
     def test_a_damaged_sector_says_what_becomes_of_it(self) -> None:
@@ -274,12 +255,7 @@ class Second(unittest.TestCase):
             self.assertEqual(shown, block == 60, block)
 
     def test_a_damaged_sector_leads_to_the_repair_if_the_second_image_is_compared(self) -> None:
-        place = folder('compared')
-        for name, image in (('game.bin', with_faults((40, 9))), ('other.bin', with_faults())):
-            (place / name).write_bytes(image)
-        self.browser.give('#files', [place / 'game.bin'])
-        self.browser.wait('#disc-line .lead', '1 of')
-        self.browser.give('#files', [place / 'other.bin'])
+        self.asked(with_faults((40, 9)), with_faults())
         self.browser.answer('Compare')
         self.browser.wait('.tally', 'sector differs')
         self.press('40')
@@ -295,12 +271,8 @@ class Second(unittest.TestCase):
         self.browser.wait('#second-body .say.bad', '2 sectors before it are missing. Nothing is taken.')
 
     def test_an_image_of_another_part_of_the_disc_can_only_be_opened_instead(self) -> None:
-        place = folder('parts')
-        for name, first in (('game.bin', 0), ('other.bin', 1000)):
-            (place / name).write_bytes(b''.join(sector(first + block, b'%d' % block) for block in range(40)))
-        self.browser.give('#files', [place / 'game.bin'])
-        self.browser.wait('#disc-line .lead', 'Mode 1')
-        self.browser.give('#files', [place / 'other.bin'])
+        users = [b'%d' % block for block in range(40)]
+        self.asked(image_of(users), image_of(users, 1000))
         self.browser.wait('#sheet', 'It is another part of a disc than game.bin.')
         self.assertEqual(self.browser.run('return [...document.querySelectorAll("#sheet button")].map(it => it.innerText)'), ['Open it instead', 'Cancel'])
         self.assertEqual(self.browser.run('return document.querySelector("#sheet .main").innerText'), 'Open it instead')
@@ -315,10 +287,8 @@ class Second(unittest.TestCase):
 
     def test_what_is_compared_ends_with_the_second_image(self) -> None:
         browser = self.browser
-        place = folder('pair')
-        for name in ('game.bin', 'other.bin'):
-            (place / name).write_bytes(discs.game() * 300)
-        browser.give('#files', [place / 'game.bin'])
+        files = discs.written(game=discs.game() * 120, other=discs.game() * 120)
+        self.open_files(files['game'])
         browser.wait('#disc-line .lead', 'Mode 1 sectors fit')
         browser.run('''const post = Worker.prototype.postMessage; Object.assign(globalThis, { late: [], ranges: 0 });
             Worker.prototype.postMessage = function (...given) {
@@ -326,7 +296,7 @@ class Second(unittest.TestCase):
                 if (given[0].pieces && late) late.push(() => post.apply(this, given));
                 else post.apply(this, given);
             }''')
-        browser.give('#files', [place / 'other.bin'])
+        self.open_files(files['other'])
         browser.answer('Compare')
         browser.wait('#second-body .progress')
         waited(lambda: browser.run('return ranges > 0'), 'nothing is compared')
@@ -334,7 +304,7 @@ class Second(unittest.TestCase):
         begun = browser.run('const [first] = [late]; late = null; first.forEach(it => it()); return first.length')
         browser.click('#tab-text')
         browser.type('#find-text', 'no such text')
-        browser.run("[...document.querySelectorAll('#panel-text button')].find(it => it.innerText === 'Find').click()")
+        browser.press(Keys.ENTER)
         browser.wait('#panel-text .say', 'No hit')
-        found = math.ceil(300 * (SECTORS - 30) / 1024)
+        found = math.ceil(120 * (SECTORS - 30) / 1024)
         self.assertLessEqual(browser.run('return ranges') - found, begun + 1)

@@ -45,10 +45,7 @@ class Sending(PageTest):
     def walk(self) -> None:
         """Opens, searches, replaces, checks, saves and publishes."""
         self.open_image(discs.written(game=discs.game())['game'])
-        self.browser.click('#tab-text')
-        self.browser.type('#find-text', 'スタート')
-        self.press('Find')
-        self.browser.wait('#panel-text .hits mark')
+        self.find()
         self.browser.type('#new-text', 'Start')
         self.press('Replace all')
         self.browser.click('#tab-script')

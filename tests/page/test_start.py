@@ -18,9 +18,6 @@ ASKED = 'globalThis.asked = 0; HTMLInputElement.prototype.click = function () { 
 
 
 class Start(PageTest):
-    def tearDown(self) -> None:
-        self.browser.size(1280)
-
     def test_all_of_it_is_seen_in_1280_by_800(self) -> None:
         self.browser.size(1280, 800)
         self.assertEqual(self.browser.text('#start h1'), 'Patch, translate and repair CD images.')
@@ -108,7 +105,6 @@ class Start(PageTest):
 
     def test_a_patcher_that_is_dropped_with_its_image_has_judged_it(self) -> None:
         files = discs.written(game=discs.game(), english=discs.script())
-        page: Path = common.folder('patcher') / 'starlit.html'
-        page.write_bytes(patcher(discs.game(), applied(files['game'], files['english'])[2], discs.script()))
+        page = self.written_page(patcher(discs.game(), applied(files['game'], files['english'])[2], discs.script()))
         self.browser.drop('#drop', [files['game'], page])
         self.browser.wait('#verdict', 'This is the right disc.')

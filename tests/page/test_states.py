@@ -6,13 +6,12 @@ With PICTURES, a directory, each state is drawn there at three widths in both sc
 """
 
 import os
-from collections.abc import Callable
 from pathlib import Path
 from typing import Any
 
 from chromium import WIDTHS
-from selenium.webdriver.common.keys import Keys
-from states import States, all_states
+from keys import Keys
+from states import States, all_states, each_state
 
 # How many stops of the Tab key a state has at most, the bar and the footer among them, by the first word of its name.
 MOST_STOPS = {'start': 13, 'publish': 28, 'player': 14}
@@ -64,9 +63,6 @@ NAMED = {'button', 'link', 'tab', 'textbox', 'searchbox', 'combobox', 'checkbox'
 
 
 class State(States):
-    def tearDown(self) -> None:
-        self.browser.size(1280)
-
     def judge_tree(self) -> None:
         """Each control has a name, and each group of tabs one that is chosen."""
         nodes = self.browser.tree()
@@ -115,9 +111,4 @@ class State(States):
         self.judge_stops(MOST_STOPS.get(name.split('_')[0], MOST_OF_OTHERS))
 
 
-def judged(name: str) -> Callable[[State], None]:
-    return lambda self: self.judge(name)
-
-
-for each in all_states():
-    setattr(State, f'test_{each}', judged(each))
+each_state(State, State.judge)

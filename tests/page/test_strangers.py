@@ -62,11 +62,6 @@ class SlowServer:
 
 
 class Stranger(PageTest):
-    def written_page(self, data: bytes, name: str = 'starlit.html') -> Path:
-        path = common.folder('patcher') / name
-        path.write_bytes(data)
-        return path
-
     def play(self, image: bytes, script: str, **other: object) -> None:
         """Opens a patcher for the game, and gives it an image."""
         self.browser.open(self.written_page(patcher(discs.game(), result(script), script, **other)))
@@ -115,9 +110,7 @@ class Fitting(Stranger):
         self.assertNotIn('damage', self.browser.text('#player'))
 
     def test_authors_are_warned_of_each_line_without_old_bytes(self) -> None:
-        files = discs.written(game=discs.game(), english=discs.script())
-        self.open_image(files['game'])
-        self.open_script(files['english'])
+        self.open_both(discs.game(), discs.script())
         self.browser.click('#tab-publish')
         self.browser.wait('#panel-publish', '2 changes without old bytes (was): on another dump nothing shows whether they fit. Players are told so.')
 
@@ -134,9 +127,7 @@ class Names(Stranger):
             saved.unlink()
 
     def test_publish_refuses_a_name_that_is_none_of_an_image(self) -> None:
-        files = discs.written(game=discs.game(), english=discs.named())
-        self.open_image(files['game'])
-        self.open_script(files['english'])
+        self.open_both(discs.game(), discs.named())
         self.browser.click('#tab-publish')
         self.browser.wait('#panel-publish', ' fit')
         self.browser.type('#patcher-title', 'Title')
@@ -152,7 +143,7 @@ class Names(Stranger):
         self.assertEqual(self.browser.run(script), [False] * 4)
 
     def test_a_cue_sheet_that_names_more_than_files_beside_it_is_not_offered(self) -> None:
-        sheet = 'FILE "Starlit (English).bin" BINARY\n  TRACK 01 MODE1/2352\n    INDEX 01 00:00:00\n'
+        sheet = discs.sheet_of(**{'Starlit (English)': discs.DATA})
         other = 'FILE "\\\\evil.example\\share\\track2.bin" BINARY\n  TRACK 02 AUDIO\n    INDEX 01 00:00:00\n'
         for cue, offered in ((sheet, True), (sheet + other, False), (sheet.replace('INDEX 01', 'INDEX 00'), False)):
             self.play(discs.game(), discs.named(), cue=cue)
@@ -224,8 +215,7 @@ class Chosen(Stranger):
         place = common.folder('tracks')
         (place / 'game.bin').write_bytes(discs.game())
         (place / 'Game (Track 02).bin').write_bytes(bytes(2352 * 4))
-        (place / 'game.cue').write_text('FILE "game.bin" BINARY\n  TRACK 01 MODE1/2352\n    INDEX 01 00:00:00\n'
-                                        'FILE "Game (Track 02).bin" BINARY\n  TRACK 02 AUDIO\n    INDEX 01 00:00:00\n')
+        (place / 'game.cue').write_text(discs.sheet_of(**{'game': discs.DATA, 'Game (Track 02)': 'AUDIO'}))
         self.browser.drop('#player', sorted(place.iterdir()))
         self.browser.wait('#verdict', 'This is the right disc.')
         self.press('Patch and save')
@@ -242,7 +232,7 @@ class Coming(Stranger):
     def test_a_patcher_opens_from_a_slow_server(self) -> None:
         server = SlowServer(*self.whole(discs.named()), seconds=1.5)
         self.addCleanup(server.close)
-        self.browser.driver.execute_script('setTimeout(() => { location = arguments[0] }, 0)', server.url)
+        self.browser.run('setTimeout(() => { location = arguments[0] }, 0)', server.url)
         self.browser.wait('#player h1', 'Starlit Detective in English')
         self.assertEqual(self.browser.text('#messages') + self.browser.text('#start-message'), '')
 
@@ -265,10 +255,10 @@ class Coming(Stranger):
         server = common.Server(place)
         self.addCleanup(server.close)
         self.browser.open(f'{server.url}/index.html')
-        self.browser.driver.switch_to.frame(0)
-        self.addCleanup(self.browser.driver.switch_to.default_content)
-        self.browser.wait('#not-started', 'cdpatch does not start inside another page.')
-        self.assertEqual(self.browser.run('return document.querySelector("#start").hidden'), True)
+        inside = 'document.querySelector("iframe").contentDocument'
+        said = f'(it => it?.checkVisibility() && it.innerText)({inside}.querySelector("#not-started"))'
+        self.assertIn('cdpatch does not start inside another page.', self.browser.awaited(said))
+        self.assertEqual(self.browser.run(f'return {inside}.querySelector("#start").hidden'), True)
 
 
 class Pages(Stranger):
@@ -349,9 +339,7 @@ class Long(Stranger):
         files = discs.written(game=discs.game(), long=discs.script() + '#\n' * 200000)
         self.browser.run('document.querySelector("#tab-script").click()')
         self.open_image(files['game'])
-        self.browser.click('#tab-script')
-        self.browser.click('.editor textarea')
-        self.browser.press('\ue010', '\ue007', 'rebuild 7')
+        self.edit('\ue010', '\ue007', 'rebuild 7')
         self.open_script(files['long'])
         self.browser.wait('#messages .say.warn', 'This script replaced yours, which was not saved.')
         self.press('Bring it back')

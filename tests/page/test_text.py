@@ -7,8 +7,8 @@ from pathlib import Path
 import common
 import decoders
 import discs
-from pages import PageTest, applied
-from selenium.webdriver.common.keys import Keys
+from keys import Keys
+from pages import CLIPBOARD, PageTest, applied
 
 
 def places(text: bytes) -> list[str]:
@@ -19,7 +19,7 @@ def places(text: bytes) -> list[str]:
 
 
 class Text(PageTest):
-    def find(self, text: str) -> None:
+    def find_in_game(self, text: str = 'スタート') -> None:
         """Opens the game and finds a text by the keyboard."""
         self.files = discs.written(game=discs.game())
         self.open_image(self.files['game'])
@@ -31,7 +31,7 @@ class Text(PageTest):
         """Types a text, presses Enter, and waits until the new text can be typed."""
         self.browser.press(text, Keys.ENTER)
         self.browser.wait('#panel-text .hits tbody mark')
-        common.waited(lambda: self.browser.run('return document.activeElement.id === "new-text"'), 'the new text has no focus')
+        self.wait_for_focus('#new-text')
 
     def hits(self) -> list[str]:
         cells = 'return [...document.querySelectorAll(".hits tbody tr")].map(row => [...row.cells].slice(0, 2).map(it => it.innerText.split(",")[0].trim()).join(" "))'
@@ -41,7 +41,7 @@ class Text(PageTest):
         return self.browser.text(f'.hits tbody tr:nth-child({number})')
 
     def test_each_hit_is_found_with_its_file_and_what_stands_round_it(self) -> None:
-        self.find('スタート')
+        self.find_in_game()
         self.assertEqual(self.hits(), places(discs.START))
         self.assertEqual(len(self.hits()), 5)
         common.waited(lambda: 'もう一度スタートに戻りますか？' in self.row(3), self.row(3))
@@ -49,8 +49,8 @@ class Text(PageTest):
         self.assertIn('goes on in the next block', self.row(4))
 
     def test_hits_are_copied_as_a_table_with_file_and_text(self) -> None:
-        self.find('スタート')
-        self.browser.run('navigator.clipboard.writeText = async text => { globalThis.copied = text; };')
+        self.find_in_game()
+        self.browser.run(CLIPBOARD)
         self.press('Copy as a table')
         table = str(common.waited(lambda: self.browser.run('return globalThis.copied'), 'nothing is copied'))
         head, *rows = [line.split('\t') for line in table.splitlines()]
@@ -60,13 +60,13 @@ class Text(PageTest):
         self.assertIn('もう一度スタートに戻りますか？', rows[2][3])
 
     def test_the_bytes_round_a_hit_fit_the_width_of_their_card(self) -> None:
-        self.find('スタート')
+        self.find_in_game()
         for width, rows in ((1280, ':not(.cols8)'), (360, '.cols8'), (1280, ':not(.cols8)')):
             self.browser.size(width)
             self.browser.wait(f'.hex.around{rows}', 'スタート')
 
     def test_find_replace_check_and_apply_give_what_the_program_writes(self) -> None:
-        self.find('スタート')
+        self.find_in_game()
         self.browser.press('Start', Keys.ENTER)
         self.browser.wait('.hits tbody tr:nth-child(1)', 'in the script, line 2')
         self.browser.wait('#panel-text .side h2', f'Replace: block {discs.first_block()} offset')
@@ -87,11 +87,10 @@ class Text(PageTest):
         return bool(self.browser.run('return document.querySelector(arguments[0]).checkVisibility()', css))
 
     def choose(self, encoding: str) -> None:
-        self.browser.run('document.querySelector("#find-encoding").value = arguments[0]; '
-                         'document.querySelector("#find-encoding").dispatchEvent(new Event("change"))', encoding)
+        self.browser.choose('#find-encoding', encoding)
 
     def test_hits_are_shown_only_for_the_text_and_the_encoding_that_were_searched(self) -> None:
-        self.find('スタート')
+        self.find_in_game()
         self.choose('EUC-JP')
         self.assertFalse(self.shown('.hits'))
         self.choose('CP932')
@@ -114,19 +113,17 @@ class Text(PageTest):
         self.assertNotIn('searched to the end', self.browser.text('#panel-text'))
 
     def test_hits_are_counted_anew_after_the_script_has_changed(self) -> None:
-        self.find('スタート')
+        self.find_in_game()
         self.browser.press('Start', Keys.ENTER)
         self.browser.wait('.hits tbody tr:nth-child(1)', 'in the script, line 2')
         self.assertFalse(self.is_off('Replace all 4'))
-        self.browser.click('#tab-script')
-        self.browser.click('.editor textarea')
-        self.browser.press('z', held=Keys.CONTROL)
+        self.edit('z', held=Keys.CONTROL)
         self.browser.click('#tab-text')
         self.assertFalse(self.is_off('Replace all 5'))
         self.assertNotIn('in the script', self.row(1))
 
     def test_a_line_that_writes_a_hit_already_is_replaced(self) -> None:
-        self.find('スタート')
+        self.find_in_game()
         self.browser.press('Start', Keys.ENTER)
         self.browser.wait('.hits tbody tr:nth-child(1)', 'in the script, line 2')
         self.browser.click('.hits tbody tr:nth-child(1)')
@@ -138,7 +135,7 @@ class Text(PageTest):
         self.assertEqual(self.script_text(), f'cdpatch 1\nset {places(discs.START)[0]} {new} was {discs.START.hex().upper()}\n')
 
     def test_a_text_that_is_too_long_is_not_added(self) -> None:
-        self.find('スタート')
+        self.find_in_game()
         self.browser.press('Start game')
         self.browser.wait('#new-length', '10 bytes, 2 too many for the 8 of the old text')
         self.assertEqual(self.browser.run('return document.querySelectorAll(".gauge .over").length'), 2)
@@ -148,10 +145,9 @@ class Text(PageTest):
         self.assertTrue(self.browser.run('return document.querySelector("#count-script").hidden'))
 
     def test_a_wide_space_fills_only_what_it_fits(self) -> None:
-        self.find('スタート')
+        self.find_in_game()
         self.browser.press('Star')
-        self.browser.run('document.querySelector("#panel-text select.short").value = "8140"; '
-                         'document.querySelector("#panel-text select.short").dispatchEvent(new Event("change"))')
+        self.browser.choose('#panel-text select.short', '8140')
         self.browser.wait('.line-out', f'was {discs.START.hex().upper()}')
         self.assertIn('53746172' + '8140' * 2, self.browser.text('.line-out'))
         self.browser.click('#new-text')
@@ -273,13 +269,11 @@ class Text(PageTest):
         user = [bytes([0x2E] * 20) + '海Xスタ'.encode('cp932'), b'\0' + bytes([0x83, 0x83]) + b'X']
         self.open_image(discs.written(inside=common.image_of(user))['inside'])
         self.browser.click('#tab-text')
-        self.browser.run('document.querySelector("#find-encoding").value = "hex"; '
-                         'document.querySelector("#find-encoding").dispatchEvent(new Event("change"))')
+        self.choose('hex')
         self.browser.type('#find-text', '43 58')
         self.browser.press(Keys.ENTER)
         self.browser.wait('#panel-text .hits tbody mark')
-        self.browser.run('document.querySelector("#find-encoding").value = "CP932"; '
-                         'document.querySelector("#find-encoding").dispatchEvent(new Event("change"))')
+        self.choose('CP932')
         self.browser.wait('.hits tbody tr', 'perhaps in the middle of a character (byte before: 8A)')
 
     def test_a_table_of_the_game_is_an_encoding(self) -> None:

@@ -4,8 +4,8 @@ from pathlib import Path
 
 import common
 import discs
+from keys import Keys
 from pages import GATE, PageTest, applied
-from selenium.webdriver.common.keys import Keys
 from states import SENTENCES, dat_of, told, with_new
 
 
@@ -32,9 +32,9 @@ class TextsTable(PageTest):
     def test_the_table_is_what_cdscript_prints(self) -> None:
         image = self.begin(told())
         self.press('Export texts')
-        self.browser.wait('#panel-text .say.good', 'Saved: game (texts).tsv')
-        saved = common.waited(self.browser.downloaded('game (texts).tsv').read_text, 'the table is empty')
-        self.assertEqual(saved, self.printed(image))
+        self.browser.wait('#panel-text .say.good', 'Saved: game (texts).csv')
+        saved = common.waited(self.browser.downloaded('game (texts).csv').read_bytes, 'the table is empty').decode()
+        self.assertEqual(saved, common.cdscript_prints('texts', '--csv', image))
         self.assertIn(f"It has {len(saved.splitlines()) - 1} texts.", self.browser.text('#panel-text .say.good'))
         self.assertGreater(len(saved.splitlines()), len(SENTENCES))
         self.assertEqual(self.browser.attempts(), [])
@@ -68,6 +68,31 @@ class TextsTable(PageTest):
         self.assertEqual(self.script_text().splitlines(), ['# mine', head, *lines])
         self.press('Check')
         self.browser.wait('#panel-script .say.good', '3 changes, all fit')
+
+    def test_lines_whose_new_texts_are_gone_are_named_and_removed(self) -> None:
+        image = self.begin(told())
+        self.give(self.table(image, {2: 'The game starts.', 3: 'Save?', 5: 'The end.', 6: 'Start!'}))
+        self.browser.wait('#panel-text .say.good', '4 lines added to the script.')
+        corrected = self.table(image, {2: 'The game begins.', 5: 'The end.'})
+        self.give(corrected)
+        self.browser.wait('#panel-text .say.warn', 'All 2 new texts fit.')
+        self.browser.wait('#panel-text .say.warn', 'The table has no new text for the lines 3, 5 of the script.')
+        self.press('Remove from the script')
+        self.browser.wait('#panel-text .say.good', 'Lines removed: 2. Ctrl+Z in the script brings them back.')
+        self.press('Open Script')
+        self.assertEqual(self.script_text(), common.cdscript_prints('replace', image, '--list', corrected))
+        self.browser.click('.editor textarea')
+        self.browser.press('z', held=Keys.CONTROL)
+        self.browser.click('#tab-text')
+        self.give(self.table(image, {}))
+        self.browser.wait('#panel-text .say.warn', 'Nothing was added to the script.')
+        self.browser.wait('#panel-text .say.warn', 'The table has no new text for the lines 2, 3, 4, 5 of the script.')
+        # One that does not fit has a new text, and so has what a second row of the place does not name.
+        mine = self.table(image, {2: 'The game begins.', 3: 'much too long ' * 9})
+        mine.write_text(mine.read_text() + self.printed(image).splitlines()[1] + '\n')
+        self.give(mine)
+        self.browser.wait('#panel-text .say.warn', '1 new text fits, 1 does not.')
+        self.browser.wait('#panel-text .say.warn', 'The table has no new text for the lines 4, 5 of the script.')
 
     def test_rows_that_do_not_fit_are_a_list_to_walk(self) -> None:
         image = self.begin(told())

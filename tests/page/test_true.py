@@ -5,8 +5,8 @@ from pathlib import Path
 
 import common
 import discs
-from pages import GATE, NO_PICKER, PageTest
-from selenium.webdriver.common.keys import Keys
+from keys import Keys
+from pages import GATE, HELD, NO_PICKER, PageTest
 
 # The reading of the open image's volume descriptor, at sector 16, waits until the gate is opened.
 LATE_FILES = '''const { slice, arrayBuffer } = Blob.prototype, held = new WeakSet();
@@ -89,13 +89,10 @@ class Sayings(PageTest):
     def search(self, image: bytes, text: str, encoding: str = 'CP932') -> None:
         self.open_image(discs.written(texts=image)['texts'])
         self.browser.click('#tab-text')
-        self.choose(encoding)
+        self.browser.choose('#find-encoding', encoding)
         self.browser.type('#find-text', text)
         self.browser.press(Keys.ENTER)
         self.browser.wait('#panel-text .hits tbody mark')
-
-    def choose(self, encoding: str) -> None:
-        self.browser.run('const it = document.querySelector("#find-encoding"); it.value = arguments[0]; it.dispatchEvent(new Event("change"))', encoding)
 
     def test_a_tag_stands_once_at_a_hit(self) -> None:
         self.search(common.image_of([b'\0' + '殻z'.encode('cp932') * 90]), 'kz')
@@ -129,26 +126,42 @@ class Sayings(PageTest):
         self.search(discs.game(), 'スタート')
         self.press('Open the sector')
         self.browser.wait('#sector-title', f'block {discs.first_block()}')
-        common.waited(lambda: self.browser.run('return document.activeElement.className === "hex"'), 'no focus in the sector')
+        self.wait_for_focus('.hex')
 
     # ---- a disc
 
     def test_g_asks_for_a_block_while_a_second_image_is_open(self) -> None:
-        self.pair(discs.game(), discs.game())
-        self.browser.find('#map').send_keys('g')
-        self.assertEqual(self.browser.run('return document.activeElement.id'), 'go-to')
+        files = discs.written(first=discs.game(), second=discs.game())
+        self.open_image(files['first'])
+        self.browser.run(HELD)
+        self.open_files(files['second'])
+        self.browser.answer('Compare')
+        self.browser.wait('#second-body .progress')
+        self.browser.send('#map', 'g')
+        self.wait_for_focus('#go-to')
+        self.browser.run('letGo()')
+        self.browser.wait('#second-body .say.good')
         self.browser.press('7', Keys.ENTER)
+        self.browser.wait('#sector-title', 'block 7')
+
+    def test_a_block_that_is_being_typed_stays_while_the_sector_is_drawn_anew(self) -> None:
+        self.open_image(discs.written(game=discs.game())['game'])
+        self.go_to(20)
+        self.browser.run(GATE)
+        self.browser.send('#map', Keys.ARROW_RIGHT, 'g', '7')
+        self.browser.run('openGate()')
+        self.browser.wait('#sector-title', 'block 21')
+        self.browser.press(Keys.ENTER)
         self.browser.wait('#sector-title', 'block 7')
 
     def test_a_block_that_is_not_there_is_said_to_all(self) -> None:
         self.open_image(discs.written(game=discs.game())['game'])
-        self.browser.type('#go-to', '99999')
-        self.browser.press(Keys.ENTER)
-        self.browser.wait('#panel-disc .say.bad', f'The blocks of this image are 0 to {len(discs.game()) // 2352 - 1}.')
-        self.browser.type('#go-to', '5')
-        self.browser.press(Keys.ENTER)
-        self.browser.wait('#sector-title', 'block 5')
-        self.assertEqual(self.browser.text('#panel-disc .say.bad'), '')
+        for number in ('99999', ''):
+            self.browser.type('#go-to', f'{number}\n')
+            self.browser.wait('#panel-disc .say.bad', f'The blocks of this image are 0 to {len(discs.game()) // 2352 - 1}.')
+            self.browser.type('#go-to', '5\n')
+            self.browser.wait('#sector-title', 'block 5')
+            self.assertEqual(self.browser.text('#panel-disc .say.bad'), '')
 
     def test_what_is_sound_is_said_once_and_only_if_something_was_tested(self) -> None:
         for image, green in ((random.Random(4).randbytes(400 * 2352), 0), (discs.game(), 1)):

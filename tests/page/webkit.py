@@ -1,23 +1,28 @@
 """WebKit (Safari's engine), by WebKitGTK's driver: it wants an X server, and saves downloads in the home directory."""
 
+import importlib.util
 import os
 import unittest.mock
 from collections.abc import Sequence
 from pathlib import Path
 from typing import Any
 
-from selenium import webdriver
-from selenium.webdriver.common.by import By
-
-from common import PATIENCE, await_start, folder, waited
+from common import PATIENCE, Test, await_start, folder, waited, wants
 
 BROWSERS = sorted(Path('/usr/lib').glob('*/webkit2gtk-4.1/MiniBrowser'))
+
+
+def wanted(test: Test) -> Test:
+    """Skips a test where WebKit can't be driven."""
+    driven = unittest.skipUnless(importlib.util.find_spec('selenium'), "wants Debian's package python3-selenium")
+    return wants('WebKitWebDriver', 'webkit2gtk-driver')(wants('Xvfb', 'xvfb')(driven(test)))
 
 
 class WebKit:
     """One window. `downloads` is where it saves files."""
 
     def __init__(self) -> None:
+        from selenium import webdriver
         self.downloads = folder('home')
         options = webdriver.WebKitGTKOptions()
         options.binary_location = str(BROWSERS[0])
@@ -41,12 +46,12 @@ class WebKit:
 
     def click(self, css: str) -> None:
         self.wait(css)
-        self.driver.find_element(By.CSS_SELECTOR, css).click()
+        self.driver.find_element('css selector', css).click()
 
     def give(self, css: str, files: Sequence[Path]) -> None:
         await_start(self.run)
         for file in files:
-            self.driver.find_element(By.CSS_SELECTOR, css).send_keys(str(file))
+            self.driver.find_element('css selector', css).send_keys(str(file))
 
     def downloaded(self, name: str, seconds: float = PATIENCE) -> Path:
         """A file that was downloaded under this name, when its size stays."""

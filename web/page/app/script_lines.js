@@ -157,6 +157,17 @@ export class ScriptLines extends ScriptModel {
         return counts;
     }
 
+    /**
+     * Takes lines out, as one edit, and returns how many they were.
+     * @param {Set<string>} texts
+     */
+    remove(texts) {
+        const { lines, name } = this;
+        const kept = lines.filter(({ text }) => !texts.has(text));
+        this.take(kept.map(({ text }) => text).join('\n'), name);
+        return lines.length - kept.length;
+    }
+
     /** Whether this text is in a file, or nothing was written yet. */
     isSaved() {
         if (this.long) return this.long.saved;

@@ -74,7 +74,8 @@ class DiscPanel {
         this.findings.hide(pair !== null);
         this.map.show(model);
         this.legend.show(model);
-        this.sector.part.hidden = this.app.second !== null && this.app.place.block < 0;
+        const isAsked = this.sector.part.contains(document.activeElement); // for a block, while a second image is read
+        this.sector.part.hidden = this.app.second !== null && this.app.place.block < 0 && !isAsked;
         this.drawReadout();
     }
 

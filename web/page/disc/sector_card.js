@@ -82,6 +82,7 @@ export class SectorCard {
     ask() {
         this.part.hidden = false;
         this.goTo.focus();
+        this.goTo.select();
     }
 
     takeFocus() {
@@ -143,8 +144,10 @@ export class SectorCard {
         this.empty.hidden = true;
         this.body.hidden = false;
         fill(this.title, ...say(texts.sectorOfBlock, { block: term('block', texts.blockLabel), number: String(block) }));
-        this.goTo.value = String(block);
-        this.sayBlock('');
+        if (document.activeElement !== this.goTo) { // else a block is being typed there
+            this.goTo.value = String(block);
+            this.sayBlock('');
+        }
         fill(this.said, sectorFault(app, block, old, found));
         const fields = fieldsOf(kind);
         if (moved) this.drawFields(fields);
@@ -236,7 +239,7 @@ export class SectorCard {
     goToBlock(event) {
         event.preventDefault();
         const { image } = this.app;
-        const block = Number(this.goTo.value.trim().replace(/,/g, ''));
+        const block = Number(this.goTo.value.trim().replace(/,/g, '') || NaN);
         const isIn = image !== null && Number.isInteger(block) && block >= image.base && block < image.base + image.sectors;
         this.sayBlock(isIn || image === null ? ''
             : told(texts.blocksOfImage, { first: String(image.base), last: String(image.base + image.sectors - 1) }));

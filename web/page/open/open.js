@@ -4,7 +4,7 @@ import { readBytes } from '../../core/bytes.js';
 import { dataTrack, discFault, openDisc } from '../../core/disc/disc.js';
 import { natureOf } from '../../core/disc/file_type.js';
 import { FAULT, failedBy } from '../../core/faults.js';
-import { MOST_SCRIPT_BYTES } from '../../core/module/records.js';
+import { MOST_SCRIPT_BYTES, SECTOR_KIND } from '../../core/module/records.js';
 import { modelInParts } from '../../core/script/model.js';
 import { isMeantAsScript, isScript } from '../../core/script/script_start.js';
 import { MOST_SECTORS, SECTOR_SIZE, imageTooLong, sectorCount } from '../../core/sectors/sector.js';
@@ -93,6 +93,8 @@ async function takenAs(app, file) {
         if (await take(file)) return 'other';
     }
     const start = file.size > MOST_SCRIPT_BYTES ? new Uint8Array(0) : await fileReader(file).read(0, SCRIPT_START);
+    // What begins as a sector is no text: to read it as one takes long.
+    if (start.length >= SECTOR_SIZE && app.calls.kind(start.subarray(0, SECTOR_SIZE)) !== SECTOR_KIND.NOSYNC) return '';
     const text = new TextEncoder().encode(textOfFile(start));
     if (!isScript(app.calls, text) && !isMeantAsScript(app.calls, text)) return '';
     // The program reads no text with a mark of its encoding: what stands in the editor is in no file then.

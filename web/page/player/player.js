@@ -9,7 +9,7 @@ import { askBeforeLeaving, button, clearNotices, element, fill, hashParts, icon,
 import { jobBar, megabytes, nameOf, notice, refuseWhileSaving } from '../ui/index.js';
 import { ChosenDisc } from './chosen_disc.js';
 import { playWords, sheetFor, wordsWithoutSheet } from './play_words.js';
-import { VERDICTS, reasonForPlayer, reasonsOf } from './reason.js';
+import { VERDICTS, reasonForPlayer, refusalForPlayer } from './reason.js';
 import { authorsWords, moreOf } from './trust_note.js';
 import { imageOfSize, judgeImage } from './verdict.js';
 
@@ -159,7 +159,8 @@ export class Player {
     showOther(name, said, image, judged) {
         const { patches, refused } = judged;
         const carries = this.data.carry ? [texts.authorPatchesDamaged] : [];
-        const why = [...reasonsOf(patches, refused), ...carries, texts.nothingWasSaved].map(text => element('p', {}, text));
+        const reasons = refusalForPlayer(judged, image.reader.size, this.data.image.size);
+        const why = [...reasons, ...carries, texts.nothingWasSaved].map(text => element('p', {}, text));
         const box = element('div', { class: 'say bad' }, said, ...why, element('div', { class: 'row' },
             button('main', () => this.input.click(), texts.chooseAnotherImage)));
         const fitting = patches - refused.length;

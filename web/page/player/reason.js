@@ -41,6 +41,17 @@ export function reasonsOf(patches, refused, advices = {}) {
 }
 
 /**
+ * Why the patch does not fit a player's image. An older version of it leaves the size of the image, and what its sectors are.
+ * @param {Pick<Judged, 'patches' | 'refused'>} judged
+ * @param {number} size of the image
+ * @param {number} wanted that of the author's
+ */
+export function refusalForPlayer({ patches, refused }, size, wanted) {
+    const isOlder = size === wanted && refused.every(it => it === RESULT.DIFFERS);
+    return [...reasonsOf(patches, refused), ...isOlder ? [texts.olderPatchPerhaps] : []];
+}
+
+/**
  * What stands under the verdict on an image that is not refused, and not known by its SHA-1.
  * @param {Judged} judged
  * @param {number} size of the image

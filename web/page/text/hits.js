@@ -3,6 +3,7 @@
 import { MOST_PATCHES } from '../../core/module/records.js';
 import { lineText } from '../../core/script/line_list.js';
 import { replaceBytes } from '../../core/script/replace_bytes.js';
+import { linesMade } from '../../core/script/script_writer.js';
 import { leftHitText, replacedHits } from '../../core/texts/replace.js';
 
 /** @typedef {import('../../core/module/calls.js').Calls} Calls */
@@ -51,10 +52,6 @@ export async function linesReplacing(calls, image, hit, fresh, old) {
  * @param {{ signal: { aborted: boolean }, progress: (done: number, all: number) => void }} watch
  */
 export async function linesForAll(calls, image, encoding, hits, freshFor, watch) {
-    const made = { lines: /** @type {string[]} */ ([]), left: /** @type {string[]} */ ([]) };
-    for await (const it of replacedHits(calls, image, encoding, hits, freshFor, watch)) {
-        if (it.lines === null) made.left.push(leftHitText(it));
-        else made.lines.push(...textLines(it.lines));
-    }
-    return made;
+    const { parts, left } = await replacedHits(calls, image, encoding, hits, freshFor, watch);
+    return { lines: linesMade(parts.script(calls)), left: left.map(leftHitText) };
 }

@@ -17,9 +17,11 @@ import { announce, button, element, fill, isCancelled, jobBar, messageParts, nam
 import { runAt, showFailure, shownText, tableCard } from '../ui/index.js';
 import { AroundCard, readAround } from './around_card.js';
 import { chosenEncoding, tableSource } from './encodings.js';
+import { isWritten, linesOfOld, withdrawnLines } from './withdrawn.js';
 
 /** @typedef {import('../app/state.js').App} App */
 /** @typedef {import('../app/state.js').Image} Image */
+/** @typedef {import('../../core/script/merge_lines.js').ScriptLine} ScriptLine */
 /** @typedef {import('../../core/disc/disc.js').DiscImage} DiscImage */
 /** @typedef {import('../../core/texts/list.js').LeftRow} LeftRow */
 /** @typedef {import('../../core/texts/list.js').ListRow} ListRow */
@@ -110,19 +112,19 @@ export class TextsTable {
         return SEARCHED.includes(encoding) || !encoding.hasCharacters ? {} : { encoding: encoding.name };
     }
 
-    /** Saves the table that `cdscript texts` prints. */
+    /** Saves the table that `cdscript texts --csv` prints. */
     save() {
         return this.work(texts.lookingForTexts, '', texts.noTableSaved, async (image, bar, signal) => {
             const { part, files } = await inFileOrder(image.part);
-            const how = { asked: this.asked(), signal, progress: bar.sectors };
-            const pieces = [];
+            const how = { asked: this.asked(), signal, progress: bar.sectors, mark: ',' };
+            const pieces = ['\uFEFF'];
             let all = 0;
             for await (const { text, count } of tableOfTexts(this.app.crew, part, stretchesOf(part, files), how)) {
                 pieces.push(text);
                 all += count;
             }
             if (all === 0) return notice('plain', texts.noTextFound, texts.anotherEncoding);
-            const name = `${image.name.replace(/\.[^.]*$/, '')} (texts).tsv`;
+            const name = `${image.name.replace(/\.[^.]*$/, '')} (texts).csv`;
             downloadBytes(pieces, name);
             return notice('good', say(texts.fileSaved, { name: nameOf(name) }),
                 `${told(texts.tableHasTexts, { n: all })} ${texts.writeNewTexts}`);
@@ -150,21 +152,23 @@ export class TextsTable {
     take(file) {
         const { app } = this;
         return this.work(texts.makingLines, texts.makingOfRows, texts.nothingAdded, async (image, bar, signal) => {
-            const rows = await rowsOfList(fileReader(file), file.name);
+            const rows = await rowsOfList(fileReader(file), file.name, row => isWritten(app, row));
+            const fresh = rows.filter(row => row.fresh !== '');
             const { part } = await inFileOrder(image.part);
             const encoding = chosenEncoding(app);
             const isTable = app.tables.has(app.encoding);
             const given = isTable ? [encoding] : [...new Set([...encoding.hasCharacters ? [encoding] : [], ...SEARCHED])];
-            const watch = { signal, progress: bar.things };
-            const { parts, left } = await replaceList(app.calls, part, rows, encodingsOfRows(given, isTable), null, watch);
+            const encodings = encodingsOfRows(given, isTable);
+            const { parts, left } = await replaceList(app.calls, part, fresh, encodings, null, { signal, progress: bar.things });
             const script = parts.script(app.calls);
             if (script.patches > 0) await assertFits(app.calls, image, script);
             if (script.long) throw new Fault(texts.scriptLongerThanTaken);
+            const old = await linesOfOld(app, part, rows, encodings);
             if (app.image !== image) return null;
             const merged = script.patches === 0 ? { added: 0, replaced: 0, same: 0 }
                 : app.changeScript(lines => lines.merge(linesMade(script)));
-            this.showLeft(image, rows, left);
-            return this.madeNotice(rows.length - left.length, left.length, merged);
+            this.showLeft(image, left);
+            return this.madeNotice(fresh.length - left.length, left.length, merged, withdrawnLines(app, old, linesMade(script)));
         });
     }
 
@@ -172,30 +176,45 @@ export class TextsTable {
      * @param {number} fit
      * @param {number} left
      * @param {import('../../core/script/merge_lines.js').Merged} merged
+     * @param {ScriptLine[]} withdrawn
      */
-    madeNotice(fit, left, merged) {
-        const lines = merged.added + merged.replaced + merged.same;
+    madeNotice(fit, left, merged, withdrawn) {
+        const isAny = merged.added + merged.replaced + merged.same + withdrawn.length > 0;
         const added = mergedWords(merged).join(' ') || texts.nothingAdded;
-        const rows = left === 0 ? told(texts.newTextsFit, { n: fit })
+        const rows = fit + left === 0 ? '' : left === 0 ? told(texts.newTextsFit, { n: fit })
             : told(texts.someTextsFit, { n: fit, others: told(texts.othersDoNot, { n: left }) });
-        announce(`${added} ${rows}`);
-        return notice(left === 0 ? 'good' : 'warn', added, rows, lines > 0 && element('div', { class: 'row' },
-            button('slim', () => this.app.showPanel('script'), texts.openScriptPanel)));
+        const n = withdrawn.length;
+        const lines = withdrawn.map(({ number }) => number).slice(0, MOST_ROWS).join(', ') + (n > MOST_ROWS ? ', …' : '');
+        const others = n === 0 ? '' : told(texts.linesWithdrawn, { n, lines });
+        announce(`${added} ${rows} ${others}`.trim());
+        return notice(left + n === 0 ? 'good' : 'warn', added, rows, others && element('p', {}, others),
+            isAny && element('div', { class: 'row' },
+                n > 0 && button('slim', () => this.remove(withdrawn), texts.removeLines), this.scriptButton()));
+    }
+
+    scriptButton() {
+        return button('slim', () => this.app.showPanel('script'), texts.openScriptPanel);
+    }
+
+    /** @param {ScriptLine[]} withdrawn */
+    remove(withdrawn) {
+        const n = this.app.changeScript(script => script.remove(new Set(withdrawn.map(({ text }) => text))));
+        const head = told(texts.linesRemoved, { n });
+        announce(head);
+        fill(this.said, notice('good', head, element('div', { class: 'row' }, this.scriptButton())));
     }
 
     /**
      * Shows the rows that do not fit, each with its place.
      * @param {Image} image
-     * @param {ListRow[]} rows
      * @param {LeftRow[]} left
      */
-    showLeft(image, rows, left) {
+    showLeft(image, left) {
         this.results.hidden = left.length === 0;
         if (left.length === 0) return;
-        const byNumber = new Map(rows.map(row => [row.number, row]));
         const names = [texts.columnRow, texts.columnPlace, texts.columnText, texts.columnWhyNot];
         const head = element('tr', {}, ...names.map(name => element('th', { scope: 'col' }, name)));
-        const shown = left.slice(0, MOST_ROWS).map(it => this.leftRow(image, /** @type {ListRow} */ (byNumber.get(it.number)), it.why));
+        const shown = left.slice(0, MOST_ROWS).map(it => this.leftRow(image, it.text, it.why));
         const more = left.length > MOST_ROWS ? `${told(texts.moreRowsCopied, { n: left.length - MOST_ROWS })} ` : '';
         fill(this.left, tableCard(told(texts.rowsDoNotFit, { n: left.length }), head, shown,
             left.map(it => `${leftRowText(it)}\n`).join(''), more + texts.pressRow));

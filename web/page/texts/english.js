@@ -618,6 +618,10 @@ export const makingOfRows = 'rows';
 export const scriptLongerThanTaken = 'The script would be longer than cdpatch takes. cdscript replace --list makes it.';
 export const linesReplaced = '{n} line took the place of another one.|{n} lines took the place of others.';
 export const linesAsBefore = '{n} line is in the script already.|{n} lines are in the script already.';
+export const linesWithdrawn = 'The table has no new text for line {lines} of the script.|\
+The table has no new text for the lines {lines} of the script.';
+export const removeLines = 'Remove from the script';
+export const linesRemoved = 'Lines removed: {n}. Ctrl+Z in the script brings them back.';
 export const newTextsFit = 'The new text fits.|All {n} new texts fit.';
 export const someTextsFit = '{n} new text fits, {others}.|{n} new texts fit, {others}.';
 export const othersDoNot = '{n} does not|{n} do not';
@@ -1067,6 +1071,7 @@ export const chooseAnotherImage = 'Choose another image…';
 // and why
 export const holdOtherBytes = '{n} of {places} holds other bytes.|{n} of {places} hold other bytes.';
 export const otherReleaseProbably = 'It is probably another release of the game.';
+export const olderPatchPerhaps = 'Or an older version of this patch has changed it: choose the original image.';
 export const areDamaged = '{n} of {places} is damaged.|{n} of {places} are damaged.';
 export const tryAnotherDump = 'Try another dump of this disc, or repair this one with the full cdpatch.';
 export const holdNoData = '{n} of {places} holds no data here.|{n} of {places} hold no data here.';

@@ -1,0 +1,92 @@
+"""A process of Chromium, which is told what to do over two pipes: messages in JSON, each with a zero byte after it."""
+
+import fcntl
+import json
+import os
+import select
+import subprocess
+from collections.abc import Callable, Sequence
+from pathlib import Path
+from typing import Any
+
+# Seconds in which something has to be heard.
+SILENCE = 150
+
+
+class Refused(Exception):
+    """What Chromium says of a command that it does not do, or of a script that throws."""
+
+
+class DevTools:
+    """`heard` is given each event, by its name and what is told of it."""
+
+    def __init__(self, words: Sequence[str | Path], heard: Callable[[str, dict[str, Any]], None]) -> None:
+        self.heard = heard
+        self.number = 0
+        self.session = ''
+        self.answers: dict[int, dict[str, Any]] = {}
+        self.begun: list[bytes] = []
+        orders, self.orders = os.pipe()
+        self.said, said = os.pipe()
+
+        def wired() -> None:
+            """It reads from 3 and writes to 4."""
+            for kept, wanted in [(fcntl.fcntl(end, fcntl.F_DUPFD, 10), number) for number, end in ((3, orders), (4, said))]:
+                os.dup2(kept, wanted)
+
+        self.process = subprocess.Popen([*words, '--remote-debugging-pipe'], stdin=subprocess.DEVNULL, stdout=subprocess.DEVNULL,
+                                        stderr=subprocess.DEVNULL, close_fds=False, preexec_fn=wired)
+        for end in (orders, said):
+            os.close(end)
+
+    def tell(self, command: str, **given: Any) -> int:
+        """Gives a command, and returns its number."""
+        self.number += 1
+        message = {'id': self.number, 'method': command, 'params': given}
+        if self.session:
+            message['sessionId'] = self.session
+        data = json.dumps(message).encode() + b'\0'
+        while data:
+            data = data[os.write(self.orders, data):]
+        return self.number
+
+    def answer(self, number: int) -> dict[str, Any]:
+        """What the command with this number gives."""
+        while number not in self.answers:
+            self.hear()
+        found = self.answers.pop(number)
+        if 'error' in found:
+            raise Refused(found['error']['message'])
+        given: dict[str, Any] = found['result']
+        return given
+
+    def ask(self, command: str, **given: Any) -> dict[str, Any]:
+        return self.answer(self.tell(command, **given))
+
+    def hear(self) -> None:
+        """Takes what has come, and waits for something."""
+        if not select.select([self.said], [], [], SILENCE)[0]:
+            raise TimeoutError(f'Chromium has said nothing for {SILENCE} s')
+        data = os.read(self.said, 1 << 20)
+        if not data:
+            raise ConnectionError('Chromium has ended')
+        *whole, rest = data.split(b'\0')
+        if whole:
+            whole[0] = b''.join([*self.begun, whole[0]])
+            self.begun = []
+        self.begun.append(rest)
+        for text in whole:
+            message = json.loads(text)
+            if 'id' in message:
+                self.answers[message['id']] = message
+            else:
+                self.heard(message['method'], message['params'])
+
+    def end(self) -> None:
+        self.session = ''
+        try:
+            self.tell('Browser.close')
+            self.process.wait(30)
+        except (OSError, subprocess.TimeoutExpired):
+            self.process.kill()
+            self.process.wait()
