@@ -1,7 +1,7 @@
 # `make install` installs the program, the library, its WebAssembly modules, cdscript and cdpatch.html if they were made, the Python
-# package, the man pages, the completions, the pages for users and the examples. `make uninstall` removes the files that it installed, and
-# the directories that are empty then, but the first ones below the prefix. What is made here is made in a directory of its own, since a
-# redirection would follow a link. In a release's tarball this file is the Makefile.
+# package, the man pages, the completions, the pages for users and the examples. `make uninstall` removes the files that it installed, what
+# Python has compiled of them, and the directories that only cdpatch has; others may own the rest, though it is empty. What is made here is
+# made in a directory of its own, since a redirection would follow a link. In a release's tarball this file is the Makefile.
 .PHONY: install install-joined install-modules uninstall
 
 PROGRAM = cdpatch
@@ -35,7 +35,7 @@ pagedir = $(datarootdir)/cdpatch
 pythondir = $(datarootdir)/cdpatch/python
 # The pages for users, and the examples; the other pages are for those who change the sources.
 PAGES = CHANGELOG.md $(addprefix docs/,SCRIPTS.md TRANSLATE.md REPAIR.md MODULES.md TRUST.md parts.svg sector.svg apply.svg page.png) \
-    $(addprefix examples/,audit.c patch_pipe.c patch_map.c damaged.rs)
+    $(addprefix examples/,audit.c patch_pipe.c patch_map.c fixlist.py damaged.rs)
 # The calls of the library, each of which has the man page by its name too.
 CALLS = $(shell sed -n '/^\.Sh SYNOPSIS/,/^\.Sh DESCRIPTION/s/^\.Fn \([a-z0-9_]*\) .*/\1/p' man/libcdpatch.3)
 WASM = cdpatch.wasm cdpatch-wasm64.wasm
@@ -104,10 +104,10 @@ uninstall:
 	for page in NOTICES README.md docs/INSTALL.md $(PAGES); do rm -f '$(DESTDIR)$(docdir)'/$$page; done
 	for file in $(PYTHON); do rm -f '$(DESTDIR)$(pythondir)'/$$file; done
 	rm -rf '$(DESTDIR)$(pythondir)/cdpatch/__pycache__'
+	rm -f '$(DESTDIR)$(pythondir)'/__pycache__/backend.*.pyc
 	rm -f '$(DESTDIR)$(bindir)/cdscript' '$(DESTDIR)$(pagedir)/cdpatch.html' '$(DESTDIR)$(man1dir)/cdscript.1' \
 	    '$(DESTDIR)$(bashcompdir)/cdscript' '$(DESTDIR)$(zshcompdir)/_cdscript' '$(DESTDIR)$(fishcompdir)/cdscript.fish'
-	for directory in '$(docdir)/docs' '$(docdir)/examples' '$(docdir)' '$(docdir)/..' '$(pythondir)/cdpatch' '$(pythondir)' '$(pagedir)' \
-	    '$(cmakedir)' '$(cmakedir)/..' '$(fastdir)' '$(fastdir)/..' '$(pkgconfigdir)' '$(man1dir)' '$(man3dir)' '$(mandir)' \
-	    '$(bashcompdir)' '$(bashcompdir)/..' '$(zshcompdir)' '$(zshcompdir)/..' '$(fishcompdir)' '$(fishcompdir)/..'; do \
-	    rmdir "$$(realpath -m '$(DESTDIR)'"$$directory")" 2> /dev/null || true; \
+	for directory in '$(docdir)/docs' '$(docdir)/examples' '$(docdir)' '$(pythondir)/cdpatch' '$(pagedir)/python/__pycache__' \
+	    '$(pagedir)/python' '$(pagedir)' '$(cmakedir)'; do \
+	    rmdir '$(DESTDIR)'"$$directory" 2> /dev/null || true; \
 	done

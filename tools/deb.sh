@@ -21,8 +21,25 @@ install_all() {
     make --no-print-directory -s -C "$release" install DESTDIR="$root" PREFIX=/usr libdir=/usr/lib/$triplet \
         zshcompdir=/usr/share/zsh/vendor-completions pythondir=/usr/lib/python3/dist-packages
     rm -f "$root"/usr/lib/python3/dist-packages/*.*
+    name_places
     find "$root/usr/share/man" -type f -exec gzip -9n {} +
     find "$root/usr/share/man" -type l -exec sh -c 'ln -s "$(readlink "$1").gz" "$1.gz" && rm "$1"' link {} \;
+}
+
+# The pages name Debian's places. How to install a tarball is left out, and the changelog has another name.
+name_places() {
+    sed -i 's,/usr/local/share/cdpatch/python,/usr/lib/python3/dist-packages,; s,/usr/local/share,/usr/share,' \
+        "$root"/usr/share/man/man1/cdpatch.1 "$root"/usr/share/man/man3/libcdpatch.3
+    sed -i '/^<!-- tarball -->$/,/^<!-- end of tarball -->$/d; s,CHANGELOG\.md,changelog.gz,g' "$pages/README.md"
+}
+
+# By which pip and importlib.metadata know the Python package.
+tell_pip() {
+    local about=$root/usr/lib/python3/dist-packages/cdpatch-$version.dist-info
+    mkdir "$about"
+    printf 'Metadata-Version: 2.1\nName: cdpatch\nVersion: %s\nSummary: %s\n' "$version" \
+        "$(sed -n 's/^description = "\(.*\)"$/\1/p' python/pyproject.toml)" > "$about/METADATA"
+    echo dpkg > "$about/INSTALLER"
 }
 
 # What Debian's policy wants beside them: terms, and the history of the package.
@@ -53,6 +70,15 @@ cdpatch: initial-upload-closes-no-bugs
 END
 }
 
+# A script of its own, since what Python compiles there is no file of the package: dpkg would leave it, and its directory.
+before_removal() {
+    cat << 'END'
+#!/bin/sh
+set -e
+rm -rf "$DPKG_ROOT/usr/lib/python3/dist-packages/cdpatch/__pycache__"
+END
+}
+
 control() {
     mkdir "$root/DEBIAN"
     cat << END
@@ -77,10 +103,13 @@ END
 
 maintainer="$(sed -n 's/^authors = \[{name = "\(.*\)"}\]$/\1/p' python/pyproject.toml) <$(sed -n 's/^address: *//p' tools/owner.txt)>"
 install_all
+tell_pip
 describe
 override
 control > "$scratch/control"
 mv "$scratch/control" "$root/DEBIAN/control"
+before_removal > "$root/DEBIAN/prerm"
+chmod 755 "$root/DEBIAN/prerm"
 echo 'activate-noawait ldconfig' > "$root/DEBIAN/triggers"
 echo "libcdpatch 1 cdpatch (>= ${version%.*})" > "$root/DEBIAN/shlibs"
 (cd "$root" && find usr -type f | LC_ALL=C sort | xargs -d '\n' md5sum) > "$scratch/md5sums"

@@ -15,7 +15,11 @@ esbuild web/npm/cdpatch.js --bundle --format=esm --platform=neutral --target=es2
     --legal-comments=none --log-level=warning --outfile="$scratch/package/cdpatch.js"
 tsc --allowJs --strict --declaration --emitDeclarationOnly --target es2022 --module es2022 --moduleResolution node --lib es2022,dom \
     --outDir "$scratch/types" web/npm/cdpatch.js web/npm/node.d.ts
-cp "$scratch/types/npm/cdpatch.d.ts" web/npm/README.md web/npm/example.html "$library"/{cdpatch.wasm,NOTICES} "$scratch/package"
+mkdir -p "$scratch"/package/types/{npm,core/module}
+for file in npm/{cdpatch,errors} core/faults core/module/numbers; do
+    cp "$scratch/types/$file.d.ts" "$scratch/package/types/$file.d.ts"
+done
+cp web/npm/README.md web/npm/example.html "$library"/{cdpatch.wasm,NOTICES} "$scratch/package"
 # npm starts a command by the first line, on all systems.
 { echo '#!/usr/bin/env node'; sed "1,/^\*\/;$/d" "$cdscript"; } > "$scratch/package/cdscript.cjs"
 chmod +x "$scratch/package/cdscript.cjs"
@@ -27,10 +31,10 @@ cat > "$scratch/package/package.json" << END
     "type": "module",
     "engines": { "node": ">=18" },
     "exports": {
-        ".": { "types": "./cdpatch.d.ts", "default": "./cdpatch.js" },
+        ".": { "types": "./types/npm/cdpatch.d.ts", "default": "./cdpatch.js" },
         "./cdpatch.wasm": "./cdpatch.wasm"
     },
-    "types": "./cdpatch.d.ts",
+    "types": "./types/npm/cdpatch.d.ts",
     "bin": { "cdscript": "cdscript.cjs" },
     "license": "$([ -f LICENSE ] && sed -n 's/^licence: *//p' tools/owner.txt || echo UNLICENSED)"
 }

@@ -25,6 +25,14 @@ programs=("$scratch/bin/cdpatch")
 [ ! -e "$scratch/bin/cdscript" ] || programs+=("$scratch/bin/cdscript")
 missing python3 python3 'all that is made of help' || python3 -B "$top/tools/options.py" completions "$completions" "${programs[@]}" || exit 1
 
+# help_of JOB: help of a job of cdscript, or of cdscript if JOB is empty, asked once.
+help_of() {
+    local kept=$scratch/help_of_$1
+    [ -e "$kept" ] || cdscript ${1:+"$1"} --help > "$kept"
+    cat "$kept"
+}
+jobs_of_cdscript() { help_of '' | sed -n '/^Jobs:/,/^$/s/^  \([a-z-]*\) .*/\1/p'; }
+
 # same NAME WANTED GOT: counts whether two files are equal, and shows how they differ.
 same() {
     if cmp -s "$2" "$3"; then
@@ -33,6 +41,11 @@ same() {
         judge "$1" false
         diff "$2" "$3" | head -n 20
     fi
+}
+
+# kept_by_python DIRECTORY CODE: runs Debian's Python with the package of a directory. It keeps what it compiles, as it does for a user.
+kept_by_python() {
+    env -u PYTHONDONTWRITEBYTECODE -u PYTHONPYCACHEPREFIX CDPATCH_LIBRARY="$library/libcdpatch.so.1" PYTHONPATH="$1" /usr/bin/python3 -c "$2"
 }
 
 # enter NAME: goes into a new directory with the image of eight sectors, and links to the sources' crates.
@@ -44,6 +57,22 @@ enter() {
     ln -s "$program" cdpatch
 }
 
+# copied DIRECTORY: what `make dist` packs, in this directory.
+copied() {
+    mkdir -p "$1/made"
+    (cd "$top" && cp -r --parents Makefile install.mk README.md CHANGELOG.md docs man examples include python tools web "$1")
+    cp -r "$library" "$1/library"
+    cp -r "$completions" "$1/completions"
+    cp "$program" "$1/cdpatch"
+    [ ! -e "$joined/cdscript" ] || cp "$joined/cdscript" "$joined/cdpatch.html" "$1"
+}
+# dist DIRECTORY [WORD..]: what `make dist` prints there.
+dist() { make --no-print-directory -s -C "$1" dist distdir=made "${@:2}"; }
+# packed: `packed/made` has the tarball and the packages, which are made once for all tests here, and `packed/printed` what was printed.
+packed() {
+    [ -e "$scratch/packed" ] || { copied "$scratch/packed" && dist "$scratch/packed" > "$scratch/packed/printed"; }
+}
+
 # The shell and the awk of the examples: the plainest that are there.
 mkdir "$scratch/plain"
 ln -s "$(command -v mawk || command -v awk)" "$scratch/plain/awk"
@@ -52,5 +81,5 @@ plain="sh"
 missing dash dash 'the examples in dash' || plain="dash"
 
 # The crates that are libraries of the repository's own, and the files of code of a crate, without tests.
-library_crates=(cd_code cd_lanes cd_sector cd_delta cd_script cd_patch cd_line cd_run cd_stream cd_read cd_report cd_image cd_args cd_program cd_memory)
+library_crates=(cd_address cd_code cd_lanes cd_sector cd_delta cd_script cd_patch cd_line cd_run cd_stream cd_read cd_report cd_image cd_args cd_program cd_memory)
 sources() { find "$top/crates/$1/src" -name '*.rt' ! -path '*/tests/*' ! -name tests.rt; }

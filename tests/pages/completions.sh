@@ -120,10 +120,10 @@ fi
 
 # The completions of cdscript: its jobs and options, what repeats, values, and which names are files.
 asked_of_cdscript() {
-    offers "$(cdscript --help | sed -n '/^Jobs:/,/^$/s/^  \([a-z-]*\) .*/\1/p' | sort | paste -sd ' ')" ''
+    offers "$(jobs_of_cdscript | sort | paste -sd ' ')" ''
     offers '--help --notices --version' --
     for job in info replace replace-file diff merge raw; do
-        offers "$(cdscript $job --help | sed -nE 's/^ +(-.,)? ?(--[a-z-]+) .*/\2/p' | sort | paste -sd ' ')" $job --
+        offers "$(help_of $job | sed -nE 's/^ +(-.,)? ?(--[a-z-]+) .*/\2/p' | sort | paste -sd ' ')" $job --
     done
     offers '--dat' merge --dat image --d
     offers '' find --track 2 --tr

@@ -141,9 +141,8 @@ judge 'docs/SPEED.md has at most 40 lines' test "$(wc -l < "$top/docs/SPEED.md")
 if ! missing make make 'the pages of the tarball'; then
     mkdir "$scratch/from_tarball"
     cd "$scratch/from_tarball" || exit 1
-    COMPLETIONS=$completions bash "$top/tools/dist.sh" "$program" "$library" "$joined" . > checksum
-    tar -xzf ./*.tar.gz
-    rm -f ./*.* 2> /dev/null
+    packed
+    tar -xzf "$scratch"/packed/made/*.tar.gz
     make --no-print-directory -s -C cdpatch-*-linux > said
     judge 'make in the tarball installs nothing' test "$(cat said)" = 'Everything is built: make install installs it.'
     make --no-print-directory -s -C cdpatch-*-linux install PREFIX="$PWD/prefix"

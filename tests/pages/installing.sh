@@ -41,7 +41,7 @@ $(cd "$top/python" && for file in {backend.py,pyproject.toml} cdpatch/{*.py,py.t
     echo "./usr/share/cdpatch/python/$file $top/python/$file"; done)
 ./usr/share/doc/cdpatch/NOTICES $library/NOTICES
 $(for page in CHANGELOG.md docs/{MODULES,REPAIR,SCRIPTS,TRANSLATE,TRUST}.md docs/{apply,parts,sector}.svg docs/page.png \
-    examples/{audit.c,damaged.rs,patch_map.c,patch_pipe.c}; do echo "./usr/share/doc/cdpatch/$page $top/$page"; done)
+    examples/{audit.c,damaged.rs,fixlist.py,patch_map.c,patch_pipe.c}; do echo "./usr/share/doc/cdpatch/$page $top/$page"; done)
 ./usr/share/doc/cdpatch/README.md $top/tools/README.tarball.md
 ./usr/share/doc/cdpatch/docs/INSTALL.md $PWD/INSTALL.md
 ./usr/share/fish/vendor_completions.d/cdpatch.fish $completions/cdpatch.fish
@@ -87,13 +87,51 @@ EOF
     judge 'what a link there names is not written over' test "$(cat victim)" = kept -a \
         -z "$(find root -type l ! -lname 'libcdpatch.*')"
     wrong_versions 'a wrong make install' && writes_through_links
-    mkdir root/usr/share/cdpatch/python/cdpatch/__pycache__
-    touch root/usr/bin/another root/usr/share/cdpatch/python/cdpatch/__pycache__/_library.cpython-311.pyc
+    used_by_python
+    touch root/usr/bin/another
     judge 'make uninstall' built uninstall DESTDIR="$PWD/root" PREFIX=/usr
     judge 'it leaves what others installed, and no more' test "$(files root)" = ./usr/bin/another
-    judge 'and of directories the first ones below the prefix' test "$(find root -type d | sort | paste -sd ' ')" = \
-        'root root/usr root/usr/bin root/usr/include root/usr/lib root/usr/share'
+    judge 'of the directories it removes those of cdpatch, and no others' test "$(find root -type d | sort)" = "$(grep -v /cdpatch directories)"
     judge 'make uninstall of nothing' built uninstall DESTDIR="$PWD/root" PREFIX=/usr
+}
+
+# Python keeps there what it compiles: of the package when a program imports it, and of what makes a wheel of it when pip installs it.
+used_by_python() {
+    local package=root/usr/share/cdpatch/python
+    find root -type d | sort > directories
+    missing /usr/bin/python3 python3 'an uninstall after Python was used' && return
+    judge 'Python keeps what it compiles of the package' eval 'kept_by_python $package "import cdpatch" && [ -d $package/cdpatch/__pycache__ ]'
+    missing pip3 python3-pip 'an uninstall after pip was used' && return
+    env -u PYTHONDONTWRITEBYTECODE -u PYTHONPYCACHEPREFIX pip3 --disable-pip-version-check install --no-index --quiet --target site \
+        "$package" > log 2>&1
+    judge 'pip installs the package, and leaves what makes its wheel compiled' eval "[ -f site/cdpatch/_numbers.py ] && [ -d $package/__pycache__ ]"
+}
+
+# A root in which the directories below the prefix are others', as those of Debian's base-files are.
+uninstalled_among_others() {
+    mkdir -p others/usr/share/{man/man1,zsh/site-functions} others/usr/lib/{pkgconfig,cmake} others/python/__pycache__
+    find others | sort > others.before
+    built install DESTDIR="$PWD/others" PREFIX=/usr pythondir=/python
+    touch others/python/__pycache__/another.cpython-311.pyc
+    built uninstall DESTDIR="$PWD/others" PREFIX=/usr pythondir=/python
+    judge 'make uninstall leaves what others compiled beside the package' rm others/python/__pycache__/another.cpython-311.pyc
+    judge 'it leaves empty directories that were there' test -z "$(find others | sort | comm -13 - others.before)"
+    judge 'and none that is called cdpatch' test -z "$(find others -name '*cdpatch*')"
+}
+
+wrong_uninstalls() {
+    sed -E "s,'\\$\(pagedir\)' '\\$\(cmakedir\)';,'\$(pagedir)' '\$(cmakedir)' '\$(man1dir)' '\$(mandir)' '\$(zshcompdir)';," \
+        "$top/install.mk" > wrong.mk
+    judge 'an uninstall that removes more is another' eval '! cmp -s wrong.mk "$top/install.mk"'
+    built install DESTDIR="$PWD/others" PREFIX=/usr
+    built -f "$PWD/wrong.mk" uninstall DESTDIR="$PWD/others" PREFIX=/usr
+    judge 'and is refused, since a directory that was there is gone' test -n "$(find others | sort | comm -13 - others.before)"
+    sed "/backend\.\*\.pyc/d" "$top/install.mk" > wrong.mk
+    judge 'an uninstall that leaves what pip has left is another' eval '! cmp -s wrong.mk "$top/install.mk"'
+    built install DESTDIR="$PWD/root" PREFIX=/usr
+    used_by_python
+    built -f "$PWD/wrong.mk" uninstall DESTDIR="$PWD/root" PREFIX=/usr
+    judge 'and is refused, since a file stays' test "$(files root)" != ./usr/bin/another
 }
 
 installed_elsewhere() {
@@ -120,6 +158,8 @@ if ! missing make make 'make install'; then
     sed '/^<!-- sources/,/^<!-- end/d' "$top/docs/INSTALL.md" > INSTALL.md
     judge 'INSTALL has parts for the sources only' test "$(wc -l < INSTALL.md)" -lt "$(wc -l < "$top/docs/INSTALL.md")"
     installed_for_a_package
+    uninstalled_among_others
+    wrong_versions 'a wrong make uninstall' && wrong_uninstalls
     installed_elsewhere
 fi
 

@@ -26,7 +26,7 @@ PROGRAMS = set('''rt nm git grep sha256sum ssh-keygen pkg-config chdman printf s
     mypy tsc ulimit parallel cmp head bash esbuild wasm-opt eslint shellcheck time trap fpath'''.split())
 OTHERS = set('''std Heap LocalHeap Allocator AllocError grind nonnull PREGAP setuptools override_dh_auto_test debhelper XDG_DATA_DIRS
     LD_LIBRARY_PATH PKG_CONFIG_PATH manylinux_2_34_x86_64 logic-built libraries-built getcwd flock futimens getdents64 lchown lseek
-    pipe2 statx unlinkat vector data minify-syntax allow-holes axioms'''.split())
+    pipe2 statx unlinkat vector data minify-syntax allow-holes axioms writeFile'''.split())
 
 WORD = re.compile(r'[A-Za-z_][A-Za-z0-9_]*(?:-[A-Za-z0-9_]+)*')
 # What stands for something, or is a number, a checksum, a release, or a name of the C library or of the toolchain below it.

@@ -3,10 +3,11 @@
 import assert from 'node:assert/strict';
 import { spawnSync } from 'node:child_process';
 import { readFileSync, writeFileSync } from 'node:fs';
-import { ScriptError, load, openFile, patchedStream } from 'cdpatch';
+import { open } from 'node:fs/promises';
+import { Fault, RESULT, ScriptError, load, openFile, patchedStream } from 'cdpatch';
 
 const program = process.argv[2];
-const sound = new Uint8Array(readFileSync('disc.bin'));
+const sound = Uint8Array.from(readFileSync('disc.bin'));
 const damaged = sound.slice();
 damaged[2352 * 3 + 2070] ^= 1;
 damaged[2352 * 5 + 12] ^= 1;
@@ -25,7 +26,7 @@ const cdpatch = await load();
 assert.equal(`cdpatch ${cdpatch.version}`, programs('--help').text.trimEnd().split('\n').pop());
 for (const [name, bytes] of [['disc.bin', sound], ['damaged.bin', damaged]]) {
     const file = await openFile(name);
-    for (const image of [bytes, new Blob([bytes]), short(bytes), file]) {
+    for (const image of [bytes, bytes.buffer, new Blob([bytes]), short(bytes), file]) {
         assert.deepEqual(await cdpatch.list(image), programs('list', name));
         assert.deepEqual(await cdpatch.audit(image, { base: 150 }), programs('audit', '--base', '150', name));
     }
@@ -62,3 +63,81 @@ await assert.rejects(cdpatch.check(sound, faulty), refused);
 await assert.rejects(cdpatch.patches(faulty), refused);
 await assert.rejects(cdpatch.apply(sound, faulty, () => assert.fail()), refused);
 await assert.rejects(patchedStream(cdpatch, sound, faulty).report, refused);
+
+// An argument of another kind, and a script in all kinds.
+const handle = await open('disc.bin');
+const read = async () => new Uint8Array(0);
+const others = [handle, new DataView(sound.buffer), new Uint16Array(sound.buffer), null, undefined, 7, { size: 7 }, { size: '7', read },
+    { size: NaN, read }];
+for (const other of others) {
+    const isNamed = what => error => error instanceof TypeError
+        && error.message.startsWith(`${what} a Blob, a Uint8Array, an ArrayBuffer, what openFile gives`);
+    for (const job of ['survey', 'list', 'audit', 'check', 'apply']) {
+        await assert.rejects(cdpatch[job](other, bytes, () => assert.fail()), isNamed('an image is'));
+    }
+    await assert.rejects(cdpatch.check(sound, other), isNamed('a script is a string,'));
+    await assert.rejects(cdpatch.patches(other), isNamed('a script is a string,'));
+    await assert.rejects(new Response(patchedStream(cdpatch, other, script).stream).arrayBuffer(), isNamed('an image is'));
+}
+await handle.close();
+await assert.rejects(cdpatch.audit('disc.bin'), /^TypeError: an image is .*, and not String$/);
+await assert.rejects(cdpatch.apply(sound, script), TypeError);
+for (const kind of [script, bytes.slice().buffer, new Blob([script]), short(bytes)]) {
+    assert.deepEqual(await cdpatch.check(damaged, kind), await cdpatch.check(damaged, bytes));
+    assert.equal((await cdpatch.patches(kind)).length, 4);
+}
+class Slow {
+    get size() { return damaged.length; }
+    async read(at, length) { return damaged.slice(at, at + length); }
+}
+assert.deepEqual(await cdpatch.check(new Slow(), script), await cdpatch.check(damaged, script));
+
+// What errors and results are called.
+const { outcomes } = await cdpatch.check(damaged, script);
+assert.deepEqual(outcomes.map(({ result }) => result), [RESULT.OK, RESULT.DIFFERS, RESULT.DAMAGED, RESULT.OK]);
+await assert.rejects(cdpatch.check(sound, 'cdpatch 1\n\nset 0 0 XY\n'), { name: 'ScriptError', line: 3 });
+await assert.rejects(cdpatch.patches('# no head\n'), { name: 'ScriptError', line: 2 });
+await assert.rejects(cdpatch.check(sound, new Uint8Array(67108865)), error => error instanceof ScriptError && error.line === null);
+const early = { size: sound.length, read: async (at, length) => sound.slice(at, Math.min(at + length, 2352)) };
+for (const job of [() => cdpatch.survey(early), () => cdpatch.apply(early, script, () => {})]) {
+    await assert.rejects(job(), error => error instanceof Fault && error.code === 'image ended');
+}
+
+// A script that says another base is refused with cdscript's words.
+const based = 'cdpatch 1\n# base 100\nset 101 5 0102\n';
+writeFileSync('based', based);
+const { stderr } = spawnSync(process.execPath, ['node_modules/cdpatch/cdscript.cjs', 'check', 'disc.bin', 'based']);
+const [, words] = /^cdscript: (.*): give --base 100/m.exec(stderr);
+await assert.rejects(cdpatch.check(sound, based), error => error instanceof ScriptError && error.message === words && error.line === 2);
+await assert.rejects(cdpatch.apply(sound, based, () => assert.fail(), { base: 150 }), ScriptError);
+assert.equal((await cdpatch.check(sound, based, { base: 100 })).status, 0);
+
+// A stream ends well only if the whole image was made.
+const long = { size: 2352 * 1000001, read: async (_, length) => new Uint8Array(length) };
+const cut = patchedStream(cdpatch, long, script);
+const tooLong = { name: 'Fault', message: 'cdpatch: the image has more than 1000000 sectors' };
+await assert.rejects(new Response(cut.stream).arrayBuffer(), tooLong);
+assert.equal((await cut.report).status, 2);
+
+const ended = patchedStream(cdpatch, sound, script, { signal: AbortSignal.abort() });
+await assert.rejects(new Response(ended.stream).arrayBuffer(), { name: 'AbortError' });
+
+// Who hears of a job, and ends it.
+const many = new Uint8Array(2352 * 4000);
+for (let at = 0; at < many.length; at += sound.length) many.set(sound, at);
+const far = 'cdpatch 1\nset 0 5 01\nset 2000 5 01\nset 3999 5 01\n';
+const jobs = {
+    survey: settings => cdpatch.survey(many, settings), audit: settings => cdpatch.audit(many, settings),
+    check: settings => cdpatch.check(many, far, settings), apply: settings => cdpatch.apply(many, far, () => {}, settings),
+};
+for (const [name, job] of Object.entries(jobs)) {
+    const heard = [];
+    await job({ progress: (done, all) => heard.push([done, all]) });
+    assert.ok(heard.length > 1, name);
+    assert.ok(heard.every(([done, all], i) => all === many.length && (i === 0 || done >= heard[i - 1][0])), name);
+    assert.equal(heard.pop()[0], many.length, name);
+    const ending = new AbortController();
+    const progress = done => done > 0 && ending.abort(new Error('enough'));
+    await assert.rejects(job({ signal: ending.signal, progress }), /^Error: enough$/, name);
+    await assert.rejects(job({ signal: AbortSignal.abort() }), { name: 'AbortError' }, name);
+}

@@ -22,7 +22,7 @@ def main() -> None:
         browser.type('#script', 'cdpatch 1\nset 0\n')
         browser.drop('h1', [image])
         browser.wait('#log', 'line 2')
-        assert not browser.find('#made').is_displayed(), 'it offers a file by a script with an error'
+        assert not browser.run("return document.querySelector('#made').checkVisibility()"), 'it offers a file by a script with an error'
         others = [it for it in browser.attempts() if 'favicon.ico' not in it and server.url not in it]
         assert others == [], others
     finally:

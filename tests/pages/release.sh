@@ -1,36 +1,24 @@
 # `make dist`: the tarball and the packages install without a toolchain, and their bytes are those of their files, wherever and whenever
 # they are made.
 
-# pack DIRECTORY: a tarball of the program, of a copy of the sources in this directory, into `made` there.
-pack() {
-    mkdir -p "$1/made"
-    (cd "$top" && cp -r --parents Makefile install.mk README.md CHANGELOG.md docs man examples include python tools web "$OLDPWD/$1")
-    cp -r "$library" "$1/library"
-    cp -r "$completions" "$1/completions"
-    cp "$program" "$1/cdpatch"
-    [ ! -e "$joined/cdscript" ] || cp "$joined/cdscript" "$joined/cdpatch.html" "$1"
-    make --no-print-directory -s -C "$1" dist distdir=made > "$1/printed"
-}
-
 released() {
-    pack one
-    (umask 077 && LC_ALL=C pack 'another place' && rm -r 'another place/made')
+    packed
+    ln -s "$scratch/packed" one
+    # In another directory, of files that only this user may read, of another time, and with one that is not packed.
+    (umask 077 && LC_ALL=C copied "$PWD/another place")
     find 'another place' -exec touch -d '2001-02-03' {} +
     : > 'another place/docs/notes~'
-    mkdir 'another place/made'
-    (umask 027 && make --no-print-directory -s -C 'another place' dist distdir=made > log)
+    (umask 000 && LC_ALL=C dist 'another place' > log)
     local name
     name=$(cd one/made && ls ./*.tar.gz)
     judge 'the tarball has the version in its name' test "$name" = "./cdpatch-$(cdpatch --help | sed -n '$s/cdpatch //p')-x86_64-linux.tar.gz"
     judge 'two directories give the same bytes' diff -r one/made 'another place/made'
-    rm -r 'another place/made' && mkdir 'another place/made'
-    (umask 000 && make --no-print-directory -s -C 'another place' dist distdir=made > log)
     judge 'nobody else may write what is packed' test -z "$(find 'another place/made' -type f -perm /022)"
     if wrong_versions 'a wrong make dist'; then
         cp -r 'another place' open
         sed -i '/^umask 022$/d' open/tools/dist.sh
         rm -r open/made && mkdir open/made
-        (umask 000 && make --no-print-directory -s -C open dist distdir=made > log)
+        (umask 000 && dist open > log)
         judge 'a make dist that takes the umask as it is, is refused' test -n "$(find open/made -type f -perm /022)"
     fi
     judge 'the checksum is that of the tarball' eval "(cd one/made && sha256sum --status -c ./*.sha256)"
@@ -52,11 +40,11 @@ released() {
     packaged_for_debian
     packaged_for_pip
     [ ! -e one/made/cdscript.js ] || [ ! -e "$library/cdpatch.wasm" ] || packaged_for_npm
-    make --no-print-directory -s -C one dist distdir=made PROGRAM="$PWD/nothing" 2> log
+    dist one PROGRAM="$PWD/nothing" 2> log
     judge 'nothing that was built, nothing packed' test $? != 0
-    make --no-print-directory -s -C one dist distdir=made LIBRARY="$PWD/nothing" 2> log
+    dist one LIBRARY="$PWD/nothing" 2> log
     judge 'no library that was built, nothing packed' test $? != 0
-    make --no-print-directory -s -C one dist distdir=made COMPLETIONS="$PWD/nothing" 2> log
+    dist one COMPLETIONS="$PWD/nothing" 2> log
     judge 'no completions that were made, nothing packed' test $? != 0
 }
 
@@ -68,27 +56,80 @@ debian_names() {
     { listed root | sed -E "s,lib/(libcdpatch|glibc|pkgconfig|cmake),lib/x86_64-linux-gnu/\1,; s,zsh/site-functions,zsh/vendor-completions,
         s,share/cdpatch/python/cdpatch,lib/python3/dist-packages/cdpatch,; s,share/man/.*,&.gz,; s,/NOTICES,/copyright,; s,CHANGELOG.md,changelog.gz,
         \\,cdpatch/python/,d"
-        printf './usr/share/%s\n' doc/cdpatch/changelog.Debian.gz lintian/overrides/cdpatch; } | LC_ALL=C sort
+        printf './usr/share/%s\n' doc/cdpatch/changelog.Debian.gz lintian/overrides/cdpatch
+        printf "./usr/lib/python3/dist-packages/cdpatch-$(cdpatch --help | sed -n '$s/cdpatch //p').dist-info/%s\n" INSTALLER METADATA; } | LC_ALL=C sort
 }
 
-# debian COMMAND..: dpkg in the root `system`, which has nothing else.
-debian() { dpkg --root="$PWD/system" --force-depends --force-not-root --force-bad-path --log="$PWD/log" "$@" > log 2>&1; }
+# debian COMMAND..: dpkg in the root `system`, which has nothing else: no shell either, so scripts run outside of it.
+debian() {
+    dpkg --root="$PWD/system" --force-depends --force-not-root --force-bad-path --force-script-chrootless --log="$PWD/log" "$@" > log 2>&1
+}
+
+# leaves_nothing PACKAGE: whether dpkg removes all of a package that is installed, though Python has kept there what it compiled.
+leaves_nothing() {
+    local package=system/usr/lib/python3/dist-packages
+    kept_by_python "$package" 'import cdpatch' && [ -d "$package/cdpatch/__pycache__" ] && debian --purge cdpatch && [ ! -e system/usr ]
+}
+
+# astray DIRECTORY: the places of a Debian root there that its pages name and that it lacks: all below /usr, and what README links to.
+astray() {
+    local pages=$1/usr/share/doc/cdpatch path
+    { cat "$pages/README.md"; sed -n '/^## Packages/,/^## Directories/p' "$pages/docs/INSTALL.md"; gzip -dc "$1"/usr/share/man/man[13]/*cdpatch.[13].gz; } |
+        grep -oE '/usr(/[a-z0-9_.-]+)+' | sort -u | while read -r path; do [ -e "$1$path" ] || echo "$path"; done
+    grep -oE '\]\([^):]+\)' "$pages/README.md" | tr -d '])(' | while read -r path; do [ -e "$pages/${path%#*}" ] || echo "$path"; done
+    ! grep -E 'make (un)?install' "$pages/README.md"
+}
+
+pages_of_debian() {
+    local wrong
+    judge "its pages name Debian's places: $(astray system | paste -sd ' ')" test -z "$(astray system)"
+    judge 'INSTALL names each of its directories' test -z "$(cd system && find usr -type f | sed -E 's,/[^/]+$,,' | sort -u |
+        grep -vE '^usr/share/(man|lintian|bash-completion|fish|zsh)/' | while read -r directory; do
+            while [ "$directory" != usr ] && ! grep -qE "^\| \`/$directory(/cdpatch.h)?\` " usr/share/doc/cdpatch/docs/INSTALL.md; do
+                directory=${directory%/*}
+            done
+            [ "$directory" != usr ] || echo "$directory"
+        done)"
+    wrong_versions "wrong pages of Debian's package" || return
+    cp -r system elsewhere
+    sed -i 's,(changelog.gz),(CHANGELOG.md),' elsewhere/usr/share/doc/cdpatch/README.md
+    judge 'a page with a link to a file that it lacks is refused' test -n "$(astray elsewhere)"
+    cp "$top/tools/README.tarball.md" elsewhere/usr/share/doc/cdpatch/README.md
+    judge 'the page of the tarball is refused' test -n "$(astray elsewhere)"
+    gzip -nc "$top/man/libcdpatch.3" > elsewhere/usr/share/man/man3/libcdpatch.3.gz
+    cp system/usr/share/doc/cdpatch/README.md elsewhere/usr/share/doc/cdpatch
+    judge 'a man page with the places of make install is refused' test -n "$(astray elsewhere)"
+}
+
+removed_from_debian() {
+    missing /usr/bin/python3 python3 "the removal of Debian's package" && return
+    judge 'Python knows its version' test "$(kept_by_python system/usr/lib/python3/dist-packages \
+        'import importlib.metadata as known; print(known.metadata("cdpatch")["Name"], known.version("cdpatch"))')" = "$(cdpatch --help | tail -n 1)"
+    judge 'dpkg removes it, and what Python has compiled there' leaves_nothing
+    wrong_versions "a wrong package of Debian" || return
+    dpkg-deb --raw-extract one/made/cdpatch_*_amd64.deb forgetful
+    rm forgetful/DEBIAN/prerm
+    dpkg-deb --root-owner-group --build forgetful forgetful.deb > log
+    judge 'a package without its script is installed' debian --install forgetful.deb
+    judge 'and is refused, since it leaves that' eval '! leaves_nothing'
+}
 
 packaged_for_debian() {
     missing dpkg-deb dpkg "Debian's package" && return
     mkdir -p system/var/lib/dpkg/{info,updates,triggers}
     touch system/var/lib/dpkg/status
     judge 'dpkg installs the package' debian --install one/made/cdpatch_*_amd64.deb
-    (cd system && rm -r var)
     debian_names > wanted.names
-    listed system > got.names
+    listed system | grep -v '^\./var/' > got.names
     same "Debian's package has what make install installs, in Debian's places" wanted.names got.names
     judge 'the program in it is as it was' cmp -s "$program" system/usr/bin/cdpatch
     judge 'the page of a call is a link in it' test "$(readlink system/usr/share/man/man3/cdpatch_apply.3.gz)" = libcdpatch.3.gz
-    judge 'its links lead to what it has' test -z "$(find system -xtype l)"
+    judge 'its links lead to what it has' test -z "$(find system/usr -xtype l)"
     missing lintian lintian "Debian's package, by lintian" ||
         judge 'lintian finds nothing in it, but that the owner has no address' test -z \
             "$(lintian --no-cfg --allow-root one/made/*.deb 2>&1 | grep -v ' <>')"
+    pages_of_debian
+    removed_from_debian
 }
 
 packaged_for_pip() {
@@ -108,7 +149,6 @@ patches_what_is_dropped() {
 
 example_page() {
     missing chromium chromium 'the example page of the package for npm' && return
-    missing chromedriver chromium-driver 'the example page of the package for npm' && return
     judge 'its example page patches an image that is dropped on it' patches_what_is_dropped npm/node_modules/cdpatch
     wrong_versions 'a wrong example page' || return
     cp -r npm/node_modules/cdpatch npm/wrong
@@ -134,6 +174,10 @@ packaged_for_npm() {
     same "its README's example prints what it says" npm/readme/wanted npm/readme/got
     cdpatch apply npm/readme/disc.bin npm/script npm/wanted.bin > log
     judge 'and makes what the program makes' cmp -s npm/wanted.bin npm/readme/new.bin
+    # The limit cuts the last piece that is written.
+    rm npm/readme/new.bin
+    (cd npm/readme && trap '' XFSZ && ulimit -f 40 && node readme.mjs > ../log 2>&1)
+    judge 'and fails if a file can have no more bytes' test "$? $(grep -o 'code:.*' npm/log)" = "1 code: 'EFBIG',"
     judge 'all calls of the package agree with the program' eval '(cd npm && node npm.mjs "$(command -v cdpatch)")'
     judge 'its types are those that a program in TypeScript sees' tsc --noEmit --strict --target es2022 --module es2022 \
         --moduleResolution node --lib es2022,dom npm/npm.ts

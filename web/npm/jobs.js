@@ -1,0 +1,102 @@
+// The jobs of the package, over the core.
+
+import { READ_SIZE, bytesOfPieces, readBytes } from '../core/bytes.js';
+import { RECORD_SIZE } from '../core/module/records.js';
+import { baseFault } from '../core/script/base_said.js';
+import { readLines } from '../core/script/long_script.js';
+import { passPatched } from '../core/script/patches.js';
+import { Refusal, readScript } from '../core/script/script.js';
+import { SECTOR_SIZE, sectorCount } from '../core/sectors/sector.js';
+import { ScriptError } from './errors.js';
+import { assertWanted, piecesOf, scriptSource, sourceOf, watchedSource } from './inputs.js';
+
+/** @typedef {import('../core/module/calls.js').Calls} Calls */
+/** @typedef {import('./cdpatch.js').Input} Input */
+/** @typedef {import('./cdpatch.js').Patched} Patched */
+/** @typedef {import('./cdpatch.js').Report} Report */
+/** @typedef {import('./cdpatch.js').ScriptInput} ScriptInput */
+/** @typedef {import('./cdpatch.js').Settings} Settings */
+/** @typedef {import('./cdpatch.js').Watch} Watch */
+
+/** @param {Uint8Array} bytes */
+export function textOf(bytes) {
+    return new TextDecoder().decode(bytes);
+}
+
+/**
+ * @param {{ status: number, text: Uint8Array }} made
+ * @returns {Report}
+ */
+export function reportOf({ status, text }) {
+    return { status: /** @type {0 | 1 | 2} */ (status), text: textOf(text) };
+}
+
+/**
+ * The records of an image's sectors, and how many bytes follow them.
+ * @param {Calls} calls
+ * @param {Input} image
+ * @param {{ base?: number } & Watch} settings
+ */
+export async function surveyed(calls, image, { base = 0, signal, progress }) {
+    const source = watchedSource(sourceOf(image), signal);
+    const count = sectorCount(source.size);
+    const records = new Uint8Array(RECORD_SIZE * count);
+    const step = Math.floor(READ_SIZE / SECTOR_SIZE);
+    for (let i = 0; i < count; i += step) {
+        if (progress) progress(i * SECTOR_SIZE, source.size);
+        const bytes = await readBytes(source, i * SECTOR_SIZE, Math.min(step, count - i) * SECTOR_SIZE);
+        records.set(calls.survey(bytes, base + i), RECORD_SIZE * i);
+    }
+    if (progress) progress(source.size, source.size);
+    return { survey: { block: base, records }, tail: source.size - count * SECTOR_SIZE };
+}
+
+/**
+ * The lines of a script with patches. Throws ScriptError.
+ * @param {Calls} calls
+ * @param {ScriptInput} script
+ */
+export async function patchLines(calls, script) {
+    const source = scriptSource(script);
+    const read = readLines(calls, await readBytes(source, 0, source.size));
+    if (read instanceof Uint8Array) throw new ScriptError(textOf(read).trimEnd());
+    return read.patches;
+}
+
+/**
+ * A script for an image that begins with a block. Throws ScriptError.
+ * @param {Calls} calls
+ * @param {ScriptInput} script
+ * @param {number} base
+ */
+async function scriptFor(calls, script, base) {
+    const read = await readScript(calls, piecesOf(scriptSource(script)));
+    if (read instanceof Refusal) throw new ScriptError(textOf(read.text).trimEnd());
+    const fault = baseFault(read.bases, base);
+    if (fault !== '') throw new ScriptError(fault);
+    return read;
+}
+
+/**
+ * What becomes of the patches of a script. The patched image is given to `write`, if somebody wants it.
+ * @param {Calls} calls
+ * @param {Input} image
+ * @param {ScriptInput} script
+ * @param {Settings & Watch} settings
+ * @param {((bytes: Uint8Array) => void | Promise<void>) | null} write
+ * @returns {Promise<Patched>}
+ */
+export async function patched(calls, image, script, { base = 0, carry = false, signal, progress = () => {} }, write) {
+    const source = watchedSource(sourceOf(image), signal, at => write || progress(at, source.size));
+    let done = 0;
+    const made = await passPatched(calls, source, await scriptFor(calls, script, base), { base, carry }, write && (async piece => {
+        for await (const bytes of bytesOfPieces(source, [piece])) {
+            assertWanted(signal);
+            await write(bytes);
+            done += bytes.length;
+            progress(done, source.size);
+        }
+    }));
+    if (write === null) progress(source.size, source.size);
+    return { ...reportOf(made), outcomes: made.outcomes };
+}
