@@ -1,11 +1,13 @@
 """Tries small changes that nobody wrote: `mutants.py [--count N] [--seed S] [SUITE..]` takes so many at random, of web/core by core, of
-web/command by cdscript, and of python/cdpatch by python, and runs the tests that reach the changed place. It prints 'survived FILE:LINE: OLD
--> NEW' if none fails, and 'unreached ..' if none comes there; the last line counts. It is run by hand before a release: each survivor gets
-a test, or makes the same program."""
+web/command by cdscript, and of python/cdpatch by python, and runs the tests that reach the changed place, the shortest first; for what no
+test of the core reaches those of the page in node and of cdscript. It prints 'survived FILE:LINE: OLD -> NEW' if none fails, and
+'unreached ..' if none comes there; the last line counts. It is run by hand before a release: each survivor gets a test, or makes the same
+program. `page` takes changes of web/page, and only counts those that no test in node reaches, which want a browser."""
 
 import argparse
 import ast
 import json
+import math
 import multiprocessing
 import os
 import random
@@ -13,16 +15,31 @@ import resource
 import subprocess
 import sys
 import tempfile
-import time
+import threading
 from collections.abc import Iterator
 from dataclasses import dataclass, replace
+from operator import or_
 from pathlib import Path
+from typing import Any
 
-from versions import MODULE, NOTICES, TESTS, TOP, WRONG, copied, in_cases
+from versions import MODULE, NOTICES, TESTS, TOP, WRONG, copied, in_cases, spent
 
-SOURCES = {'core': 'web/core', 'cdscript': 'web/command', 'python': 'python/cdpatch'}
-# Seconds of a processor after which a test has failed.
-LONGEST = 60
+SOURCES = {'core': 'web/core', 'page': 'web/page', 'cdscript': 'web/command', 'python': 'python/cdpatch'}
+USUAL = ['core', 'cdscript', 'python']
+# Whose tests are run next of what is in the core, if none of a suite's reaches it.
+NEXT = {'core': 'page', 'page': 'cdscript'}
+# Seconds of a processor after which a file of tests has failed, and so many times what it takes of the right version.
+LONGEST = 10
+TIMES = 3
+# What is said of tests that were not measured.
+UNKNOWN = 30
+# Seconds after which tests have failed that wait for what does not come.
+LONGEST_WAIT = 600
+# What tools make, of the header and of other programs: a change there is no mistake that somebody writes.
+MADE = ('numbers.js', '_numbers.py', 'pairs.js', 'frequencies.js')
+# What tells the tests of a suite where the version is that they try; and where that is, but for cdscript, which is joined.
+TOLD = {'core': 'CORE', 'cdscript': 'COMMAND', 'page': 'WEB'}
+PLACES = {'core': 'web/core', 'page': 'web'}
 PYTHON = '/usr/bin/python3'
 COMPARED = {ast.Lt: '<=', ast.LtE: '<', ast.Gt: '>=', ast.GtE: '>', ast.Eq: '!=', ast.NotEq: '==', ast.In: 'not in', ast.NotIn: 'in',
             ast.Is: 'is not', ast.IsNot: 'is'}
@@ -41,7 +58,7 @@ class Mutant:
 
 
 def of_javascript(suite: str) -> Iterator[Mutant]:
-    files = sorted(str(file.relative_to(TOP)) for file in (TOP / SOURCES[suite]).rglob('*.js'))
+    files = sorted(str(file.relative_to(TOP)) for file in (TOP / SOURCES[suite]).rglob('*.js') if file.name not in MADE)
     ran = subprocess.run(['node', str(WRONG / 'mutants.mjs'), *files], cwd=TOP, stdout=subprocess.PIPE, check=True)
     for line in ran.stdout.decode().splitlines():
         it = json.loads(line)
@@ -67,7 +84,7 @@ def changes_at(node: ast.AST, text: str) -> Iterator[tuple[ast.expr, str]]:
 
 
 def of_python(suite: str) -> Iterator[Mutant]:
-    for file in sorted((TOP / SOURCES[suite]).glob('*.py')):
+    for file in sorted(it for it in (TOP / SOURCES[suite]).glob('*.py') if it.name not in MADE):
         text = file.read_text()
         lines = text.splitlines(keepends=True)
         for node in ast.walk(ast.parse(text)):
@@ -78,45 +95,70 @@ def of_python(suite: str) -> Iterator[Mutant]:
                 yield Mutant(suite, str(file.relative_to(TOP)), it.lineno, start, end, made)
 
 
-def run_test(words: list[str], room: Path, **more: str) -> bool:
-    """Whether tests pass, in a time that is long enough."""
+def run_test(words: list[str], room: Path, seconds: float, **more: str) -> bool:
+    """Whether tests pass, in a time that is long enough, if the right version takes so many seconds of a processor."""
     def limit() -> None:
-        resource.setrlimit(resource.RLIMIT_CPU, (LONGEST, LONGEST + 5))
-    done = subprocess.run(words, cwd=room, env={**os.environ, **more}, stdout=subprocess.DEVNULL, stderr=subprocess.DEVNULL,
-                          stdin=subprocess.DEVNULL, check=False, preexec_fn=limit)
-    return done.returncode == 0
+        most = LONGEST + math.ceil(TIMES * seconds)
+        resource.setrlimit(resource.RLIMIT_CPU, (most, most + 5))
+    where = {**os.environ, 'TMPDIR': str(room), **more}
+    with subprocess.Popen(words, cwd=room, env=where, stdin=subprocess.DEVNULL, stdout=subprocess.PIPE, stderr=subprocess.DEVNULL,
+                          preexec_fn=limit, text=True, errors='replace') as running:
+        timer = threading.Timer(LONGEST_WAIT, running.kill)
+        timer.start()
+        for line in running.stdout or []:
+            if line.lstrip().startswith('not ok '):
+                running.kill()
+        timer.cancel()
+    return running.returncode == 0
+
+
+def run_file(file: Path, room: Path, seconds: float, **more: str) -> bool:
+    return run_test(['node', '--test-reporter=tap', str(file)], room, seconds, **more)
 
 
 @dataclass
 class Reached:
-    """A file of tests, its seconds, and of each source the ranges that it runs, or runs not, from the widest to the narrowest."""
+    """A file of tests, its seconds of a processor, and of each source which of its units of UTF-16 run, a byte each."""
     file: Path
     seconds: float
-    ranges: dict[str, list[tuple[int, int, bool]]]
+    sources: dict[str, bytes]
 
-    def reaches(self, mutant: Mutant) -> bool:
-        inner = [(end - start, ran) for start, end, ran in self.ranges.get(mutant.file, []) if start <= mutant.start and mutant.end <= end]
-        return min(inner, default=(0, False))[1]
+    def reaches(self, source: str, at: int) -> bool:
+        return any(self.sources.get(source, b'')[max(at - 1, 0):at + 1])
 
 
-def measured(file: Path) -> Reached:
-    """What a file of the core's tests runs of the core."""
+def ran_in(functions: list[dict[str, Any]]) -> bytes:
+    """Which units of a source a process has run. Of the ranges that have a unit the narrowest says it."""
+    ranges: list[tuple[int, int, int]] = [(it['startOffset'], it['endOffset'], min(it['count'], 1))
+                                          for function in functions for it in function['ranges']]
+    ran = bytearray(max(end for _, end, _ in ranges))
+    for start, end, has_run in sorted(ranges, key=lambda it: it[0] - it[1]):
+        ran[start:end] = bytes([has_run]) * (end - start)
+    return bytes(ran)
+
+
+def measured(given: tuple[Path, str, Path]) -> Reached:
+    """What a file of tests runs of a version, in all its processes and threads."""
+    file, suite, path = given
     with tempfile.TemporaryDirectory(prefix='mutant-') as room:
-        begun = time.monotonic()
-        if not run_test(['node', str(file)], Path(room), NODE_V8_COVERAGE=room):
+        before = spent()
+        if not run_file(file, Path(room), UNKNOWN, NODE_V8_COVERAGE=room, **{TOLD[suite]: str(path)}):
             raise RuntimeError(f'{file} fails on the right version')
-        seconds = time.monotonic() - begun
-        ranges: dict[str, list[tuple[int, int, bool]]] = {}
+        seconds = spent() - before
+        sources: dict[str, bytes] = {}
         for report in Path(room).glob('coverage-*.json'):
             for script in json.loads(report.read_text())['result']:
-                name = script['url'].removeprefix(f'file://{TOP}/').split('?')[0]
-                if name.startswith('web/'):
-                    ranges.setdefault(name, []).extend((it['startOffset'], it['endOffset'], it['count'] > 0)
-                                                       for function in script['functions'] for it in function['ranges'])
-    return Reached(file, seconds, ranges)
+                name = script['url'].removeprefix('file://').split('?')[0]
+                if name.startswith(str(path)):
+                    ran = ran_in(script['functions'])
+                    sources[name] = bytes(map(or_, sources.get(name, bytes(len(ran))), ran))
+    return Reached(file, seconds, sources)
 
 
 TESTED: dict[str, list[Reached]] = {}
+# The right version, as its tests load it.
+RIGHT = Path()
+PROCESSES = len(os.sched_getaffinity(0))
 
 
 def changed(mutant: Mutant, root: Path) -> None:
@@ -126,61 +168,87 @@ def changed(mutant: Mutant, root: Path) -> None:
     file.write_text(text[:mutant.start] + mutant.made + text[mutant.end:])
 
 
-def survives(mutant: Mutant, room: Path) -> bool:
-    """Whether all tests that reach a mutant pass."""
-    if mutant.suite == 'python':
-        changed(mutant, copied(TOP / 'python', None, room / 'python'))
-        words = ['-m', 'pytest', '-q', '-x', '-p', 'no:cacheprovider', '--hypothesis-profile=first', '--basetemp', str(room / 'made')]
-        return run_test([PYTHON, *words, str(TESTS / 'python')], room, PYTHONPATH=str(room / 'python'),
-                        LD_LIBRARY_PATH=str(TOP / 'library'))
-    web = copied(TOP / 'web', None, room / 'web')
-    changed(mutant, web)
-    if mutant.suite == 'core':
-        reached = [it.file for it in TESTED['core'] if it.reaches(mutant)]
-        return passes(reached, room, 'core', web / 'core')
-    command = room / 'cdscript'
+def joined(web: Path, command: Path) -> Path:
+    """cdscript, joined of a web."""
     import pack
     command.write_text(str(pack.packed_door('command', web, MODULE, NOTICES)))
     command.chmod(0o755)
-    return passes([it.file for it in TESTED['cdscript']], room, 'cdscript', command)
+    return command
 
 
-def passes(files: list[Path], room: Path, client: str, path: Path) -> bool:
-    """Whether these files of tests pass, and random cases by the client."""
-    name = {'core': 'CORE', 'cdscript': 'COMMAND'}[client]
-    return all(run_test(['node', str(file)], room, **{name: str(path)}) for file in files) and not in_cases('random cases', client, path, room)
+def first_other(right: Path, wrong: Path) -> int:
+    """How many units of UTF-16 two joined files have in common."""
+    return len(os.path.commonprefix([right.read_text(), wrong.read_text()]).encode('utf-16-le')) // 2
 
 
-def tried(mutant: Mutant) -> str:
-    text = (TOP / mutant.file).read_text()
-    shown = f'{mutant.file}:{mutant.line}: {text[mutant.start:mutant.end]} -> {mutant.made}'.replace('\n', ' ')
-    lives = 'survived' if mutant.suite != 'core' or any(it.reaches(mutant) for it in TESTED['core']) else 'unreached'
+def outcome(mutant: Mutant, room: Path) -> str:
+    """What becomes of a mutant: whether a test fails, and if none does, whether one comes to the changed place."""
+    if mutant.suite == 'python':
+        changed(mutant, copied(TOP / 'python', None, room / 'python'))
+        return 'survived' if python_passes(room) else 'killed'
+    web = copied(TOP / 'web', None, room / 'web')
+    changed(mutant, web)
+    try:
+        path = room / PLACES[mutant.suite] if mutant.suite in PLACES else joined(web, room / 'cdscript')
+    except SystemExit:
+        return 'killed'
+    source, at = (TOP / mutant.file, mutant.start) if mutant.suite in PLACES else (RIGHT, first_other(RIGHT, path))
+    reached = [it for it in TESTED[mutant.suite] if it.reaches(str(source), at)]
+    if mutant.suite in PLACES and not reached:
+        return 'unreached'
+    # What a process of cdscript runs that ends by a signal is not known.
+    if not passes(reached or TESTED[mutant.suite], room, mutant.suite, path):
+        return 'killed'
+    return 'survived' if reached else 'unreached'
+
+
+def python_passes(room: Path) -> bool:
+    words = ['-m', 'pytest', '-q', '-x', '-p', 'no:cacheprovider', '--hypothesis-profile=first', '--basetemp', str(room / 'made')]
+    more = {'PYTHONPATH': str(room / 'python'), 'LD_LIBRARY_PATH': str(TOP / 'library')}
+    return run_test([PYTHON, *words, str(TESTS / 'python')], room, UNKNOWN, **more)
+
+
+def passes(tests: list[Reached], room: Path, client: str, path: Path) -> bool:
+    """Whether these files of tests pass, and random cases by a client that answers them."""
+    return all(run_file(it.file, room, it.seconds, **{TOLD[client]: str(path)}) for it in tests) \
+        and (client == 'page' or not in_cases('random cases', client, path, room))
+
+
+def tried(mutant: Mutant) -> tuple[Mutant, str]:
     with tempfile.TemporaryDirectory(prefix='mutant-') as room:
-        try:
-            return f'{lives} {shown}' if survives(mutant, Path(room)) else f'killed {shown}'
-        except SystemExit:
-            return f'killed {shown}'
+        return mutant, outcome(mutant, Path(room))
 
 
-def unchanged(mutant: Mutant) -> Mutant:
-    return replace(mutant, made=(TOP / mutant.file).read_text()[mutant.start:mutant.end])
+def shown(mutant: Mutant) -> str:
+    text = (TOP / mutant.file).read_text()
+    return f'{mutant.file}:{mutant.line}: {text[mutant.start:mutant.end]} -> {mutant.made}'.replace('\n', ' ')
 
 
-def tried_all(suite: str, mutants: list[Mutant]) -> Iterator[str]:
-    processes = len(os.sched_getaffinity(0))
-    if suite != 'python':
-        with multiprocessing.Pool(processes) as pool:
-            TESTED[suite] = sorted(pool.map(measured, sorted((TESTS / suite).glob('*.test.mjs'))), key=lambda it: it.seconds)
+def right_passes(suite: str, place: Path) -> bool:
+    """Whether the right version passes what is tried of each mutant. What its files of tests run is kept."""
+    global RIGHT
+    if suite == 'python':
+        copied(TOP / 'python', None, place / 'python')
+        return python_passes(place)
+    RIGHT = TOP / PLACES[suite] if suite in PLACES else joined(TOP / 'web', place / 'cdscript')
+    files = sorted((TESTS / suite).glob('*.test.mjs'))
+    with multiprocessing.Pool(PROCESSES) as pool:
+        TESTED[suite] = sorted(pool.map(measured, [(file, suite, RIGHT) for file in files], 1), key=lambda it: it.seconds)
+    return passes([], place, suite, RIGHT)
+
+
+def tried_all(suite: str, mutants: list[Mutant]) -> Iterator[tuple[Mutant, str]]:
     with tempfile.TemporaryDirectory(prefix='mutant-') as place:
-        if mutants and not survives(unchanged(mutants[0]), Path(place)):
+        os.environ['MODEL_ANSWERS'] = str(Path(place, 'answers'))
+        if not right_passes(suite, Path(place)):
             raise RuntimeError(f'the tests of {suite} fail on the right version')
-    with multiprocessing.Pool(processes) as pool:
-        yield from pool.imap_unordered(tried, mutants)
+        with multiprocessing.Pool(PROCESSES) as pool:
+            yield from pool.imap_unordered(tried, mutants)
 
 
 def main() -> int:
     words = argparse.ArgumentParser(description='Tries small changes that nobody wrote.')
-    words.add_argument('suites', nargs='*', metavar='SUITE', default=[*SOURCES])
+    words.add_argument('suites', nargs='*', metavar='SUITE', default=USUAL)
     words.add_argument('--count', type=int, default=300, metavar='N')
     words.add_argument('--seed', default='1', metavar='S')
     given = words.parse_args()
@@ -188,11 +256,15 @@ def main() -> int:
     chosen = random.Random(given.seed).sample(every, min(given.count, len(every)))
     print(f'{len(chosen)} of {len(every)} changes, seed {given.seed}', flush=True)
     counts = {'killed': 0, 'survived': 0, 'unreached': 0}
-    for suite in given.suites:
-        for said in tried_all(suite, [it for it in chosen if it.suite == suite]):
-            counts[said.split(' ')[0]] += 1
-            if not said.startswith('killed'):
-                print(said, flush=True)
+    for suite in SOURCES:
+        own = [it for it in chosen if it.suite == suite]
+        for mutant, became in tried_all(suite, own) if own else []:
+            if became == 'unreached' and suite in NEXT and mutant.file.startswith(SOURCES['core']):
+                chosen.append(replace(mutant, suite=NEXT[suite]))
+                continue
+            counts[became] += 1
+            if became != 'killed' and (suite, became) != ('page', 'unreached'):
+                print(f'{became} {shown(mutant)}', flush=True)
     print(', '.join(f'{count} {name}' for name, count in counts.items()))
     return 0
 
