@@ -60,6 +60,10 @@ POINT = '''(it => {
 PRESSES = 5
 OUTSIDE = (-1, -1)
 
+# What has the focus, by its name.
+STOP = '''(it => it !== document.body && (it.id || it.getAttribute('aria-label') || it.innerText || it.name || it.tagName))(
+    document.activeElement)'''
+
 REACHING = ('Network.requestWillBeSent', 'Network.webSocketCreated', 'Network.webTransportCreated', 'Page.frameRequestedNavigation')
 
 # What a page could send by without a request that the network log shows.
@@ -366,14 +370,12 @@ class Chromium:
                 and node['role']['value'] not in ('RootWebArea', 'main', 'generic', 'none')]
 
     def tab_stops(self, most: int = 200) -> list[str]:
-        """What has the focus in turn, from the page's start on, as Tab is pressed."""
+        """What has the focus in turn, from the page's start on, as Tab is pressed. After the last stop nothing has it for a moment."""
         self.run('const first = document.createElement("button"); document.body.prepend(first); first.focus(); first.remove()')
-        describe = '''const it = document.activeElement;
-            return it === document.body ? '' : it.id || it.getAttribute('aria-label') || it.innerText || it.name || it.tagName'''
         stops: list[str] = []
         while len(stops) < most:
             self.press(Keys.TAB)
-            stop = str(self.run(describe))
+            stop = str(self.awaited(STOP, seconds=SETTLES) or '')
             if not stop or (stops and stop == stops[0]):
                 break
             stops.append(stop)
