@@ -4,6 +4,7 @@ passed=0
 failed=0
 skipped=()
 left_out=()
+unsteady=()
 
 # count FILE STATUS: adds the count in the last line of what a command has printed. One that ended without a count, or with a
 # status that its count belies, is one more failure. `counted` is then what was counted.
@@ -16,6 +17,9 @@ count() {
     while IFS= read -r line; do
         left_out+=("${line#left out: }")
     done < <(grep '^left out: ' "$1")
+    while IFS= read -r line; do
+        unsteady+=("${line#unsteady: }")
+    done < <(grep '^unsteady: ' "$1")
     if [[ $(tail -n 1 "$1") =~ ^([0-9]+)\ passed,\ ([0-9]+)\ failed$ ]]; then
         counted=${BASH_REMATCH[0]}
         passed=$((passed + BASH_REMATCH[1]))

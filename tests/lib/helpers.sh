@@ -75,7 +75,10 @@ refuse_wrong() {
         number=$((number + 1))
         name=${name%:}
         case $verdict in
-            refused) judge "a wrong $2 is refused: ${name//_/ }" true ;;
+            refused)
+                judge "a wrong $2 is refused: ${name//_/ }" true
+                [ -z "$why" ] || echo "unsteady: a wrong $2 is refused: ${name//_/ }"
+                ;;
             skipped) skip "a wrong $2 is refused: ${name//_/ }: $why" ;;
             *) judge "a wrong $2 is refused: $verdict $name: $why" false ;;
         esac

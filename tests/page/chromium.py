@@ -390,6 +390,13 @@ def window() -> Chromium:
     return made
 
 
+def renew() -> None:
+    """Closes the window of this run: who wants one gets another."""
+    if window.cache_info().currsize:
+        window().quit()
+        window.cache_clear()
+
+
 def shared(before_pages: str = '') -> Chromium:
     """The one window of this run, with nothing downloaded and nothing logged, which runs this script in each page before its own."""
     browser = window()
