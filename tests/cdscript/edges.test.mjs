@@ -59,7 +59,7 @@ test('a signal ends what waits for its reader', () => inDirectory(async room => 
     // Nothing is read any more, so the pipe is full soon.
     await new Promise(resolve => setTimeout(resolve, 1500));
     child.kill('SIGTERM');
-    const late = setTimeout(() => child.kill('SIGKILL'), 5000);
+    const late = setTimeout(() => child.kill('SIGKILL'), 30000);
     assert.equal(await ended, 'SIGTERM');
     clearTimeout(late);
 }));

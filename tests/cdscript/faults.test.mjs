@@ -180,7 +180,7 @@ test('a limited address space is enough', { skip: !canBeLimited && 'no such proc
     const ended = new Promise(resolve => child.on('exit', (_, by) => resolve(by)));
     const isBegun = await begun(room, there, 0);
     child.kill('SIGTERM');
-    const late = setTimeout(() => child.kill('SIGKILL'), 5000);
+    const late = setTimeout(() => child.kill('SIGKILL'), 30000);
     assert.deepEqual([isBegun, await ended], [true, 'SIGTERM']);
     clearTimeout(late);
     assert.deepEqual(readdirSync(room), there);
@@ -227,7 +227,7 @@ test('a full disk leaves no file', t => inDirectory(room => {
 
 /** Waits until a file is begun in a room, which has so many bytes at least. */
 async function begun(room, there, size) {
-    for (let i = 0; i < 400; i++) {
+    for (let i = 0; i < 3000; i++) {
         if (readdirSync(room).some(name => !there.includes(name) && read(room, name)?.length >= size)) return true;
         await new Promise(resolve => setTimeout(resolve, 20));
     }
@@ -260,7 +260,7 @@ test('a signal ends what waits for its input, and leaves no file', () => inDirec
         const isBegun = await begun(room, there, 0);
         await new Promise(resolve => setTimeout(resolve, 300));
         child.kill('SIGINT');
-        const late = setTimeout(() => child.kill('SIGKILL'), 5000);
+        const late = setTimeout(() => child.kill('SIGKILL'), 30000);
         assert.deepEqual([isBegun, await ended], [true, 'SIGINT'], name);
         clearTimeout(late);
         assert.deepEqual(readdirSync(room), there, name);

@@ -127,7 +127,7 @@ test('a file that only seems to be empty is read', () => inDirectory(async room 
 /** What a job does with another class in place of node's threads. */
 function withThreads(room, name, maker, words, input) {
     write(room, { [name]: `require('node:worker_threads').Worker = ${maker};` });
-    const { status, stdout, stderr } = spawnSync(process.execPath, ['-r', `./${name}`, command, ...words], { cwd: room, encoding: 'utf8', timeout: 20000, input });
+    const { status, stdout, stderr } = spawnSync(process.execPath, ['-r', `./${name}`, command, ...words], { cwd: room, encoding: 'utf8', timeout: 90000, input });
     return [status, stdout, stderr];
 }
 

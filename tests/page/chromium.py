@@ -44,15 +44,19 @@ for (;;) {{
 # Seconds that a look takes at most.
 LONGEST_LOOK = 100
 
-# The middle of what is seen of an element, if it is shown, and nothing else lies there. `met` is then whether the next press meets it.
+# The middle of what is seen of an element, if it is shown, and nothing else lies there. `met` is then whether the next press meets it, and
+# `clicked` whether the next click does: what moves meanwhile gets only the press.
 POINT = '''(it => {
     if (!it?.checkVisibility({ visibilityProperty: true })) return null;
     it.scrollIntoViewIfNeeded();
     const { left, right, top, bottom } = it.getClientRects()[0], middle = (from, to, end) => (Math.max(from, 0) + Math.min(to, end)) / 2;
     const [x, y] = [middle(left, right, innerWidth), middle(top, bottom, innerHeight)];
     if (!it.contains(document.elementFromPoint(x, y))) return null;
-    globalThis.met = null;
-    addEventListener('mousedown', ({ target }) => { globalThis.met = it.contains(target); }, { capture: true, once: true });
+    const hear = (type, name) =>
+        addEventListener(type, ({ target }) => { globalThis[name] = it.contains(target); }, { capture: true, once: true });
+    Object.assign(globalThis, { met: null, clicked: null });
+    hear('mousedown', 'met');
+    hear('click', 'clicked');
     return [x, y];
 })'''
 
@@ -226,8 +230,19 @@ class Chromium:
         raise AssertionError(f'{given} moves away')
 
     def click_found(self, found: str, *given: Any) -> None:
-        """Presses what an expression of what is given finds."""
-        self.mouse('Released', self.hold(found, *given))
+        """Presses what an expression of what is given finds, again if it has moved away before the button was released."""
+        for _ in range(PRESSES):
+            self.mouse('Released', self.hold(found, *given))
+            if not self.was_missed():
+                return
+        raise AssertionError(f'{given} moves away')
+
+    def was_missed(self) -> bool:
+        """Whether the last click has met something else. A page that another one follows knows of none."""
+        try:
+            return self.run('return globalThis.clicked') is False
+        except Refused:
+            return False
 
     def click(self, css: str) -> None:
         self.click_found('document.querySelector(given[0])', css)

@@ -99,7 +99,7 @@ two_runs_at_once() {
     dd if=/dev/zero of=/proc/self/fd/7 oflag=nonblock bs=4096 2> /dev/null
     "$program" check image large.script >&7 2> first_errors < /dev/null &
     first=$!
-    for _ in {1..500}; do
+    for _ in {1..3000}; do
         [[ $(ls -l "/proc/$first/fd" 2> /dev/null) == *"$here/image"* ]] && break
         sleep 0.01
     done
@@ -474,7 +474,7 @@ ends_by() {
     run=$!
     exec 6> feed
     cat image >&6
-    for _ in {1..500}; do
+    for _ in {1..3000}; do
         [ "$(stat -c %s out 2> /dev/null)" = 131712 ] && break
         sleep 0.01
     done
