@@ -34,6 +34,13 @@ Worker.prototype.postMessage = function (message, ...given) {
     return postMessage.call(this, message, ...given);
 };'''
 
+# Reads of one sector wait, by which the page looks for files.
+HELD_SECTORS = '''const { arrayBuffer } = Blob.prototype, gate = new Promise(done => { globalThis.openGate = done; });
+Blob.prototype.arrayBuffer = async function () {
+    if (this.size === 2352) await gate;
+    return arrayBuffer.call(this);
+};'''
+
 
 def scratched(tail: bytes = b'') -> bytes:
     """The game with nine damaged sectors, one with another address, two without a sync field, a little audio and a tail."""
@@ -420,6 +427,17 @@ class Disc(PageTest):
             if tab == 'runs':
                 browser.wait('#sector-title', f"block {browser.text('#findings tbody tr:last-child .fold').partition('–')[0]}")
         browser.wait('#findings tbody tr:last-child[aria-selected=true]')
+
+    def test_a_press_on_a_finding_goes_on_when_the_files_are_found(self) -> None:
+        browser = self.browser
+        browser.run(HELD_SECTORS)
+        self.opened(file_of(scratched()))
+        row = browser.hold('document.querySelector("#findings tbody td:nth-child(4)")')
+        browser.run('document.querySelector("#findings .fold").focus(); openGate()')
+        browser.wait('#findings [data-tab=files]', 'Files 3')
+        self.assertEqual(browser.run('return document.activeElement.className'), 'fold')
+        browser.mouse('Released', row)
+        browser.wait('#findings tr.sub')
 
     # ---- a sector
 

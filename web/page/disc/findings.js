@@ -113,8 +113,18 @@ export class Findings {
             element('th', { class: 'n' }, texts.sectorsColumn), element('th', {}, texts.whatColumn),
             element('th', {}, texts.looksLikeColumn));
         const rows = placesOf(survey.marks).flatMap(place => this.placeRows(survey, place));
-        fill(this.body, element('table', {}, element('thead', {}, head), element('tbody', {}, ...rows)));
+        this.fillTable('findings', head, rows);
         fill(this.foot, element('span', {}, texts.looksLikeIsGuess));
+    }
+
+    /**
+     * Shows a table, in which a press or the focus goes on if it was there before.
+     * @param {FindingsTab} name
+     * @param {HTMLElement} head
+     * @param {HTMLElement[]} rows
+     */
+    fillTable(name, head, rows) {
+        fill(this.body, keyed(name, element('table', {}, element('thead', {}, head), element('tbody', {}, ...rows))));
     }
 
     /**
@@ -184,7 +194,7 @@ export class Findings {
             element('td', { class: 'n', 'data-l': texts.sectorsLabel }, counted(last - first + 1)),
             element('td', {}, ...this.kindWords(first, kind)),
             element('td', { class: 'num', 'data-l': texts.beginsAtLabel }, addressOf(this.app, first))));
-        fill(this.body, element('table', {}, element('thead', {}, head), element('tbody', {}, ...rows)));
+        this.fillTable('runs', head, rows);
         const left = runs.length - rows.length;
         fill(this.foot, element('span', {}, left > 0 && `${told(texts.moreRuns, { n: left })} `, texts.runIsNeighbours));
     }
