@@ -176,11 +176,11 @@ test('a limited address space is enough', { skip: !canBeLimited && 'no such proc
     }
     tool('mkfifo', ['pipe'], { cwd: room });
     const there = readdirSync(room).filter(name => name !== 'new');
-    const child = spawn('bash', [...LIMITED, 'user', 'pipe', 'new'], { cwd: room, stdio: 'ignore' });
+    const child = spawn('bash', [...LIMITED, 'user', 'pipe', 'new'], { cwd: room, stdio: 'ignore', detached: true });
     const ended = new Promise(resolve => child.on('exit', (_, by) => resolve(by)));
     const isBegun = await begun(room, there, 0);
     child.kill('SIGTERM');
-    const late = setTimeout(() => child.kill('SIGKILL'), 30000);
+    const late = setTimeout(() => process.kill(-child.pid, 'SIGKILL'), 30000); // with what it has started itself
     assert.deepEqual([isBegun, await ended], [true, 'SIGTERM']);
     clearTimeout(late);
     assert.deepEqual(readdirSync(room), there);

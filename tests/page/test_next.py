@@ -174,6 +174,7 @@ class Next(PageTest):
         self.browser.wait('#panel-script .side .progress')
         common.waited(lambda: self.browser.run('return reads') > 0, 'nothing is read')
         self.browser.run('held = 0')
-        self.open_files(files['english'])
-        self.browser.run('openGate()')
+        self.open_script(files['english'])
+        # The check of the second script is asked for when it is drawn, some turns later.
+        self.browser.run('await new Promise(done => setTimeout(done, 500)); openGate()')
         self.browser.wait(f'{SAID}.good', ALL_FIT)

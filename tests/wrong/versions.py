@@ -33,8 +33,8 @@ for name, file in ('PROGRAM', 'cdpatch'), ('CDPATCH_PROGRAM', 'cdpatch'), ('CDPA
 
 # Seconds of a processor after which a test in node has failed: the right version has to take less.
 LONGEST = 10
-# A test that fails in a browser waits most of the time, so windows side by side take as long as one.
-WINDOWS = 4
+# A test that fails in a browser waits most of the time.
+WINDOWS = 2 * (os.cpu_count() or 1)
 # Worked and random cases are tests of each client; these refuse a wrong one soon.
 CASES = {'worked cases': ['cases/judge.py', 'model', '--without-model', '--first'],
          'random cases': ['model/compare.py', '--cases', '100', '--jobs', '1']}
