@@ -1,5 +1,6 @@
-# What `make` can do: `make help` prints the targets, which are the lines with ## here. docs/INSTALL.md says what each needs.
-.PHONY: all help try program check quick test test-outside mutants fuzz bench wasm web pages design map contracts audit clean
+# What `make` can do: `make help` prints the targets, which are the lines with ## here.
+.PHONY: program
+.PHONY: all help try check quick test test-outside mutants fuzz bench wasm web pages design map contracts audit clean
 
 # Goals come one after the other, as they are given. Crates are proved side by side, at most as many as `make -j N` says.
 .NOTPARALLEL:
@@ -109,7 +110,7 @@ pages:                      ## make anew what the man pages and the README repea
 	@python3 -B tools/options.py pages ./cdpatch ./cdscript
 
 # By Chromium, of the page that was built.
-design:                     ## make anew the pictures of the page and the tables of docs/DESIGN.md
+design:                     ## draw the pictures of docs/gallery.md and the README
 	@PAGE='$(CURDIR)/cdpatch.html' PROGRAM='$(CURDIR)/cdpatch' /usr/bin/python3 -B tests/page/design.py
 
 # What the sources say of themselves, as Markdown.
