@@ -108,10 +108,12 @@ page() {
     done
 }
 
-# manual NAME PAGE: runs the examples of the man page in a new directory.
+# manual NAME PAGE: runs the examples of the man page in a new directory, where its reader has a disc.
 manual() {
     mkdir "$scratch/$1"
     cd "$scratch/$1" || exit 1
+    data_disc
+    rm blank format
     sed -n '/^\.Bd -literal/,/^\.Ed/{/^\./!p}' "$2" | sed 's/\\e/\\/g' > example
     transcript "the man page of $1" < example
 }
