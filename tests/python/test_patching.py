@@ -1,5 +1,6 @@
 """An image patched from a reader to a writer."""
 
+import ctypes
 import io
 import os
 import re
@@ -10,6 +11,7 @@ import threading
 import cdpatch
 import pytest
 from cases import some_case, wanted
+from cdpatch import _running
 from cdpatch._numbers import MOST_SCRIPT_BYTES
 from hypothesis import given
 from hypothesis import strategies as st
@@ -282,6 +284,25 @@ def test_a_script_that_changes_meanwhile_is_read_as_it_was(line, form):
         inner, writer, room[21:31] = io.BytesIO(IMAGE), io.BytesIO(), b'set 5 0 42'
         assert cdpatch.patch(reader(), script, writer, log=log) == wanted_image[1:]
         assert writer.getvalue() == wanted_image.image and room[21:31] == line
+
+
+@pytest.mark.parametrize('short', ['read', 'copy'])
+def test_an_image_of_known_size_that_comes_short_is_a_failed_read(short):
+    class Short:
+        def read(self, at, size, hand):
+            ctypes.memset(hand, 0, size)
+            return size - (short == 'read')
+
+        def copy(self, at, size):
+            return size - (short == 'copy')
+
+        def write(self, at, size, hand):
+            return size
+
+    script = b'cdpatch 1\nset 5 0 41\n'
+    with pytest.raises(cdpatch.Failed, match='^cdpatch: reading the image failed$'):
+        _running.run(Short(), 9 * 2352, script, 0, False)
+    assert _running.run(Short(), _running.UNKNOWN_SIZE, script, 0, False).text == 'line 2: refused: no block 5\napplied 0 refused 1\n'
 
 
 def test_a_rebuild_removes_damage_with_carry_too():
