@@ -88,7 +88,7 @@ test('another length is refused with both, and fewer bytes are filled up', async
     assert.throws(() => filledUp(new Uint8Array(7), 6, Uint8Array.of(0x20)), { message: 'the new bytes are 7, the old ones 6' });
     assert.deepEqual(filledUp(Uint8Array.of(1, 2), 6, Uint8Array.of(0x81, 0x40)), Uint8Array.of(1, 2, 0x81, 0x40, 0x81, 0x40));
     assert.deepEqual(filledUp(Uint8Array.of(1, 2), 2, Uint8Array.of(0x81, 0x40)), Uint8Array.of(1, 2));
-    assert.throws(() => filledUp(new Uint8Array(3), 6, Uint8Array.of(0x81, 0x40)), { message: '3 bytes are to be filled up, 2 at a time' });
+    assert.throws(() => filledUp(new Uint8Array(3), 6, Uint8Array.of(0x81, 0x40)), { message: 'cannot pad 3 bytes with the 2-byte filler 81 40; use --fill with one byte' });
 });
 
 /** A raw image of a volume with files, and one of the files. */

@@ -6,7 +6,7 @@ import { replaceFile } from '../core/script/replace_file.js';
 import { leftText } from '../core/script/sector_lines.js';
 import { unitsAlike } from '../core/texts/alike.js';
 import { bytesAround, contextOf } from '../core/texts/context.js';
-import { spaceIn, usualBytes } from '../core/texts/encoding.js';
+import { fillerOf, usualBytes } from '../core/texts/encoding.js';
 import { endOfMatch, longestOf } from '../core/texts/find.js';
 import { hexText } from '../core/texts/hex.js';
 import { assertHasRoom, leftHitText, replacedHits } from '../core/texts/replace.js';
@@ -97,7 +97,7 @@ async function assertBegins(image, encoding, hit) {
  */
 function freshBytes(run, { encoding, hits }, text) {
     const bytes = usualBytes(unitsAlike(encoding, text));
-    const fill = run.options.fill || spaceIn(encoding);
+    const fill = fillerOf(encoding, run.options.fill || null);
     /** @type {Map<number, Uint8Array>} */
     const known = new Map();
     for (const size of new Set(hits.map(hit => hit.size))) {
@@ -151,7 +151,7 @@ export async function replaceJob(run) {
 /** @param {Run} run */
 export async function replaceFileJob(run) {
     const { fill } = run.options;
-    if (fill && fill.length !== 1) throw new Fault('--fill is one byte here');
+    if (fill === 'end' || (fill && fill.length !== 1)) throw new Fault('--fill is one byte here');
     const target = await run.target();
     const { image, part } = await openTrack(run, run.names[0]);
     const file = await fileAtPath(part, run.names[1]);
