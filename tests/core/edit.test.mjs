@@ -96,8 +96,8 @@ async function disc(t, path) {
     const iso = isoOf({ 'GAME.DAT': 'data '.repeat(3000), 'OTHER.TXT': 'x'.repeat(2048), 'EMPTY': '' }, [], []);
     if (!iso) return t.skip('no genisoimage');
     const bytes = calls.encodeBlocks(0, iso.bytes);
-    const { files, ...names } = await filesOf(readerOf(bytes), 0);
-    const extent = files.find(it => it.path === path);
+    const names = await filesOf(readerOf(bytes), 0);
+    const extent = names.files.find(it => it.path === path);
     return { bytes, file: { ...wholeFile([extent]), block: extent.block, names }, image: imageOf(bytes, 0) };
 }
 

@@ -39,7 +39,8 @@ const BYTES_SHOWN = 128;
  * @param {string} path
  */
 export async function fileAtPath(part, path) {
-    const { files, ...names } = await filesOf(part.reader, part.base);
+    const names = await filesOf(part.reader, part.base);
+    const { files } = names;
     const rooted = (/** @type {string} */ name) => `/${name}`.replace(/^\/+/, '/');
     const named = files.filter(file => [file.path, visible(file.path)].map(rooted).includes(rooted(path)));
     if (named.length > 0) return { ...wholeFile(named), names };

@@ -2,7 +2,7 @@
 
 import { Fault } from '../core/faults.js';
 import { filledUp, replaceBytes } from '../core/script/replace_bytes.js';
-import { replaceFile } from '../core/script/replace_file.js';
+import { replaceFile, sharingText } from '../core/script/replace_file.js';
 import { leftText } from '../core/script/sector_lines.js';
 import { unitsAlike } from '../core/texts/alike.js';
 import { bytesAround, contextOf } from '../core/texts/context.js';
@@ -158,6 +158,7 @@ export async function replaceFileJob(run) {
     const { reader } = await run.files.image(run.names[2]);
     const made = await replaceFile(run.calls, run.crew, part, file, reader, fill && { fill: fill[0] });
     sayOfRuns(run, made.left, left => leftText([left], part.name));
+    sayOfRuns(run, made.sharing, other => sharingText(file.path, other));
     if (made.script === null) throw new Fault('these blocks of the file can not be patched, so no script is written');
     if (fill && reader.size < file.size) run.say(`bytes filled up with ${hexText(fill)}: ${file.size - reader.size}`);
     else if (reader.size !== file.size) run.say(`${file.path} had ${file.size} bytes, and gets ${reader.size}`);
