@@ -1,8 +1,8 @@
 // Whole translations: `replace --list`.
 
 import assert from 'node:assert/strict';
-import { spawnSync } from 'node:child_process';
-import { truncateSync } from 'node:fs';
+import { spawn, spawnSync } from 'node:child_process';
+import { readdirSync, truncateSync } from 'node:fs';
 import { join } from 'node:path';
 import { test } from 'node:test';
 import { command, imageOf, inDirectory, program, read, run, tool, write } from './common.mjs';
@@ -157,6 +157,23 @@ test('what a spreadsheet wrote for a formula, and a mistyped code, are rows that
     assert.deepEqual([plain.errors, plain.out], ['', done.out]);
     const found = await run(['find', 'image', 'HIT', '--encoding', 'CP932'], { cwd: room });
     assert.match(found.out, /^3\t24\t3\t-\t\{3D\}B{23}HIT\.+\n$/);
+}));
+
+test('a signal ends the replacing of a long list, and nothing is left of its script', () => inDirectory(async room => {
+    writeImage(room, ...PLACES);
+    write(room, { list: `block\toffset\ttext\tnew\n${'2\t0\tアイ\tok\n'.repeat(400000)}` });
+    for (const after of [700, 4000]) {
+        const child = spawn(process.execPath, [command, 'replace', 'image', '--list', 'list', '-o', 'out'], { cwd: room, stdio: 'ignore' });
+        const ended = new Promise(resolve => { child.on('exit', (_, signal) => resolve(signal)); });
+        await new Promise(resolve => { setTimeout(resolve, after); });
+        const sent = Date.now();
+        child.kill('SIGTERM');
+        const late = setTimeout(() => child.kill('SIGKILL'), 20000);
+        assert.equal(await ended, 'SIGTERM');
+        clearTimeout(late);
+        assert.ok(Date.now() - sent < 2000, `after ${after} ms it took ${Date.now() - sent} ms`);
+        assert.deepEqual(readdirSync(room).filter(name => name.startsWith('.') || name === 'out'), []);
+    }
 }));
 
 test('as many rows as a script has lines are replaced', () => inDirectory(async room => {
