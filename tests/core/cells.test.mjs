@@ -8,6 +8,7 @@ const { MARKS, Table, rowText } = await core('texts/cells.js');
 const { assertMeant, cellOf, codesLeftOut, leftCodeText, shownCell, unitsOfCell } = await core('texts/codes.js');
 const { encodingOf, tableOf, textOfFile } = await core('texts/encodings.js');
 const { fillingAfter, listRows, replaceList } = await core('texts/list.js');
+const { longTextOf } = await core('texts/long_file.js');
 
 const rowsOf = (text, mark = MARKS.find(it => text.includes(it)) ?? '\t') => [...new Table(text, mark).rows()];
 const cells = (text, mark) => rowsOf(text, mark).map(row => row.cells);
@@ -181,6 +182,16 @@ test('codes that new texts leave out are told by number, each once, with the fir
     assert.deepEqual(await left([['{0A00}{0100}', '{0100}'], ['{3D00}a', 'b']], 'UTF-16LE'), ['new texts leave out {0A00} once: row 2']);
     assert.deepEqual(await left([['a{0A}b', 'a\nb'], ['a{0D0A}b', 'a\nb']]), ['new texts leave out {0D} once: row 3']);
     assert.deepEqual(await left([[`${'{00}'.repeat(20000)}`, 'a']]), []);
+});
+
+test('a long file is read in parts as if it were read at once', async () => {
+    const text = '勇者は\tA\r\n長い旅𠮷の果てに\nｱ\n';
+    const files = [Buffer.from(text), Buffer.from(`\uFEFF${text}`), Buffer.from(`\uFEFF${text}`, 'utf16le'), Buffer.from(`\uFEFF${text}`, 'utf16le').swap16(),
+        Buffer.concat(encodingOf('CP932').units(text.replace('𠮷', '')).map(([usual]) => usual)), Buffer.from('8341838A0A8341FF', 'hex'), Buffer.alloc(0)];
+    for (const [i, file] of files.entries()) {
+        for (const size of [1, 2, 3, 5, 7, 1000]) assert.equal(await longTextOf(readerOf(file), undefined, size), textOfFile(file), `${i} by ${size}`);
+    }
+    await assert.rejects(longTextOf(readerOf(files[0]), { aborted: true }), { code: 'cancelled' });
 });
 
 test('files in UTF-16 with a mark are read as that', () => {

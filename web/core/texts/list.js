@@ -1,6 +1,5 @@
 // A list of texts with the new ones, as translators keep it, and the lines that replace them.
 
-import { wholeOf } from '../bytes.js';
 import { FAULT, Fault, failedBy } from '../faults.js';
 import { ReadAhead } from '../read_ahead.js';
 import { filledUp, replaceBytes } from '../script/replace_bytes.js';
@@ -9,8 +8,9 @@ import { MARKS, Table } from './cells.js';
 import { LONGEST_TEXT, assertMeant, unitsOfCell } from './codes.js';
 import { bytesAround, bytesBefore } from './context.js';
 import { fillerOf, spaceIn, usualBytes } from './encoding.js';
-import { encodingOf, textOfFile } from './encodings.js';
+import { encodingOf } from './encodings.js';
 import { endOfMatch } from './find.js';
+import { longTextOf } from './long_file.js';
 import { assertHasRoom, replacedEach } from './replace.js';
 
 /** @typedef {import('../bytes.js').Reader} Reader */
@@ -53,7 +53,7 @@ const MOST_LISTED = 1 << 28;
 export async function rowsOfList(reader, name, isAlso, signal) {
     if (reader.size > MOST_LISTED) throw new Fault(`${name} has ${reader.size} bytes, and a list at most ${MOST_LISTED}`);
     const rows = [];
-    for await (const row of listRows(textOfFile(await wholeOf(reader)), isAlso, signal)) rows.push(row);
+    for await (const row of listRows(await longTextOf(reader, signal), isAlso, signal)) rows.push(row);
     if (rows.length === 0) throw new Fault('no row of the list has a new text');
     return rows;
 }
