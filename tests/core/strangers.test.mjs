@@ -9,7 +9,9 @@ import { SHEETS, TABLES, continuing, crowded, harmlessVolume, nested, overlappin
 const { sheetOf } = await core('disc/cue.js');
 const { natureOf } = await core('disc/file_type.js');
 const { findIn } = await core('texts/find.js');
-const { filesOf } = await core('iso/files.js');
+const { filesOf, wholeFile } = await core('iso/files.js');
+const { Crew, localHand } = await core('jobs.js');
+const { replaceFile } = await core('script/replace_file.js');
 const { tableOf } = await core('texts/encodings.js');
 const { calls } = await import('./common.mjs');
 
@@ -116,4 +118,31 @@ test('a sector in which many records are continued is read once', async () => {
     const reader = readerOf(rawOf(continuing(200)));
     await filesOf(reader, 0);
     assert.ok(reader.reads.length < 300, `${reader.reads.length} reads`);
+});
+
+test('a record goes on with a file only if it has the same name', async () => {
+    const file = (name, extent, size, flags = 0) => recordOf(name, extent, size, { flags });
+    const records = [file('A', 20, 2048, 128), file('B.TXT', 21, 3000), file('B.TXT', 23, 100), file('C', 24, 2048, 128), file('C', 26, 10)];
+    const { files } = await listed(volumeOf(30, sector => sector === 18 ? records : []));
+    const several = 'it has several extents';
+    assert.deepStrictEqual(files.map(({ path, before, fault }) => [path, before, fault]),
+        [['/A', 0, several], ['/B.TXT', 0, ''], ['/B.TXT', 0, ''], ['/C', 0, several], ['/C', 2048, several]]);
+});
+
+test('a file of many extents looks at each a few times', async () => {
+    const count = 2000;
+    let reads = 0;
+    const entries = Array.from({ length: count }, (_, i) => ({ path: '/A', size: 2048, before: 2048 * i, fault: '', record: { block: 18, offset: 0 },
+        get block() {
+            reads += 1;
+            return 20 + 2 * i;
+        } }));
+    const names = { entries: [...entries].reverse(), files: entries, udf: false, own: new Map([[18, 'directory']]), tables: [] };
+    const sector = calls.encode(calls.address(0), new Uint8Array(2048));
+    const sectors = 2 * count + 30;
+    const image = { base: 0, sectors, reader: { size: 2352 * sectors, read: async (at, length) => sector.slice(0, length) } };
+    const file = { ...wholeFile(entries), names };
+    const { left } = await replaceFile(calls, new Crew([localHand(calls)]), image, file, readerOf(new Uint8Array(2048 * count - 1)));
+    assert.deepStrictEqual(left, []);
+    assert.ok(reads < 100 * count, `${reads}`);
 });

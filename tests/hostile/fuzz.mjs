@@ -1,11 +1,14 @@
 // Random changes of cue sheets, volumes, tables, lists, patchers, DATs and scripts: whatever is read of them, only a Fault may be thrown, and
-// none may take long. `node fuzz.mjs [--seconds N] [--seed S] [KIND..]` goes on for so long, prints what it finds, and keeps it as
-// `found-KIND-SEED` in the current directory; `node fuzz.mjs KIND FILE` reads one file. corpus/ has what was ever found, called KIND-WHAT.
+// none may take long. Of the kinds of invariants.mjs more is asked. `node fuzz.mjs [--seconds N] [--seed S] [KIND..]` goes on for so long,
+// prints what it finds, and keeps it as `found-KIND-SEED` in the current directory; `node fuzz.mjs KIND FILE` reads one file, and
+// `node fuzz.mjs growth [SHAPE..]` measures how the time of each shape of growth.mjs grows. corpus/ has what was ever found, called KIND-WHAT.
 
 import { readFileSync, writeFileSync } from 'node:fs';
 import { deflateSync } from 'node:zlib';
 import { diceOf } from '../lib/dice.mjs';
 import { calls, core, page } from '../page/page.mjs';
+import { GROWTH, growthDefect } from './growth.mjs';
+import { INVARIANTS } from './invariants.mjs';
 
 const { Fault } = await core('faults.js');
 const { sheetOf, tracksOf } = await core('disc/cue.js');
@@ -92,7 +95,7 @@ export const KINDS = {
         seeds: ['block\toffset\troom\tencoding\ttext\tnew\n0\t10\t4\tCP932\tabc\tdef\n1\t0\t8\t\t"a ""b"" c"\t"x\ny"\n',
             'block,offset,text,new\n2,3,"a,b",c\n'],
         words: ['\t', '"', '""', ',', '\n', '\r\n', '999999999', '-1', '\0', '\u2028'],
-        read: bytes => { for (const row of listRows(decoded(bytes))) void row; },
+        read: async bytes => { for await (const row of listRows(decoded(bytes))) void row; },
     },
     dat: {
         seeds: ['<?xml version="1.0"?><!DOCTYPE datafile><datafile><header><name>a</name></header><!-- c --><game name="&quot;g&#x41;">' +
@@ -110,6 +113,7 @@ export const KINDS = {
         words: ['"', '{', '}', ':', 'null', '1e400', '"sha1"', '[]', '\n', '\\u202e', '-1', ','],
         read: bytes => readPatcherText(calls, patcherOf(bytes)),
     },
+    ...INVARIANTS,
 };
 
 /** What random changes make of bytes: bytes that flip or are written over; and, if it may become longer, some that go or come again, and words. */
@@ -139,13 +143,26 @@ export async function defectOf(kind, bytes) {
 
 /** The bytes of a seed. */
 export function bytesOf(kind, seed) {
-    const { seeds, ...how } = KINDS[kind];
+    const { seeds, made, ...how } = KINDS[kind];
     const dice = diceOf(seed);
+    if (made) return made(dice);
     const from = seeds[dice(seeds.length)];
     return changed(typeof from === 'string' ? encoded(from) : from, how, dice);
 }
 
+/** Measures shapes, all of them if none is named. Returns how many grow too fast. */
+async function measure(names) {
+    let found = 0;
+    for (const name of names.length > 0 ? names : Object.keys(GROWTH)) {
+        const defect = await growthDefect(name);
+        console.log(`${name}: ${defect ?? 'no defect'}`);
+        found += Number(defect !== null);
+    }
+    return found;
+}
+
 async function main(words) {
+    if (words[0] === 'growth') return void (process.exitCode = Number(await measure(words.slice(1)) > 0));
     const given = name => words.includes(name) ? Number(words.splice(words.indexOf(name), 2)[1]) : null;
     const end = Date.now() + 1000 * (given('--seconds') ?? 60);
     const first = given('--seed') ?? Date.now() % 1e9;

@@ -19,7 +19,8 @@ if clang -O1 -fsanitize=fuzzer -I "$top/include" "$top/tests/hostile/fuzz.c" "$t
 else
     echo "The calls of C want clang and its runtime (Debian's packages clang and libclang-rt-14-dev): $(head -n 1 "$scratch/errors")"
 fi
-for kind in cue iso table list dat script patcher; do
+for kind in cue iso table list dat script patcher volumes rows cells; do
     node "$top/tests/hostile/fuzz.mjs" --seconds "$seconds" --seed "$seed" "$kind" || status=1
 done
+node "$top/tests/hostile/fuzz.mjs" growth || status=1
 exit "$status"

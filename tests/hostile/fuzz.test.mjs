@@ -4,11 +4,12 @@ import assert from 'node:assert/strict';
 import { readFileSync, readdirSync } from 'node:fs';
 import { test } from 'node:test';
 import { KINDS, bytesOf, defectOf } from './fuzz.mjs';
+import { GROWTH, growthDefect } from './growth.mjs';
 
 const CORPUS = new URL('corpus/', import.meta.url);
 
 test('what changes begin with is read', async () => {
-    for (const { seeds, read } of Object.values(KINDS)) {
+    for (const { seeds = [], read } of Object.values(KINDS)) {
         for (const seed of seeds) await read(typeof seed === 'string' ? new TextEncoder().encode(seed) : seed);
     }
 });
@@ -22,7 +23,13 @@ test('nothing that was found shows a defect', async () => {
 });
 
 for (const kind of Object.keys(KINDS)) {
-    test(`random changes of a ${kind} show no defect`, async () => {
+    test(KINDS[kind].made ? `made-up ${kind} show no defect` : `random changes of a ${kind} show no defect`, async () => {
         for (let seed = 0; seed < 100; seed++) assert.equal(await defectOf(kind, bytesOf(kind, seed)), null, `seed ${seed}`);
+    });
+}
+
+for (const shape of Object.keys(GROWTH)) {
+    test(`twice as much takes at most three times as long: ${shape}`, async () => {
+        assert.equal(await growthDefect(shape), null);
     });
 }

@@ -57,7 +57,8 @@ export function stretchesOf(part, files) {
         between(first);
         const [last] = stretches.slice(-1);
         const own = Math.min(size, count * USER_SIZE);
-        if (last && last.path === path && (first - last.first) * USER_SIZE === before) last.size += own;
+        const goesOn = last && last.path === path && last.size === before && (first - last.first) * USER_SIZE === before;
+        if (goesOn) last.size += own;
         else stretches.push({ path, before, first, size: own });
         next = first + count;
     }

@@ -40,11 +40,19 @@ export function encodingOf(name) {
 }
 
 /**
+ * The encoding whose mark bytes begin with, undefined if it is none.
+ * @param {Uint8Array} bytes
+ */
+export function markOf(bytes) {
+    return MARKED.find(encoding => encoding.text(bytes.subarray(0, 2)) === '\uFEFF');
+}
+
+/**
  * The text of a small file that somebody wrote, as a cue sheet or a table: UTF-16 if it has its mark, UTF-8 if it is that, else CP932.
  * @param {Uint8Array} bytes
  */
 export function textOfFile(bytes) {
-    const marked = MARKED.find(encoding => encoding.text(bytes.subarray(0, 2)) === '\uFEFF');
+    const marked = markOf(bytes);
     if (marked) return marked.text(bytes.subarray(2));
     try {
         return strictUtf8.decode(bytes);
