@@ -4,10 +4,10 @@ import { readBytes } from '../../core/bytes.js';
 import { shiftOf } from '../../core/images/common_part.js';
 import { mergeImages } from '../../core/images/merge.js';
 import { pieceReader } from '../../core/piece_reader.js';
-import { blocksIn, blocksText } from '../../core/sectors/runs.js';
+import { blocksIn, blocksText, commonRuns, joinedRuns } from '../../core/sectors/runs.js';
 import { SECTOR_SIZE } from '../../core/sectors/sector.js';
 import { findingOf } from '../../core/sectors/survey.js';
-import { MARK, sha1Of } from '../app/index.js';
+import { sha1Of } from '../app/index.js';
 import { fileReader, readImage, swapImages } from '../open/index.js';
 import { failureOfSaving, givingAll, patchedName, saveImage } from '../save/index.js';
 import * as texts from '../texts/index.js';
@@ -71,11 +71,11 @@ export class SecondRepair extends PairJob {
         });
     }
 
-    /** The blocks that are not repaired: damaged ones, and those inside Mode 1 that are it in neither image. */
+    /** The blocks that are not repaired: damaged ones, and lost ones that are Mode 1 in neither image. */
     unrepaired() {
         const { found, app: { survey } } = this;
         if (found === null || survey === null) return [];
-        const lost = found.repair.others.filter(({ first }) => survey.marks.marks[first - survey.block] === MARK.LOST);
+        const lost = commonRuns(joinedRuns(found.repair.others), survey.marks.lost);
         return [...found.repair.damaged, ...lost].sort((a, b) => a.first - b.first);
     }
 

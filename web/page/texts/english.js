@@ -450,8 +450,8 @@ export const hasNoSync = 'This sector has no sync field.';
 export const isNotModeOne = 'This sector is not of Mode 1.';
 export const isAudioOrUnknown = 'It is audio, or its form is not known.';
 export const onlyLookedAt = 'It can be looked at, not patched.';
-export const hasLostSync = 'This sector has no sync field, and Mode 1 lies around it.';
-export const hasLostMode = 'This sector is not of Mode 1, and Mode 1 lies around it.';
+export const hasLostSync = 'This sector has no sync field, and its track is Mode 1.';
+export const hasLostMode = 'This sector is not of Mode 1, and its track is.';
 export const noPatchRepairsThat = 'So it has probably lost its sync field or its mode. No patch can repair that: a whole sector from ' +
     'another dump can.';
 
