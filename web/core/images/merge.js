@@ -4,7 +4,7 @@ import { PieceCutter, joinedBytes, sameBytes, sliceOf } from '../bytes.js';
 import { Fault } from '../faults.js';
 import { RECORD, RECORD_SIZE, SECTOR_KIND } from '../module/records.js';
 import { addToRuns, runOf } from '../sectors/runs.js';
-import { FIELDS, SECTOR_SIZE, addressIn, differingSectors, sectorCount, sectorOf, sectorsAt } from '../sectors/sector.js';
+import { FIELDS, SECTOR_SIZE, addressIn, asWords, differingSectors, sectorCount, sectorOf, sectorsAt } from '../sectors/sector.js';
 import { isFilled, isSound } from '../sectors/survey.js';
 import { addressShift, commonPart, firstBlock } from './common_part.js';
 import { tailsDiffer } from './compare.js';
@@ -52,9 +52,11 @@ export function mergeRange(calls, [old, ...others], first, { shift }) {
     const records = calls.survey(old, first);
     const places = others.map(other => differingSectors(old, other));
     const otherRecords = others.map((other, i) => recordsAt(calls, other, places[i]));
-    const numbers = others.map((_, other) => other);
+    const [numbers, words] = [others.map((_, other) => other), asWords(old)];
     const found = nothingFound(others.length);
     const [sectors, count] = [/** @type {Uint8Array[]} */ ([]), sectorCount(old.length)];
+    const unlike = new Uint8Array(count); // 1 where some image has other bytes
+    places.forEach(some => some.forEach(i => { unlike[i] = 1; }));
     found.same = places.map(({ length }) => count - length);
     for (let i = 0; i < count; i++) {
         const [block, at] = [first + i, i * RECORD_SIZE];
@@ -76,23 +78,15 @@ export function mergeRange(calls, [old, ...others], first, { shift }) {
             if (candidates.some(it => differingSectors(sector, it.sector).length > 0)) addToRuns(found.disputed, runOf(block));
         } else if ([records, ...otherRecords].some(it => it[at + RECORD.KIND] === SECTOR_KIND.MODE1)) {
             addToRuns(found.damaged, { ...runOf(block), elsewhere: sound.length > 0 });
-            if (others.length > 0 && isAlike(old, others, i)) addToRuns(found.alike, runOf(block));
+            if (others.length > 0 && unlike[i] === 0) addToRuns(found.alike, runOf(block));
         } else {
-            addOther(found, block, records[at + RECORD.KIND], sectorOf(old, i));
-            if (!isAlike(old, others, i)) addToRuns(found.unlike, runOf(block));
+            const kind = records[at + RECORD.KIND];
+            addToRuns(found.others, { ...runOf(block), kind });
+            if (kind === SECTOR_KIND.NOSYNC && isFilled(words, i)) addToRuns(found.filled, { ...runOf(block), byte: old[i * SECTOR_SIZE] });
+            if (unlike[i] !== 0) addToRuns(found.unlike, runOf(block));
         }
     }
     return { ...found, sectors: joinedBytes(sectors), end: first + count };
-}
-
-/**
- * Whether the i-th sector has the same bytes in all images.
- * @param {Uint8Array} old
- * @param {Uint8Array[]} others
- * @param {number} i
- */
-function isAlike(old, others, i) {
-    return others.every(other => differingSectors(sectorOf(old, i), sectorOf(other, i)).length === 0);
 }
 
 /**
@@ -103,17 +97,6 @@ function isAlike(old, others, i) {
 function addDifferent({ differing, different }, block, other) {
     different[other] += 1;
     addToRuns(differing[other], runOf(block));
-}
-
-/**
- * @param {Found} found
- * @param {number} block
- * @param {number} kind
- * @param {Uint8Array} sector of the first image
- */
-function addOther({ others, filled }, block, kind, sector) {
-    addToRuns(others, { ...runOf(block), kind });
-    if (kind === SECTOR_KIND.NOSYNC && isFilled(sector)) addToRuns(filled, { ...runOf(block), byte: sector[0] });
 }
 
 /**

@@ -20,8 +20,11 @@ export function addToRuns(runs, run) {
  * @param {Record<string, any>} run with the same members
  */
 function saysTheSame(before, run) {
-    return Object.keys(run).every(key => key === 'first' || key === 'last' || before[key] === run[key] ||
-        JSON.stringify(before[key]) === JSON.stringify(run[key]));
+    for (const key in run) {
+        if (key === 'first' || key === 'last' || before[key] === run[key]) continue;
+        if (JSON.stringify(before[key]) !== JSON.stringify(run[key])) return false;
+    }
+    return true;
 }
 
 /**
@@ -30,6 +33,19 @@ function saysTheSame(before, run) {
  */
 export function runOf(block) {
     return { first: block, last: block };
+}
+
+/**
+ * The first blocks of runs.
+ * @param {Run[]} runs
+ * @param {number} most how many
+ */
+export function firstBlocks(runs, most) {
+    const blocks = [];
+    for (const { first, last } of runs) {
+        for (let block = first; block <= last && blocks.length < most; block++) blocks.push(block);
+    }
+    return blocks;
 }
 
 /**

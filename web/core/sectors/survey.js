@@ -2,7 +2,7 @@
 
 import { ByteList, joinedBytes } from '../bytes.js';
 import { RECORD, RECORD_SIZE, SECTOR_KIND, STATUS } from '../module/records.js';
-import { addToRuns, runOf } from './runs.js';
+import { runOf } from './runs.js';
 import { SECTOR_SIZE, asWords, sectorCount } from './sector.js';
 
 /** @typedef {import('../module/calls.js').Calls} Calls */
@@ -54,23 +54,29 @@ function shiftedSurvey(calls, bytes, block) {
 function filledRuns(bytes, records, block) {
     /** @type {FilledRun[]} */
     const filled = [];
+    const words = asWords(bytes);
     for (let i = 0; i < sectorCount(bytes.length); i++) {
-        const at = i * SECTOR_SIZE;
-        if (records[i * RECORD_SIZE + RECORD.KIND] !== SECTOR_KIND.NOSYNC) continue;
-        if (isFilled(bytes.subarray(at, at + SECTOR_SIZE))) addToRuns(filled, { ...runOf(block + i), byte: bytes[at] });
+        if (records[i * RECORD_SIZE + RECORD.KIND] !== SECTOR_KIND.NOSYNC || !isFilled(words, i)) continue;
+        // Most sectors of silence follow another one, and to make a run of each would cost more than all else.
+        const [before, byte] = [filled[filled.length - 1], bytes[i * SECTOR_SIZE]];
+        if (before && before.last === block + i - 1 && before.byte === byte) before.last = block + i;
+        else filled.push({ ...runOf(block + i), byte });
     }
     return filled;
 }
 
+const WORDS = SECTOR_SIZE / 4;
+
 /**
- * Whether a sector has nothing but one byte over and over.
- * @param {Uint8Array} sector
+ * Whether the i-th sector has nothing but one byte over and over, by four words at a time.
+ * @param {Int32Array} words of sectors
+ * @param {number} i
  */
-export function isFilled(sector) {
-    if (sector[0] !== sector[1] || sector[0] !== sector[SECTOR_SIZE - 1]) return false;
-    const [words, wanted] = [asWords(sector), Math.imul(sector[0], 0x01010101)];
-    for (let i = 0; i < words.length; i++) {
-        if (words[i] !== wanted) return false;
+export function isFilled(words, i) {
+    const from = i * WORDS;
+    const wanted = Math.imul(words[from] & 0xFF, 0x01010101);
+    for (let at = from; at < from + WORDS; at += 4) {
+        if (((words[at] ^ wanted) | (words[at + 1] ^ wanted) | (words[at + 2] ^ wanted) | (words[at + 3] ^ wanted)) !== 0) return false;
     }
     return true;
 }
