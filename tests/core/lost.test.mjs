@@ -100,8 +100,10 @@ function dueLost(files, image, isOther) {
         const hollow = Array.from({ length: size }, (_, i) => first + i).filter(i => isHollow(sectorAt(image, i))).length;
         return 2 * hollow <= size;
     };
-    const used = new Set(Array.from({ length: FIRST_FILE }, (_, i) => i));
-    for (const file of files.filter(it => !isTrack(it))) for (let i = 0; i < file.size; i++) used.add(file.first + i);
+    // Without any Mode 1 nothing says that the disc has some.
+    const isAll = runs.length === count && runs[count - 1].first === 0;
+    const used = new Set(Array.from({ length: isAll ? 0 : FIRST_FILE }, (_, i) => i));
+    for (const file of files.filter(it => !isAll && !isTrack(it))) for (let i = 0; i < file.size; i++) used.add(file.first + i);
     return runs.flatMap((run, i) => {
         const sector = sectorAt(image, i);
         const isShort = !isLong(run) && run.first > 0 && run.last < count - 1;
