@@ -4,8 +4,9 @@ import { PieceCutter, joinedBytes, sameBytes, sliceOf } from '../bytes.js';
 import { Fault } from '../faults.js';
 import { RECORD, RECORD_SIZE, SECTOR_KIND } from '../module/records.js';
 import { addToRuns, runOf } from '../sectors/runs.js';
-import { FIELDS, SECTOR_SIZE, addressIn, asWords, differingSectors, sectorCount, sectorOf, sectorsAt } from '../sectors/sector.js';
-import { isFilled, isSound } from '../sectors/survey.js';
+import { FIELDS, SECTOR_SIZE, addressIn, asWords, differingSectors, isFilled } from '../sectors/sector.js';
+import { sectorCount, sectorOf, sectorsAt } from '../sectors/sector.js';
+import { isSound } from '../sectors/survey.js';
 import { addressShift, commonPart, firstBlock } from './common_part.js';
 import { tailsDiffer } from './compare.js';
 

@@ -3,7 +3,7 @@
 import { ByteList, joinedBytes } from '../bytes.js';
 import { RECORD, RECORD_SIZE, SECTOR_KIND, STATUS } from '../module/records.js';
 import { runOf } from './runs.js';
-import { SECTOR_SIZE, asWords, sectorCount } from './sector.js';
+import { SECTOR_SIZE, asWords, isFilled, sectorCount } from './sector.js';
 
 /** @typedef {import('../module/calls.js').Calls} Calls */
 
@@ -63,22 +63,6 @@ function filledRuns(bytes, records, block) {
         else filled.push({ ...runOf(block + i), byte });
     }
     return filled;
-}
-
-const WORDS = SECTOR_SIZE / 4;
-
-/**
- * Whether the i-th sector has nothing but one byte over and over, by four words at a time.
- * @param {Int32Array} words of sectors
- * @param {number} i
- */
-export function isFilled(words, i) {
-    const from = i * WORDS;
-    const wanted = Math.imul(words[from] & 0xFF, 0x01010101);
-    for (let at = from; at < from + WORDS; at += 4) {
-        if (((words[at] ^ wanted) | (words[at + 1] ^ wanted) | (words[at + 2] ^ wanted) | (words[at + 3] ^ wanted)) !== 0) return false;
-    }
-    return true;
 }
 
 /**
