@@ -94,6 +94,20 @@ function sameWords(a, b, from) {
 }
 
 /**
+ * Whether the i-th sector has nothing but one byte over and over, by four words at a time.
+ * @param {Int32Array} words of sectors
+ * @param {number} i
+ */
+export function isFilled(words, i) {
+    const from = i * WORDS;
+    const wanted = Math.imul(words[from] & 0xFF, 0x01010101);
+    for (let at = from; at < from + WORDS; at += 4) {
+        if (((words[at] ^ wanted) | (words[at + 1] ^ wanted) | (words[at + 2] ^ wanted) | (words[at + 3] ^ wanted)) !== 0) return false;
+    }
+    return true;
+}
+
+/**
  * Which sectors of some bytes are others in other bytes of the same length.
  * @param {Uint8Array} old
  * @param {Uint8Array} fresh
