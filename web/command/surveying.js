@@ -1,11 +1,11 @@
-// What is found in the files of a disc: in the sectors of its data tracks, and the SHA-1 of each file.
+// What is found in the files of a disc: in the sectors of its data tracks, and the hashes of each file.
 
-import { createHash } from 'node:crypto';
 import { readBytes } from '../core/bytes.js';
 import { lackOf } from '../core/iso/volume_end.js';
 import { MODE1, holesOf, mode1Tracks, otherRuns } from '../core/sectors/holes.js';
 import { sectorCount } from '../core/sectors/sector.js';
 import { surveyCounts } from '../core/sectors/survey.js';
+import { RunningHashes, SHA1_ONLY } from './hashes.js';
 import { openTrack, sayUnknownBase } from './opening.js';
 import { turn } from './pausing.js';
 
@@ -16,6 +16,8 @@ import { turn } from './pausing.js';
 /** @typedef {import('../core/iso/volume_end.js').Lack} Lack */
 /** @typedef {import('../core/sectors/runs.js').Run} BlockRun */
 /** @typedef {import('../core/sectors/survey.js').Survey} Survey */
+/** @typedef {import('../core/disc/dat.js').Hashes} Hashes */
+/** @typedef {import('./hashes.js').Needs} Needs */
 /** @typedef {import('./run.js').Run} Run */
 /**
  * A track, which is `part` of `image`; whether that is all of its file; and the tracks that a sheet says are Mode 1 in it.
@@ -23,7 +25,10 @@ import { turn } from './pausing.js';
  *     mode1Tracks: BlockRun[] | null }} Surveyed
  */
 /** @typedef {ReturnType<typeof surveyCounts> & { survey: Survey, holes: BlockRun[], long: BlockRun[], lack: Lack | null }} Counted */
-/** @typedef {{ file: DiscFile, sha1: string, surveys: (Surveyed & Counted)[] }} FileFound a file of a disc, and what is found in it */
+/**
+ * A file of a disc, and what is found in it.
+ * @typedef {{ file: DiscFile, hashes: Required<Hashes>, surveys: (Surveyed & Counted)[] }} FileFound
+ */
 
 /**
  * The tracks of data that are not surveyed: their sectors have another size.
@@ -37,13 +42,14 @@ export function unsurveyedTracks({ tracks }) {
 const HASH_STEP = 1 << 20;
 
 /**
- * A reader that hashes what it is read, which has to be all bytes, one after the other; and its SHA-1, after what was not read yet.
+ * A reader that hashes what it is read, which has to be all bytes, one after the other; and its hashes, after what was not read yet.
  * @param {Reader} reader
- * @returns {Reader & { digest(): Promise<string> }}
+ * @param {Needs} needs
+ * @returns {Reader & { digest(): Promise<Required<Hashes>> }}
  */
-function hashing(reader) {
+function hashing(reader, needs) {
     const { size } = reader;
-    const hash = createHash('sha1');
+    const hash = new RunningHashes(needs);
     let hashed = 0;
     return {
         size,
@@ -60,14 +66,17 @@ function hashing(reader) {
                 await readBytes(this, hashed, Math.min(HASH_STEP, size - hashed), room);
                 await turn();
             }
-            return hash.digest('hex');
+            return hash.digest();
         },
     };
 }
 
-/** @param {Reader} reader */
-export function sha1Of(reader) {
-    return hashing(reader).digest();
+/**
+ * @param {Reader} reader
+ * @param {Needs} needs
+ */
+export function hashesOf(reader, needs) {
+    return hashing(reader, needs).digest();
 }
 
 /**
@@ -127,14 +136,15 @@ function isHashedBeside(run, reader) {
  * What is found in each file of a disc.
  * @param {Run} run
  * @param {Disc} disc
+ * @param {Needs} [needs]
  * @returns {Promise<FileFound[]>}
  */
-export async function foundInFiles(run, disc) {
+export async function foundInFiles(run, disc, needs = SHA1_ONLY) {
     const surveyed = await surveyedTracks(run, disc);
     const found = [];
     for (const [i, file] of disc.files.entries()) {
         const own = surveyed.filter(it => it.file === i);
-        const hashed = hashing(file.reader);
+        const hashed = hashing(file.reader, needs);
         const isBeside = own.length > 0 && isHashedBeside(run, file.reader);
         const beside = isBeside ? hashed.digest() : null;
         if (beside !== null) beside.catch(() => {}); // it is thrown when its turn comes
@@ -143,7 +153,7 @@ export async function foundInFiles(run, disc) {
             const reader = it.isWhole && !isBeside ? hashed : it.image.reader;
             surveys.push({ ...it, ...await countedSurvey(run, disc, it, reader) });
         }
-        found.push({ file, sha1: await (beside || hashed.digest()), surveys });
+        found.push({ file, hashes: await (beside || hashed.digest()), surveys });
     }
     return found;
 }

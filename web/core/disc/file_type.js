@@ -46,6 +46,15 @@ const BEGINNINGS = [
 ];
 
 /**
+ * What a file is by how it begins; undefined if that does not say it.
+ * @param {string} begins its first bytes, a character each
+ */
+export function kindByBeginning(begins) {
+    const known = BEGINNINGS.find(([, beginning]) => begins.startsWith(beginning));
+    return known && known[0];
+}
+
+/**
  * What a file is, by its size, its first bytes and a few of its sectors.
  * @param {Calls} calls
  * @param {Reader} reader
@@ -65,8 +74,8 @@ export async function natureOf(calls, reader) {
 async function kindOfFile(calls, reader) {
     if (reader.size === 0) return 'empty';
     const begins = await latin(reader, 0, 12);
-    const known = BEGINNINGS.find(([, beginning]) => begins.startsWith(beginning));
-    if (known) return known[0];
+    const known = kindByBeginning(begins);
+    if (known) return known;
     if (begins.startsWith('RIFF') && begins.endsWith('WAVE')) return 'wave';
     if (await latin(reader, VOLUME_MARK, 5) === 'CD001') return 'iso';
     return kindBySectors(calls, reader);
