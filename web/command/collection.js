@@ -6,6 +6,7 @@ import { sheetsOf } from '../core/disc/cue.js';
 import { Fault } from '../core/faults.js';
 import { reasonOf } from './failures.js';
 import { nameOfBytes, pathOf } from './names.js';
+import { letSignalsIn } from './pausing.js';
 import { pathsOfSheet } from './sheet_files.js';
 
 /** @typedef {{ name: string, isNamed: boolean }} Wanted a file, and whether it was given by its name */
@@ -37,17 +38,22 @@ export class Collection {
     }
 
     /** @param {string[]} paths that were given */
-    addPaths(paths) {
-        for (const path of paths) {
-            if (path === INPUT) this.found.set(INPUT, { name: INPUT, isNamed: true });
-            else this.tried(path, () => statSync(pathOf(path)).isDirectory() ? this.addAll(path) : this.addFile(path, true));
-        }
+    async addPaths(paths) {
+        for (const path of paths) await this.addNamed(path);
         // A directory that a link leads to has the names of its real place, if that is in the collection too.
-        for (const path of this.links) this.tried(path, () => this.addLinked(path));
+        for (const path of this.links) await this.addLinked(path);
+    }
+
+    /** @param {string} path that was given */
+    addNamed(path) {
+        return this.tried(path, () => {
+            if (path === INPUT) this.found.set(INPUT, { name: INPUT, isNamed: true });
+            else return statSync(pathOf(path)).isDirectory() ? this.addAll(path) : this.addFile(path, true);
+        });
     }
 
     /** @param {string} directory */
-    addAll(directory) {
+    async addAll(directory) {
         const real = realName(directory);
         if (this.searched.has(real)) return;
         this.searched.add(real);
@@ -56,8 +62,8 @@ export class Collection {
             .sort((a, b) => Number(a.name > b.name) - Number(a.name < b.name));
         for (const { entry, name } of entries) {
             const path = join(directory, name);
-            if (entry.isDirectory()) this.tried(path, () => this.addAll(path));
-            else if (entry.isFile() || entry.isSymbolicLink()) this.tried(path, () => this.addEntry(path));
+            if (entry.isDirectory()) await this.tried(path, () => this.addAll(path));
+            else if (entry.isFile() || entry.isSymbolicLink()) await this.tried(path, () => this.addEntry(path));
         }
     }
 
@@ -72,10 +78,10 @@ export class Collection {
      * Searches a directory by a link, unless the link is in it and leads round.
      * @param {string} path
      */
-    addLinked(path) {
+    async addLinked(path) {
         const [real, place] = [realName(path), realName(dirname(path))];
         const isAround = place === real || place.startsWith(join(real, '/'));
-        if (!isAround) this.addAll(path);
+        if (!isAround) await this.tried(path, () => this.addAll(path));
     }
 
     /**
@@ -89,11 +95,12 @@ export class Collection {
 
     /**
      * @param {string} path
-     * @param {() => void} tried
+     * @param {() => void | Promise<void>} tried
      */
-    tried(path, tried) {
+    async tried(path, tried) {
+        await letSignalsIn();
         try {
-            tried();
+            await tried();
         } catch (error) {
             if (error instanceof Fault) throw error;
             this.fault(`cannot read ${path}: ${reasonOf(error)}`);

@@ -8,6 +8,7 @@ import { hasCode, tryFile } from './failures.js';
 import { timeText } from './files.js';
 import { lockList } from './list_lock.js';
 import { listedName, nameOfListed, pathOf } from './names.js';
+import { letSignalsIn } from './pausing.js';
 import { replaceFile, writeFully } from './new_file.js';
 
 /** @typedef {import('../core/disc/dat.js').KnownDumps} KnownDumps */
@@ -155,7 +156,12 @@ export class ResumedList {
      * @param {Needs} needs
      */
     async dropOld(wanted, needs) {
-        const fates = this.rows.map(row => fateOf(row, needs));
+        /** @type {string[]} */
+        const fates = [];
+        for (const row of this.rows) {
+            await letSignalsIn();
+            fates.push(fateOf(row, needs));
+        }
         await this.replace(this.rows.filter((row, i) => fates[i] !== 'other' || !wanted.has(row[0])));
         return fates.filter(it => it === 'gone').length;
     }

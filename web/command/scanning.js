@@ -139,7 +139,7 @@ export async function scanJob(run) {
     const list = await resumedList(run);
     const scan = new Scan(run, list || await run.target(), known);
     const collection = new Collection(text => scan.fault(text), scan.target, list ? list.lock : '');
-    collection.addPaths(run.names);
+    await collection.addPaths(run.names);
     const names = collection.names();
     const sheets = names.filter(({ name }) => isSheetName(name));
     const needs = known ? known.needs : SHA1_ONLY;

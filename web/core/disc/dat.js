@@ -142,7 +142,7 @@ function dumpKey(size, hash) {
  * @param {string} own the name of the file
  * @returns {Found}
  */
-function entryOf({ name, isBad, names }, own) {
+function foundEntry({ name, isBad, names }, own) {
     const isOwn = names !== null && names.has(own) && (isBad || names.get(own) === false);
     return { name: isOwn ? own : name, isBad, others: names === null ? 0 : names.size - 1 };
 }
@@ -217,7 +217,7 @@ export class KnownDumps {
     find(size, { sha1, crc32 = '', md5 = '' }, name = '') {
         const found = [sha1, crc32, md5].map(hash => this.dumps.get(dumpKey(size, hash))).find(it => it !== undefined);
         const isOther = found === undefined || (md5 !== '' && found.md5 !== '' && md5 !== found.md5);
-        return isOther ? null : entryOf(found, name);
+        return isOther ? null : foundEntry(found, name);
     }
 
     /**
@@ -240,7 +240,7 @@ export class KnownDumps {
         const hashed = (/** @type {string} */ key) => key.slice(key.indexOf(':') + 1);
         if (this.byHash === null) this.byHash = new Map([...this.dumps].reverse().map(([key, dump]) => [hashed(key), dump]));
         const dump = this.byHash.get(sha1);
-        return dump ? saidOf(entryOf(dump, name)) : null;
+        return dump ? saidOf(foundEntry(dump, name)) : null;
     }
 
     /** @param {number} size */

@@ -16,7 +16,7 @@ const CLRMAMEPRO = /^\s*(?:clrmamepro|emulator|game|machine|resource)\s*\(/i;
  * The encoding that a DAT begins in, by its mark, its first characters or its declaration.
  * @param {string} begins the first bytes, a character each
  */
-function encodingOf(begins) {
+function encodingOfDat(begins) {
     if (/^(?:\xFF\xFE|<\0)/.test(begins)) return 'utf-16le';
     if (/^(?:\xFE\xFF|\0<)/.test(begins)) return 'utf-16be';
     const [, declared = 'utf-8'] = DECLARATION.exec(begins) || [];
@@ -32,7 +32,7 @@ function decoderOf(start) {
     const begins = String.fromCharCode(...start.subarray(0, BEGINNING));
     if (kindByBeginning(begins) === 'archive') throw new Fault('it is an archive: unpack it');
     if (CLRMAMEPRO.test(begins)) throw new Fault("it is in clrmamepro's own format: save it as Logiqx XML");
-    const encoding = encodingOf(begins);
+    const encoding = encodingOfDat(begins);
     try {
         return new TextDecoder(encoding);
     } catch {
@@ -73,5 +73,5 @@ function decoded(decoder, bytes, stream) {
  * @param {Uint8Array} start
  */
 export function beginsLikeDat(start) {
-    return /^\s*<[?!d]/.test(new TextDecoder(encodingOf(String.fromCharCode(...start.subarray(0, 2)))).decode(start));
+    return /^\s*<[?!d]/.test(new TextDecoder(encodingOfDat(String.fromCharCode(...start.subarray(0, 2)))).decode(start));
 }

@@ -5,9 +5,11 @@ import { readBytes } from '../bytes.js';
 /** @typedef {import('../bytes.js').Reader} Reader */
 
 const CHANNELS_SIZE = 96;
-/** Where channel Q is, its bytes before the checksum, and all of it. */
-const [Q_AT, Q_SUMMED, Q_SIZE] = [12, 10, 12];
-const SAMPLED = 32;
+/** Where channel Q is, and its bytes: those that are summed, and the checksum. */
+const Q_AT = 12;
+const Q_SIZE = 12;
+const Q_SUMMED = 10;
+const SAMPLED_CHANNELS = 32;
 
 /**
  * Whether channel Q has its checksum, a CRC-16 that is stored inverted.
@@ -29,7 +31,7 @@ function isChannelQ(q) {
 export async function isSubchannelFile(reader) {
     const sectors = reader.size / CHANNELS_SIZE;
     if (!Number.isInteger(sectors)) return false;
-    const count = Math.min(sectors, SAMPLED);
+    const count = Math.min(sectors, SAMPLED_CHANNELS);
     let right = 0;
     for (let i = 0; i < count; i++) {
         const at = Math.floor(sectors * i / count) * CHANNELS_SIZE + Q_AT;
