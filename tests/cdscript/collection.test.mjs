@@ -31,6 +31,19 @@ test('names that are not UTF-8 are read, and no two are alike in a list', () => 
     assert.equal(read(room, 'list').toString().split('\n').length, 6);
 }));
 
+test('a name that is not UTF-8 may be an argument of what only reads', () => inDirectory(async room => {
+    writeFileSync(Buffer.from(join(room, 'caf\xE9.bin'), 'latin1'), imageOf(room, 20));
+    const shell = words => {
+        const { status, stdout, stderr } = spawnSync('bash', ['-c', `"$0" "$1" ${words}`, process.execPath, command], { cwd: room, encoding: 'utf8' });
+        return [status, stdout.split('\n')[0].split('\t')[0], stderr];
+    };
+    assert.deepEqual(shell("scan $'caf\\xe9.bin'"), [0, 'caf\\xe9.bin', '']);
+    assert.deepEqual(shell("info $'caf\\xe9.bin'"), [0, 'caf..bin: a raw image, 2352 bytes a sector', '']);
+    for (const words of ["scan $'caf\\xe9.bin' -o $'\\xe9'", "find made.bin $'\\xe9'", "raw made.bin $'\\xe9'", "scan '\uFFFD'"]) {
+        assert.deepEqual(shell(words), [2, '', 'cdscript: the words are not text\n'], words);
+    }
+}));
+
 test('links to directories are followed once, but not round', () => inDirectory(async room => {
     const image = imageOf(room, 20);
     for (const name of ['shelf', 'shelf/own', 'real', 'far', 'far/deep']) mkdirSync(join(room, name));

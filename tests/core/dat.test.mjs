@@ -153,6 +153,9 @@ test('a list of 100 MB is read in bounded memory', async () => {
     async function* large() {
         yield encoded('<datafile>');
         for (let size = 0; size < 1e8; size += games.length) yield games;
+        yield encoded('<!--');
+        for (let size = 0; size < 1e8; size += games.length) yield games;
+        yield encoded('-->');
         yield encoded('</datafile>');
     }
     const dumps = new KnownDumps();

@@ -1,5 +1,7 @@
 // Names of files as the system has them: bytes, which are UTF-8 as a rule. For a byte that is not, a name here has a lone surrogate.
 
+import { readFileSync } from 'node:fs';
+
 /** What is added to a byte, so that it becomes a lone surrogate. */
 const ESCAPE = 0xDC00;
 
@@ -28,6 +30,22 @@ export function nameOfBytes(bytes) {
 export function pathOf(name) {
     if (!ESCAPED.test(name)) return name;
     return Buffer.concat(name.split(ESCAPED).map((part, i) => i % 2 === 0 ? Buffer.from(part) : Buffer.of(part.charCodeAt(0) - ESCAPE)));
+}
+
+/** @param {string} name */
+export function hasOddBytes(name) {
+    return ESCAPED.test(name);
+}
+
+/** The words that the process was given, as the system has them: node reads bytes that are not UTF-8 as U+FFFD. */
+export function wordsOfProcess() {
+    const words = process.argv.slice(2);
+    if (!words.some(word => word.includes('\uFFFD'))) return words;
+    try {
+        return nameOfBytes(readFileSync('/proc/self/cmdline')).split('\0').slice(0, -1).slice(-words.length);
+    } catch {
+        return words;
+    }
 }
 
 /**

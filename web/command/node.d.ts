@@ -55,7 +55,7 @@ declare module 'node:fs' {
     export function read(descriptor: number, bytes: Uint8Array, at: number, length: number, place: null,
         done: (error: unknown, count: number) => void): void;
     export function openSync(name: string, flags: string): number;
-    export function readFileSync(name: string | Uint8Array): Uint8Array;
+    export function readFileSync(name: string | Uint8Array): Buffer;
     export function readFileSync(name: string, encoding: 'latin1'): string;
     export const realpathSync: { (name: string): string, native(name: string | Uint8Array, encoding: 'buffer'): Buffer };
     export function renameSync(name: string, other: string): void;
