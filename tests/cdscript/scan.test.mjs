@@ -231,7 +231,7 @@ test('an image that is cut is marked, and the last column says whether there was
     const [earlier] = (await run(['scan', 'cut.bin'], { cwd: room })).out.split('\n');
     write(room, { list: `${seven(earlier).replace(',tail 1352\t0\t1', '\t0\t0')}\ngone.bin\taudio\t0\t0\t0\t${shaOf(track)}\t-\n` });
     const mended = await run(['scan', 'a.bin', 'cut.bin', '--dat', 'a.dat', '--resume', 'list'], { cwd: room });
-    assert.deepEqual([mended.status, mended.errors.split('\n')[0]], [1, 'cdscript: list: files that are gone, whose lines stay: 1']);
+    assert.deepEqual([mended.status, mended.errors.split('\n')[0]], [1, 'cdscript: list: files that no longer exist, whose lines are kept: 1']);
     assert.deepEqual(read(room, 'list').toString().split('\n').map(row => row.split('\t').slice(0, 7)).map(row => `${row[0]} ${row[1]} ${row[6]}`).sort(),
         [' undefined undefined', 'a.bin mode1 20 verified A.bin', 'cut.bin mode1 19,tail 1352 not in the DAT', 'gone.bin audio not in the DAT']);
     for (let i = 0; i < 2; i++) assert.equal((await run(['scan', ...names, '--dat', 'a.dat', '--resume', 'list'], { cwd: room })).status, 1);
@@ -379,7 +379,7 @@ test('a list goes on with files that were replaced, and names how many are gone'
     const { status, errors } = await scan();
     const after = linesOf(room, 'list');
     const damages = ['a', 'b', 'c', 'd', 'e'].map(name => after.get(`set/${name}.bin`).split('\t').slice(1, 4).join(' '));
-    assert.deepEqual([status, errors, after.size], [1, 'cdscript: list: files that are gone, whose lines stay: 1\n', 5]);
+    assert.deepEqual([status, errors, after.size], [1, 'cdscript: list: files that no longer exist, whose lines are kept: 1\n', 5]);
     assert.deepEqual(damages, ['mode1 20 1 1', 'mode1 19 0 0', 'mode1 20 0 0', 'mode1 20 0 0', 'mode1 20 1 1']);
     assert.deepEqual(['c', 'd'].map(name => after.get(`set/${name}.bin`)), ['c', 'd'].map(name => before.get(`set/${name}.bin`)));
     // What is not looked at keeps its line.

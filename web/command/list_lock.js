@@ -6,7 +6,7 @@ import { fileFault, hasCode } from './failures.js';
 import { writeFully } from './new_file.js';
 
 /**
- * Whether a process runs that made a lock. If it has the number of this one, it has ended, and its number was given again.
+ * Whether the process that made a lock still runs. If it has the number of this one, it has ended, and the number was given out again.
  * @param {number} pid
  */
 function isRunning(pid) {

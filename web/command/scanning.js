@@ -168,7 +168,7 @@ export async function scanJob(run) {
 async function goOn(scan, list, names, needs) {
     const wanted = names.flatMap(({ name }) => isSheetName(name) ? [name, ...filesNamedBy(name)] : [name]);
     const gone = await list.dropOld(new Set(wanted.map(listedName)), needs);
-    if (gone > 0) scan.run.say(`${list.name}: files that are gone, whose lines stay: ${gone}`);
+    if (gone > 0) scan.run.say(`${list.name}: files that no longer exist, whose lines are kept: ${gone}`);
     scan.done = list.done();
     if (list.hasFindings()) scan.status = Math.max(scan.status, 1);
     const changed = scan.known === null ? 0 : await list.lookUp(scan.known);

@@ -4,7 +4,7 @@ import { Fault } from '../faults.js';
 
 const LONGEST_TAG = 1 << 14;
 
-/** What is skipped: how it begins after its `<`, and how it ends. The page's script may not have the `<` of a comment before the rest. */
+/** What is skipped: how it begins after its `<`, and how it ends. The page's script may not have the beginning of a comment whole. */
 const SKIPPED = [['!--', '-->'], ['![CDATA[', ']]>'], ['?', '?>']];
 const LONGEST_END = 3;
 

@@ -1,11 +1,11 @@
-// The text of a DAT, whatever its encoding is, and what a file is that is often taken for a DAT.
+// Decodes a DAT, and recognises files that are often mistaken for one.
 
 import { joinedBytes } from '../bytes.js';
 import { Fault } from '../faults.js';
 import { windowsText } from '../texts/windows_1252.js';
 import { kindByBeginning } from './file_type.js';
 
-/** Bytes from which the encoding is told. An XML declaration is shorter. */
+/** The encoding follows from these bytes. An XML declaration is shorter. */
 const BEGINNING = 256;
 
 const BYTE_ORDER_MARK = '\xEF\xBB\xBF';

@@ -45,7 +45,7 @@ const NATURES = {
     archive: ['an archive', 'Unpack it, and choose the cue sheet or the raw image in it.'],
     wave: ['audio in a RIFF/WAVE file', 'Choose the data track of the disc.'],
     cue: ['a cue sheet', 'Open it with the files that it names.'],
-    scrambled: ['a scrambled image, with the sectors as they lie on the disc', 'Descramble it first, with the program that read the disc.'],
+    scrambled: ['a scrambled image, with its sectors as they are on the disc', 'Descramble it first, with the program that read the disc.'],
     nrg: ['an image of Nero (NRG)', 'Convert it to a raw image and a cue sheet.'],
     mds: ['the description of an MDF image (MDS)', 'Choose the MDF file: with 2352 bytes a sector it is a raw image.'],
     ccd: ['a control file of CloneCD (CCD)', 'Choose the IMG file beside it, which is a raw image.'],
