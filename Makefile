@@ -1,5 +1,6 @@
-# What `make` can do: `make help` prints the targets, which are the lines with ## here. docs/INSTALL.md says what each needs.
-.PHONY: all help check quick test test-outside mutants fuzz bench wasm web pages design map contracts audit clean
+# What `make` can do: `make help` prints the targets, which are the lines with ## here.
+.PHONY: program
+.PHONY: all help try check quick test test-outside mutants fuzz bench wasm web pages design map contracts audit clean
 
 # Goals come one after the other, as they are given. Crates are proved side by side, at most as many as `make -j N` says.
 .NOTPARALLEL:
@@ -21,7 +22,24 @@ include install.mk
 # The README of the sources is for those who build; the tarball has this one under that name.
 README = tools/README.tarball.md
 
+# The README's first command, after which everybody has seen the program work. It can be run again.
+try: program                ## prove and build only the program, then patch and audit a sample image in try/
+	@rm -rf try && mkdir try
+	cp crates/cd_low_tests/data/cdrkit-8.bin try/disc.bin
+	printf '%s\n' 'cdpatch 1' 'set 1 0 48656C6C6F was EBF29B27E7' > try/changes.txt
+	./cdpatch apply try/disc.bin try/changes.txt try/new.bin
+	./cdpatch audit try/new.bin
+
 # tools/prove.py calls the module of rt, and is faster. rt by itself proves and builds the same.
+program:
+	@bash tools/toolchain.sh || true
+ifeq ($(SIMPLE),1)
+	cd crates/cdpatch && rt run $(CPU:%=--cpu %) < /dev/null > /dev/null
+else
+	@python3 tools/prove.py cdpatch '$(AT_ONCE)' '$(CPU)'
+endif
+	@cp crates/cdpatch/out/cdpatch cdpatch
+
 cdpatch: FORCE
 	@bash tools/toolchain.sh || true
 ifeq ($(SIMPLE),1)
@@ -63,7 +81,7 @@ check:                      ## test what was built and the pages; proves nothing
 	@test -x '$(PROGRAM)' || { echo 'There is no $(PROGRAM) to test: run make first.' >&2; exit 1; }
 	bash tests/run '$(PROGRAM)'
 
-quick: cdpatch check        ## make, and then make check
+quick: cdpatch check        ## build everything, then test it
 
 test:                       ## the merge gate: all proofs, wrong bodies and tests
 	bash .ci/run
@@ -92,7 +110,7 @@ pages:                      ## make anew what the man pages and the README repea
 	@python3 -B tools/options.py pages ./cdpatch ./cdscript
 
 # By Chromium, of the page that was built.
-design:                     ## make anew the pictures of the page and the tables of docs/DESIGN.md
+design:                     ## draw the pictures of docs/gallery.md and the README
 	@PAGE='$(CURDIR)/cdpatch.html' PROGRAM='$(CURDIR)/cdpatch' /usr/bin/python3 -B tests/page/design.py
 
 # What the sources say of themselves, as Markdown.
@@ -128,6 +146,6 @@ fit:
 	@bash tools/fit.sh '$(PROGRAM)' '$(LIBRARY)' '$(JOINED)' '$(VERSION)'
 
 clean:                      ## remove what was made
-	rm -rf cdpatch cdscript cdpatch.html library completions bench/cd_bench crates/*/out
+	rm -rf try cdpatch cdscript cdpatch.html library completions bench/cd_bench crates/*/out
 	rm -f $(foreach made,cdpatch-*.tar.gz cdpatch_*.deb cdpatch-*.whl cdpatch-*.tgz cdscript.js,$(made) $(made).sha256 $(made).sig)
 	rm -f cdpatch.html.sha256 cdpatch.html.sig web/core/module/numbers.js python/cdpatch/_numbers.py

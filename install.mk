@@ -34,7 +34,7 @@ docdir = $(datarootdir)/doc/cdpatch
 pagedir = $(datarootdir)/cdpatch
 pythondir = $(datarootdir)/cdpatch/python
 # The pages for users, and the examples; the other pages are for those who change the sources.
-PAGES = CHANGELOG.md $(addprefix docs/,SCRIPTS.md TRANSLATE.md REPAIR.md MODULES.md TRUST.md parts.svg sector.svg apply.svg page.png) \
+PAGES = CHANGELOG.md $(addprefix docs/,SCRIPTS.md TRANSLATE.md REPAIR.md FAQ.md MODULES.md TRUST.md parts.svg sector.svg apply.svg page.png) \
     $(addprefix examples/,audit.c patch_pipe.c patch_map.c fixlist.py damaged.rs)
 # The calls of the library, each of which has the man page by its name too.
 CALLS = $(shell sed -n '/^\.Sh SYNOPSIS/,/^\.Sh DESCRIPTION/s/^\.Fn \([a-z0-9_]*\) .*/\1/p' man/libcdpatch.3)

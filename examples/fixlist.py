@@ -42,8 +42,8 @@ def main() -> int:
         found = print_fixes(sys.argv[1], int(sys.argv[2]) if len(sys.argv) == 3 else 0)
         sys.stdout.flush()
         return int(found)
-    except (OSError, ValueError) as why:
-        print(f'fixlist.py: {why}', file=sys.stderr, flush=True)
+    except (OSError, ValueError, MemoryError) as why:
+        print('fixlist.py:', str(why) or 'no memory', file=sys.stderr, flush=True)
         os._exit(2)  # An exit would flush a full standard output once more.
 
 

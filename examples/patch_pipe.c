@@ -6,12 +6,12 @@
 
 enum { PIECE = 65536 };
 
-/* Ends the program if a file failed. A failed read is not the end of the image, at which a run would go on to its own end. */
+/* How many bytes of a step were moved. A failed read is not the end of the image, at which a run would go on to its own end. */
 static size_t checked(size_t moved, FILE *file) {
-    if (file && !ferror(file))
+    if (!ferror(file))
         return moved;
     perror("patch_pipe");
-    exit(CDPATCH_FAILED);
+    return CDPATCH_MOVE_FAILED;
 }
 
 static size_t take(void *bytes, size_t size, FILE *file) { return checked(fread(bytes, 1, size, file), file); }
@@ -20,19 +20,29 @@ static size_t put(const void *bytes, size_t size, FILE *file) { return checked(f
 static size_t pass_on(size_t size) {
     static uint8_t piece[PIECE];
     size_t moved = 0;
-    while (moved < size && !feof(stdin))
-        moved += put(piece, take(piece, size - moved < PIECE ? size - moved : PIECE, stdin), stdout);
+    while (moved < size && !feof(stdin)) {
+        size_t came = take(piece, size - moved < PIECE ? size - moved : PIECE, stdin);
+        if (came == CDPATCH_MOVE_FAILED || put(piece, came, stdout) == CDPATCH_MOVE_FAILED)
+            return CDPATCH_MOVE_FAILED;
+        moved += came;
+    }
     return moved;
 }
 
-/* Reads a whole script, or more of one than a run takes. */
+/* Reads a whole script, or more of one than a run takes. Ends the program if the file fails, or there is no memory. */
 static uint8_t *read_script(const char *name, size_t *size) {
     FILE *file = fopen(name, "rb");
-    uint8_t *text = NULL;
-    *size = checked(0, file);
-    for (size_t room = PIECE; !feof(file) && *size <= CDPATCH_MOST_SCRIPT_BYTES; room *= 2) {
-        text = realloc(text, room);
-        *size += take(text + *size, room - *size, text ? file : NULL);
+    uint8_t *text = NULL, *grown = NULL;
+    *size = 0;
+    for (size_t room = PIECE; file && (grown = realloc(text, room)) != NULL; room *= 2) {
+        text = grown;
+        *size += fread(text + *size, 1, room - *size, file);
+        if (*size < room || *size > CDPATCH_MOST_SCRIPT_BYTES)
+            break;
+    }
+    if (!grown || ferror(file)) {
+        perror("patch_pipe");
+        exit(CDPATCH_FAILED);
     }
     fclose(file);
     return text;
@@ -65,7 +75,8 @@ int main(int count, char **arguments) {
             break;
     }
     free(script);
+    if (step.status == CDPATCH_FAILED)
+        return CDPATCH_FAILED;
     fflush(stdout);
-    checked(0, stdout);
-    return (int)step.status;
+    return checked(0, stdout) == 0 ? (int)step.status : CDPATCH_FAILED;
 }

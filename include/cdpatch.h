@@ -38,10 +38,10 @@ extern "C" {
 /** The same as a number: 10000 times its first number, 100 times its second, and its third. */
 #define CDPATCH_VERSION_NUMBER 10300
 
-/** Sizes in bytes: of a sector, of its user data, of an address, of the most bytes that a patch sets, of the room for a line of text, and of
- * a SHA-1. */
+/** Sizes in bytes: of a sector, of its user data, of an address, of the most bytes that a patch sets, of the room for a line of text, and
+ * of a SHA-1. And how many sectors the hand of a run has at least. */
 enum { CDPATCH_SECTOR_SIZE = 2352, CDPATCH_USER_SIZE = 2048, CDPATCH_ADDRESS_SIZE = 3, CDPATCH_PATCH_SIZE = 4096, CDPATCH_LINE_SIZE = 96,
-       CDPATCH_DIGEST_SIZE = 20 };
+       CDPATCH_DIGEST_SIZE = 20, CDPATCH_SECTORS_IN_HAND = 3 };
 /** How many P columns and Q diagonals a sector has. */
 enum { CDPATCH_COLUMNS = 86, CDPATCH_DIAGONALS = 52 };
 /** The most sectors of an image; the most bytes and the most patches of a script; the last block that a patch may name; and the last block
@@ -100,10 +100,10 @@ struct cdpatch_run { uint64_t state[9]; };
 struct cdpatch_rooms { uint8_t new_bytes[CDPATCH_PATCH_SIZE]; uint8_t old_bytes[CDPATCH_PATCH_SIZE]; };
 /** Flags of a run: damage is carried; every sector is read and written, and none copied; old bytes are not compared. */
 enum cdpatch_run_flag { CDPATCH_CARRY = 1, CDPATCH_NO_COPY = 2, CDPATCH_WITHOUT_OLD = 4 };
-/** How many sectors the hand of a run has at least. */
-enum { CDPATCH_SECTORS_IN_HAND = 3 };
 /** The size of an image that is not known before its end. */
 #define CDPATCH_UNKNOWN_SIZE UINT64_MAX
+/** What a client says, in place of a number of bytes, if the bytes of a step could not be moved. */
+#define CDPATCH_MOVE_FAILED SIZE_MAX
 /** What cdpatch_run_begin returns if it refuses. */
 #define CDPATCH_REFUSED SIZE_MAX
 
@@ -203,22 +203,44 @@ enum cdpatch_result cdpatch_apply_patch(const struct cdpatch_patch patch[CDPATCH
  * @name A run of patches
  * A script on an image whose bytes the caller moves: of a pipe, a file, a part of one, to wherever it likes. This is a whole client:
  *
- *     size_t count = cdpatch_run_begin(&run, script, script_size, base, CDPATCH_UNKNOWN_SIZE, flags, entries, room), done = 0;
- *     if (count > room) return CDPATCH_FAILED; // there is not room for all entries; the base or the flags are refused
- *     for (;;) {
- *         cdpatch_run_next(&run, done, script, script_size, entries, room, hand, CDPATCH_SECTORS_IN_HAND, &rooms, &step);
- *         if (step.kind == CDPATCH_END) return step.status;
- *         if (step.kind == CDPATCH_READ) done = fread(hand + step.place, 1, step.size, in);
- *         if (step.kind == CDPATCH_COPY) done = pass_on(in, out, step.size);
- *         if (step.kind == CDPATCH_WRITE) done = fwrite(hand + step.place, 1, step.size, out);
- *         if (step.kind == CDPATCH_LOG) done = fwrite(step.text, 1, step.size, log);
+ *     static size_t pass_on(FILE *in, FILE *out, size_t size) {
+ *         static char piece[65536];
+ *         size_t moved = 0, came = 1;
+ *         for (; moved < size && came > 0 && !ferror(out); moved += came) {
+ *             came = fread(piece, 1, size - moved < sizeof piece ? size - moved : sizeof piece, in);
+ *             fwrite(piece, 1, came, out);
+ *         }
+ *         return moved;
+ *     }
+ *
+ *     int patch(const uint8_t *script, size_t script_size, uint32_t base, uint32_t flags, FILE *in, FILE *out, FILE *log) {
+ *         static struct cdpatch_entry entries[CDPATCH_MOST_PATCHES];
+ *         static uint8_t hand[CDPATCH_SECTORS_IN_HAND * CDPATCH_SECTOR_SIZE];
+ *         static struct cdpatch_rooms rooms;
+ *         struct cdpatch_run run;
+ *         struct cdpatch_step step;
+ *         size_t done = 0, room = CDPATCH_MOST_PATCHES;
+ *         size_t count = cdpatch_run_begin(&run, script, script_size, base, CDPATCH_UNKNOWN_SIZE, flags, entries, room);
+ *         if (count > room) return CDPATCH_FAILED; // the base or the flags are refused
+ *         do {
+ *             cdpatch_run_next(&run, done, script, script_size, entries, room, hand, CDPATCH_SECTORS_IN_HAND, &rooms, &step);
+ *             if (step.kind == CDPATCH_READ) done = fread(hand + step.place, 1, step.size, in);
+ *             if (step.kind == CDPATCH_COPY) done = pass_on(in, out, step.size);
+ *             if (step.kind == CDPATCH_WRITE) done = fwrite(hand + step.place, 1, step.size, out);
+ *             if (step.kind == CDPATCH_LOG) done = fwrite(step.text, 1, step.size, log);
+ *             if (ferror(in) || ferror(out) || ferror(log)) done = CDPATCH_MOVE_FAILED;
+ *         } while (step.kind != CDPATCH_END);
+ *         return fflush(out) || fflush(log) ? CDPATCH_FAILED : (int)step.status;
  *     }
  *
  * What goes out is then the image that cdpatch_apply makes, the lines are its log in its order, and the status is its status. READ
- * and COPY go forward once over the image, and a sector is read only if a patch looks at it. An image of more than 2352000000 bytes is
- * told by a line, and CDPATCH_FAILED. An invalid or too long script is so too, before any byte is asked for: a client that makes its output
- * at the first READ, COPY or WRITE, or at an END that is not CDPATCH_FAILED, makes none for such a script. A client that wants only the
- * log drops what goes out.
+ * and COPY go forward once over the image, and a sector is read only if a patch looks at it. An image of more than 2352000000 bytes ends
+ * the run with a line that says so, and CDPATCH_FAILED. So does an invalid or too long script, before any byte is asked for: a client that
+ * makes its output at the first READ, COPY or WRITE, or at an END that is not CDPATCH_FAILED, makes none for such a script. A client that
+ * needs only the log drops what goes out.
+ *
+ * If a read or a write failed, the client says CDPATCH_MOVE_FAILED, and the run ends with CDPATCH_FAILED, without a line. A client that
+ * takes a failed read for the end of the image leaves a cut image, with the status of a whole one.
  * @{ */
 
 /** Begins a run over an image whose first sector is block `base`, and which has `image_size` bytes, or CDPATCH_UNKNOWN_SIZE. `flags`
@@ -232,10 +254,14 @@ size_t cdpatch_run_begin(struct cdpatch_run run[CDPATCH_AT_LEAST 1], const uint8
 /** Notes that `done` bytes of the last step were moved, at first 0, and writes the next step. READ `size` bytes of the image to `place`
  * in the hand; COPY `size` bytes of the image to the output as they are; WRITE `size` bytes from `place` in the hand to the output;
  * LOG `size` bytes of `text`; or END with a status. Fewer bytes than `size` may have been read or copied only if the image ends
- * there. The script and the entries are those of cdpatch_run_begin. The hand has `sectors` sectors, three or more, and keeps what
- * stands in it from one call to the next; the rooms need not. Whatever stands in all these, the call answers: CDPATCH_END with
- * CDPATCH_FAILED if no run has such a state, if an entry is not that of its line, if there are fewer than three sectors, or if more
- * bytes were moved than were asked for, or fewer written or logged. */
+ * there: if its size is known and fewer came, the run ends with the line `cdpatch: reading the image failed`, and CDPATCH_FAILED. If a step
+ * failed, `done` is CDPATCH_MOVE_FAILED.
+ *
+ * The script and the entries are those of cdpatch_run_begin. The hand has `sectors` sectors, at least three, and keeps its bytes from
+ * one call to the next; the rooms need not. A hand of more than three sectors brings nothing today: no READ and no WRITE is larger than
+ * a sector, and the sectors after the third stay as they are. Whatever bytes all these have, the call answers: CDPATCH_END with
+ * CDPATCH_FAILED if no run has such a state, if an entry is not that of its line, if there are fewer than three sectors, if more bytes
+ * were moved than were asked for, which CDPATCH_MOVE_FAILED always is, or if fewer were written or logged. */
 void cdpatch_run_next(struct cdpatch_run run[CDPATCH_AT_LEAST 1], size_t done, const uint8_t *script, size_t script_size,
                       const struct cdpatch_entry *entries, size_t room, uint8_t *hand, size_t sectors,
                       struct cdpatch_rooms rooms[CDPATCH_AT_LEAST 1], struct cdpatch_step step[CDPATCH_AT_LEAST 1]);

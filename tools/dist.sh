@@ -11,6 +11,7 @@ umask 022
 program=$(realpath "$1")
 library=$(realpath "$2")
 joined=$(realpath "$3")
+mkdir -p "$4"
 directory=$(realpath "$4")
 cd "$(dirname "$0")/.."
 completions=${COMPLETIONS:-completions}
@@ -22,7 +23,7 @@ mkdir -p "$scratch/$name"/{docs,man,completions,examples,include,python/cdpatch,
 cp "$program" "$scratch/$name/cdpatch"
 { printf '%s\n' 'all:' "	@echo 'Everything is built: make install installs it.'" ''; cat install.mk; } > "$scratch/$name/Makefile"
 cp CHANGELOG.md "$scratch/$name"
-cp docs/{SCRIPTS,TRANSLATE,REPAIR,MODULES,TRUST}.md docs/{parts,sector,apply}.svg docs/page.png "$scratch/$name/docs"
+cp docs/{SCRIPTS,TRANSLATE,REPAIR,FAQ,MODULES,TRUST}.md docs/{parts,sector,apply}.svg docs/page.png "$scratch/$name/docs"
 cp tools/README.tarball.md "$scratch/$name/README.md"
 sed '/^<!-- sources -->$/,/^<!-- end of sources -->$/d' docs/INSTALL.md > "$scratch/$name/docs/INSTALL.md"
 cp examples/{audit.c,patch_pipe.c,patch_map.c,fixlist.py,damaged.rs} "$scratch/$name/examples"

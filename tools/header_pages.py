@@ -3,7 +3,8 @@
 DIRECTORY as the next word it does so in that tree.
 
 In a page a part stands between marks, as `made: declarations` and `end of declarations`, which has the defines, enums and structs of the
-header, `made: prototypes`, which has its calls, and `made: LAST_BASE` and `end of LAST_BASE`, in which each number is CDPATCH_LAST_BASE."""
+header, `made: prototypes`, which has its calls, `made: calls`, which has their comments, `made: rules`, which has the header's own comment but its first paragraph, and `made: LAST_BASE` and `end of LAST_BASE`, in which
+each number is CDPATCH_LAST_BASE."""
 
 import re
 import sys
@@ -32,11 +33,77 @@ def prototypes(code: str) -> str:
     return ''.join(f'.Ft {answer}\n.Fn {name} {given}\n' for answer, name, given in words)
 
 
+def marked(word: str) -> str:
+    """A word of a comment as a line of mdoc, if it is a name; '' if it is plain text."""
+    found = re.fullmatch(r'(\(?)(?:(cdpatch_\w+)|(CDPATCH_\w+)|(\w+)\((\d)\)|`([^`]+)`)([.,:;)]*)', word)
+    if not found:
+        return ''
+    before, call, constant, page, section, quoted, after = found.groups()
+    if call:
+        name = f'Fn {call}'
+    elif constant:
+        name = f'Dv {constant}'
+    elif page:
+        name = f'Xr {page} {section}'
+    elif quoted.startswith(('enum ', 'struct ')):
+        name = f'Vt {quoted}'
+    else:
+        name = f'Fa {quoted}' if re.fullmatch(r'\*?\w+', quoted) else f'Ql {quoted}'
+    return ' '.join(['.' + ('Pq ' if before and after.startswith(')') else '') + name, *after.removeprefix(')' if before else '')])
+
+
+def prose(text: str) -> str:
+    """A paragraph of a comment in mdoc: a name on a line of its own, and each sentence on new lines."""
+    lines, plain = [], ''
+    for word in re.findall(r'\(?`[^`]+`\S*|\S+', text):
+        name = marked(word)
+        if name or re.search(r'[.:]$', plain):
+            lines += textwrap.wrap(plain, LONGEST_LINE)
+            plain = ''
+        if name:
+            lines.append(name)
+        else:
+            plain = f'{plain} {word}'.strip()
+    lines += textwrap.wrap(plain, LONGEST_LINE)
+    return ''.join(f'{line}\n' for line in lines)
+
+
+def comment_text(comment: str) -> str:
+    """A comment of the header in mdoc, with its paragraphs and its examples."""
+    parts = []
+    for block in re.split(r'\n\s*\n', re.sub(r'(?m)^ ?\* ?', '', comment)):
+        if re.match(r' {4}', block):
+            code = textwrap.dedent(block).replace('\\', '\\e')
+            parts.append(f'.Bd -literal -offset 2n\n{code}\n.Ed\n')
+        else:
+            parts.append(prose(block))
+    return '.Pp\n'.join(parts).replace('.Pp\n.Bd', '.Bd')
+
+
+def calls(header: str) -> str:
+    """The calls with their comments, by the header's groups."""
+    pages: list[str] = []
+    for group in re.split(r'(?m)^ \* @name |^/\*\* @name ', header[header.index('/** Returns the version of the library'):]):
+        title, _, rest = ('Version and results', '', group) if not pages else group.partition('\n')
+        about, _, listed = rest.partition(' * @{ */') if pages else ('', '', rest)
+        found = re.findall(r'/\*\* ((?:(?!\*/).)*?) ?\*/\n([a-z](?:[^;/]*?\b(cdpatch_\w+)\([^;]*\);))', listed, re.S)
+        items = ''.join(f'.It Fn {name}\n{comment_text(comment)}' for comment, _, name in found)
+        pages.append(f'.Ss {title}\n{comment_text(about.strip(chr(10)))}.Bl -tag -width Ds\n{items}.El\n')
+    return ''.join(pages)
+
+
+def rules(header: str) -> str:
+    """What holds for all calls."""
+    text = header[header.index('\n *\n') + 4:header.index('\n *\n * @file')]
+    return comment_text(re.sub(r'(^|[.] )libcdpatch\(3\)', r'\1This page', text).replace('libcdpatch(3)', 'this page'))
+
+
 def remade(page: str, header: str) -> str:
     """A page with its parts made anew; those of other tools stay."""
     numbers = header_numbers.read(header).numbers
     code = re.sub(r'/\*.*?\*/', '', header, flags=re.S)
-    parts = {'declarations': declarations(code), 'prototypes': prototypes(code)}
+    parts = {'declarations': declarations(code), 'prototypes': prototypes(code), 'calls': calls(header),
+             'rules': rules(header)}
 
     def make(found: re.Match[str]) -> str:
         begin, name, part, end = found.groups()

@@ -43,8 +43,8 @@ The calls; help(cdpatch.patch) says more of one:
     library_version()                the version of libcdpatch
 
 Images, scripts, sectors, user data and addresses are bytes, bytearray, memoryview, mmap, array, or any other object with a buffer
-whose bytes are in a row, which help calls ReadableBuffer: each is read where it stands, whatever the size of its items, and only `out` of
-`apply`, a WriteableBuffer, is written. What is read of a map counts as memory of the process (RSS), until the system wants it back. Threads
+whose bytes are in a row, which help calls ReadableBuffer: each is read where it stands, whatever the size of its items, but a script that
+is not bytes is copied. Only `out` of `apply`, a WriteableBuffer, is written. What is read of a map counts as memory of the process (RSS), until the system wants it back. Threads
 may make calls at the same time, also on the same bytes; what one writes, no other reads or writes meanwhile. The library is the file
 that CDPATCH_LIBRARY names, or one in the directory of this package, or that of the loader, or one in `lib` of the prefix that this
 package is installed below; one of these two that lacks a call is passed over."""

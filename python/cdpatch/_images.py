@@ -75,7 +75,7 @@ def check(image: ReadableBuffer, script: ReadableBuffer, base: int = 0, carry: b
     """Returns what `cdpatch check` prints: what `apply` would do with each patch of a script; and whether one is refused. Of the image
     only the sectors that patches look at are read; if it is empty, as `b''`, the script is read and nothing else.
 
-    Raises Failed and ValueError as `apply` does."""
+    Raises Failed as `apply` does."""
     with Held(image) as held:
         return run(_InMemory(held, None), held.size, script, base, carry)
 
@@ -97,10 +97,11 @@ def apply(image: ReadableBuffer, script: ReadableBuffer, base: int = 0, carry: b
     to refuse a patch, and stays; a `rebuild` removes it, with `carry` and without.
 
     With `out`, such as the map of a new file, the new image is written to its first bytes, and the others stay; then the result is a
-    Report, which has no image. Beside it, a call takes the memory of the log, at most 5243080 bytes, twice, and 20 bytes for each patch.
+    Report, which has no image. Beside it, a call takes the memory of the log, at most 5243080 bytes, twice, 20 bytes for each patch, and
+    that of a copy of the script, if it is not `bytes`.
 
-    Raises Failed if the base is another number, the script is invalid or too long, or the image has more than
-    2352000000 bytes; ValueError if the script changes meanwhile: `out` then begins with a prefix of the new image, perhaps an empty one.
+    Raises Failed if the base is another number, the script is invalid or too long, or the image has more than 2352000000 bytes: `out` then
+    begins with a prefix of the new image, perhaps an empty one.
     Raises ValueError, and writes nothing, if `out` is smaller than the image, or shares a byte with the image or the script; and if it
     is read-only what its type raises then, which is BufferError, or ValueError for an array of numpy."""
     if out is not None:

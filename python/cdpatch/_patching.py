@@ -82,13 +82,13 @@ def patch(reader: Reader, script: ReadableBuffer, writer: Writer, base: int = 0,
     With `log`, such as `sys.stdout.write`, each line of that is handed over as soon as it is known: of a patch before a sector of its block
     or of a later one is written. So is the line of an error. The lines before a file fails are then not lost.
 
-    No more than 65536 bytes are held, so `reader` and `writer` may be pipes. A read may give less than it is asked for, and a
+    No more than 65536 bytes of the image are held, so `reader` and `writer` may be pipes. A script that is not `bytes`, such as a bytearray,
+    is copied: what becomes of it meanwhile changes nothing. A read may give less than it is asked for, and a
     write take less; `write` returns how many bytes it took, as that of Python's files does. Nothing is read after the end, and nothing
     is flushed or closed.
 
     Raises Failed if the base is another number, or the script is invalid or too long: then nothing is read or written. A caller who opens
     `writer` only after `check(b'', script)` has no empty file left of an invalid script. Raises Failed, with the log so far, if the image
     has more than 2352000000 bytes, OSError if the writer takes nothing, BlockingIOError if the reader has nothing yet, ValueError if it
-    gives more than it is asked for, or if the script changes meanwhile, and what the three raise: then a prefix of the new image was
-    written."""
+    gives more than it is asked for, and what the three raise: then a prefix of the new image was written."""
     return run(_Streams(reader, writer), UNKNOWN_SIZE, script, base, carry, log)

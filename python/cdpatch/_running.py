@@ -10,8 +10,8 @@ from typing import TYPE_CHECKING, Callable, Optional, Protocol
 from ._errors import Failed
 from ._library import LARGEST_SIZE, library
 from ._memory import Held
-from ._numbers import (MOST_PATCHES, SECTOR_SIZE, SECTORS_IN_HAND, STEP_FORMAT, EntryStruct, RoomsStruct, RunFlag, RunStruct, Status,
-                       StepKind, StepStruct)
+from ._numbers import (MOST_PATCHES, MOST_SCRIPT_BYTES, SECTOR_SIZE, SECTORS_IN_HAND, STEP_FORMAT, EntryStruct, RoomsStruct, RunFlag,
+                       RunStruct, Status, StepKind, StepStruct)
 from ._reports import Report, checked_base
 
 if TYPE_CHECKING:
@@ -26,7 +26,7 @@ _FIELDS = struct.Struct(STEP_FORMAT)
 
 class Client(Protocol):
     """What moves the bytes of an image, forward and each once. A call returns how many it moved: fewer than `size` only if the image
-    ends there. `hand` is a place in memory."""
+    ends there. If it can't, it raises, and the run is left as it is. `hand` is a place in memory."""
 
     def read(self, at: int, size: int, hand: int) -> int:
         """Reads bytes into the hand."""
@@ -38,12 +38,21 @@ class Client(Protocol):
         """Passes on bytes in hand."""
 
 
+def _kept(script: ReadableBuffer) -> ReadableBuffer:
+    """A script that nobody can change during a run, of whose lines that knows only where they are: a copy, if it is not `bytes`. One that
+    is too long is refused by its size, and not copied."""
+    with Held(script) as held:
+        if type(script) is bytes or held.size > MOST_SCRIPT_BYTES:
+            return script
+        return ctypes.string_at(held.place, held.size)
+
+
 def run(client: Client, image_size: int, script: ReadableBuffer, base: int, carry: bool,
         hear: Optional[Callable[[str], object]] = None) -> Report:
     """Leads a run to its end, tells `hear` each line of its log, and returns that. Raises Failed, with the log, if the script or the image
-    has an error, and ValueError if the script changes meanwhile."""
-    base, log, is_error, done = checked_base(base), bytearray(), False, c_size_t()
-    with Held(script) as text:
+    has an error."""
+    base, log, done = checked_base(base), bytearray(), c_size_t()
+    with Held(_kept(script)) as text:
         count = min(text.size, MOST_PATCHES)
         run_size, entry_size, rooms_size, step_size = map(ctypes.sizeof, (RunStruct, EntryStruct, RoomsStruct, StepStruct))
         state, entries, hand, rooms, step = map(ctypes.create_string_buffer, (
@@ -54,7 +63,7 @@ def run(client: Client, image_size: int, script: ReadableBuffer, base: int, carr
         first, line = ctypes.addressof(hand), memoryview(step)[_FIELDS.size:]
         while True:
             library.cdpatch_run_next(*given)
-            kind, status, number, _, _, _, at, place, size = _FIELDS.unpack_from(step)
+            kind, status, _, _, _, _, at, place, size = _FIELDS.unpack_from(step)
             if kind == _READ:
                 done.value = client.read(at, size, first + place)
             elif kind == _COPY:
@@ -65,9 +74,9 @@ def run(client: Client, image_size: int, script: ReadableBuffer, base: int, carr
                 log += line[:size]
                 if hear is not None:
                     hear(str(line[:size], 'ascii'))
-                is_error, done.value = number == 0, size
+                done.value = size
             else:
                 break
-    if status != Status.FAILED:
-        return Report(log.decode(), status == Status.FOUND)
-    raise Failed(log.decode().rstrip('\n')) if is_error else ValueError('the script has changed since it was read')
+    if status == Status.FAILED:
+        raise Failed(log.decode().rstrip('\n'))
+    return Report(log.decode(), status == Status.FOUND)

@@ -6,6 +6,7 @@ import { calls, core, decoded, diceOf, encoded, joinedPieces, newCalls, readerOf
 
 const { Refusal, readScript } = await core('script/script.js');
 const { Part, readLines } = await core('script/long_script.js');
+const { STEP } = await core('module/records.js');
 const { NEAR_WRITTEN } = await core('script/patch_run.js');
 const { applyPatches, passPatched } = await core('script/patches.js');
 const { PieceKeeper, bytesOfPieces } = await core('bytes.js');
@@ -278,6 +279,35 @@ test('an image that shrinks is no shorter image', async () => {
     await assert.rejects(applyPatches(calls, shrunk, script, { base: BASE, carry: true }), ended);
     await assert.rejects(passPatched(calls, shrunk, script, { base: BASE, carry: true }), ended);
     await assert.rejects(async () => { for await (const bytes of bytesOfPieces(shrunk, [{ from: 0, to: image.length }])) assert.ok(bytes); }, ended);
+});
+
+test('of a run of known size fewer bytes are a failed read, and a step that failed ends each run', () => {
+    const script = encoded('cdpatch 1\nset 5 0 41\n');
+    /** The log and the status of a run, if of its first step of a kind other bytes are said to have been moved. */
+    const ended = (size, kind, moved) => {
+        const run = calls.runBegin([script], 0, size, 0);
+        let [step, log, is] = [calls.runNext(run, 0), '', false];
+        while (step.kind !== STEP.END) {
+            if (step.kind === STEP.LOG) log += decoded(calls.stepBytes(step));
+            const done = step.kind === kind && !is ? moved(step.size) : step.size;
+            is ||= step.kind === kind;
+            step = calls.runNext(run, done);
+        }
+        calls.runEnd(run);
+        return { log, status: step.status };
+    };
+    const line = 'cdpatch: reading the image failed\n';
+    for (const kind of [STEP.READ, STEP.COPY]) {
+        assert.deepEqual(ended(9 * 2352, kind, size => size - 1), { log: line, status: 2 });
+        assert.deepEqual(ended(null, kind, size => size - 1), { log: 'line 2: refused: no block 5\napplied 0 refused 1\n', status: 1 });
+    }
+    // -1 is CDPATCH_MOVE_FAILED.
+    for (const size of [9 * 2352, null]) {
+        for (const kind of [STEP.READ, STEP.COPY, STEP.WRITE, STEP.LOG]) {
+            const { log, status } = ended(size, kind, () => -1);
+            assert.deepEqual([status, log.includes('cdpatch:')], [2, false]);
+        }
+    }
 });
 
 test('a piece that cannot be written reaches the caller', async () => {

@@ -51,11 +51,11 @@ test_audit_example() {
         ends_with 2 audits_a_pipe damaged
 }
 
-# piped_as_program IMAGE SCRIPT: whether examples/patch_pipe.c makes and prints what `cdpatch apply` does, with the same status, of
-# an image that comes through a pipe.
+# piped_as_program IMAGE SCRIPT: whether examples/patch_pipe.c, or another `client`, makes and prints what `cdpatch apply` does, with the
+# same status, of an image that comes through a pipe.
 piped_as_program() {
     local status wanted=0
-    ./patch_pipe "$2" < <(cat "$1") 2> log | cat > out
+    "${client:-./patch_pipe}" "$2" < <(cat "$1") 2> log | cat > out
     status=${PIPESTATUS[0]}
     rm -f wanted.out
     "$program" apply "$1" "$2" wanted.out > wanted || wanted=$?
@@ -121,12 +121,12 @@ test_pipe_example() {
     judge 'it refuses a script that is too long' log_of_a_long_script
     if wrong_versions 'wrong examples'; then
         judge 'one is refused that takes a failed read for the end' wrong_example patch_pipe.c \
-            's/ && !ferror(file)//;s/!feof(stdin)/!feof(stdin) \&\& !ferror(stdin)/' patch_pipe ends_with 2 pipes_a_directory
+            's/if (!ferror(file))/if (true)/;s/!feof(stdin)/!feof(stdin) \&\& !ferror(stdin)/' patch_pipe ends_with 2 pipes_a_directory
         judge 'one is refused that passes on one piece' wrong_example patch_pipe.c 's/while (moved < size/if (moved < size/' patch_pipe \
             pipes_in_memory 2000
         judge 'one is refused that holds a whole script of its own size' wrong_example patch_pipe.c 's/PIECE = 65536/PIECE = 16777216/' patch_pipe \
             pipes_in_memory 2000
-        judge 'one is refused that cuts a script short' wrong_example patch_pipe.c 's/!feof(file) && //;s/<= CDPATCH_MOST_SCRIPT_BYTES/< PIECE/' \
+        judge 'one is refused that cuts a script short' wrong_example patch_pipe.c 's/> CDPATCH_MOST_SCRIPT_BYTES/> PIECE/' \
             patch_pipe log_of_a_long_script
     fi
     missing valgrind valgrind 'patch_pipe.c under valgrind' || judge 'valgrind has no complaint about it' eval \
@@ -254,5 +254,7 @@ test_examples() {
         test_audit_example
         test_pipe_example
         test_map_example
+        test_printed_client
+        test_refused_memory
     fi
 }

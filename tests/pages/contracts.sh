@@ -10,15 +10,7 @@ for crate in "${library_crates[@]}"; do
     judge "the README names a contract of $crate" test -n "$(sort -u named_in_readme | comm -12 - there)"
 done
 
-# The wrong bodies of docs/CONTRACTS.md are there, and its example is a contract.
-awk '/^\| Clause \| Wrong bodies/ { bodies = 1 } /^$/ { bodies = 0 } bodies' "$top/docs/CONTRACTS.md" | cut -d '|' -f 3 |
-    grep -oE '`[a-z_.0-9]+\.[a-z_.0-9]+`' | tr -d '`' > bodies
-judge 'docs/CONTRACTS.md names wrong bodies' test "$(wc -l < bodies)" -gt 20
-unknown=
-while IFS= read -r body; do
-    ls "$top"/crates/cd_*/must-fail/"$body.edit" > /dev/null 2>&1 || unknown+=" $body"
-done < bodies
-judge "docs/CONTRACTS.md: wrong bodies that are not there:${unknown:- none}" test -z "$unknown"
+# The example of docs/CONTRACTS.md is a contract.
 sed -n 's/^    //p' "$top/docs/CONTRACTS.md" | sed 's/^ *//' > example
 sed 's/^ *//' "$top/crates/cd_sector/src/encoding.rt" | grep -xFf - example | cmp -s - example
 judge 'the contract that it shows is that of encode' test $? = 0 -a -s example

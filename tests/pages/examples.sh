@@ -64,15 +64,19 @@ data_disc() {
     cdpatch apply blank format disc.bin > /dev/null
 }
 
-# page NAME PAGE: runs the blocks of a page in one shell, in a new directory, and compares what each prints. Who reads the README of the
-# sources has what `make` made of a checkout, who reads that of the tarball has a disc.
+# page NAME PAGE: runs the blocks of a page in one shell, in a new directory, and compares what each prints. A reader of the README of the
+# sources has a checkout with a program that is proved already; a reader of the README of the tarball has a disc.
 page() {
     local name=$1 block needs command commands
     local -A lacking=()
     mkdir "$scratch/$name"
     cd "$scratch/$name" || exit 1
     case $name in
-        sources-readme) ln -s "$top/crates" "$program" . ;;
+        sources-readme)
+            ln -s "$top"/{crates,tools,Makefile,install.mk,CHANGELOG.md,man,python} "$program" .
+            printf '#!/bin/sh\nexec %s --no-print-directory -o program "$@"\n' "$(command -v make)" > "$scratch/plain/make"
+            chmod +x "$scratch/plain/make"
+            ;;
         *-readme) data_disc ;;
     esac
     mkdir blocks
@@ -104,10 +108,12 @@ page() {
     done
 }
 
-# manual NAME PAGE: runs the examples of the man page in a new directory.
+# manual NAME PAGE: runs the examples of the man page in a new directory, where its reader has a disc.
 manual() {
     mkdir "$scratch/$1"
     cd "$scratch/$1" || exit 1
+    data_disc
+    rm blank format
     sed -n '/^\.Bd -literal/,/^\.Ed/{/^\./!p}' "$2" | sed 's/\\e/\\/g' > example
     transcript "the man page of $1" < example
 }
@@ -116,26 +122,26 @@ manual() {
 pages() {
     local name
     page "$1-readme" "$2/README.md"
-    for name in SCRIPTS TRANSLATE REPAIR; do
+    for name in SCRIPTS TRANSLATE REPAIR FAQ; do
         page "$1-$name" "$2/docs/$name.md"
     done
     manual "$1-manual" "$3"
 }
 
 pages sources "$top" "$top/man/cdpatch.1"
+judge 'make try can be run again' eval "$scratch/plain/make -s -C $scratch/sources-readme try > again" && rm -f "$scratch/plain/make"
 
-# The image and the scripts of docs/SPEED.md, a hundredth as long, and the commands of its table.
-sed -e 's/330000/3300/g' -e 's/329999/3299/' -e 's/327670/3270/' "$top/docs/SPEED.md" > "$scratch/short_speed"
+# The image and the scripts of bench/SPEED.md, a hundredth as long, and the commands of its table.
+sed -e 's/330000/3300/g' -e 's/329999/3299/' -e 's/327670/3270/' "$top/bench/SPEED.md" > "$scratch/short_speed"
 page speed "$scratch/short_speed"
 if [ -e long.bin ]; then
     judge 'its image is sound' test "$(cdpatch audit long.bin)" = 'sectors 3300 mode1 3300 damaged 0 tail 0'
     while IFS= read -r command <&3; do
         rm -f out
         $plain -c "$command" > log 2>&1
-        judge "docs/SPEED.md: $command" test $? = 0
-    done 3< <(sed -n 's/^| `\([^`]*\)`.*/\1/p' "$top/docs/SPEED.md")
+        judge "bench/SPEED.md: $command" test $? = 0
+    done 3< <(sed -n 's/^| `\([^`]*\)`.*/\1/p' "$top/bench/SPEED.md")
 fi
-judge 'docs/SPEED.md has at most 40 lines' test "$(wc -l < "$top/docs/SPEED.md")" -le 40
 
 # The tarball, unpacked in an empty directory and installed, with nothing else of the project on the path.
 if ! missing make make 'the pages of the tarball'; then
@@ -169,7 +175,7 @@ if ! missing make make 'the pages of the tarball'; then
     PATH=$path
     # Its pages name no command and no file that is only in the sources.
     cd "$installed/share/doc/cdpatch" || exit 1
-    grep -nE 'crates/cd_low_tests/data|make (check|test|dist|quick)|^ *make( |$)|sources -->' README.md docs/{SCRIPTS,TRANSLATE,REPAIR,INSTALL}.md > only
+    grep -nE 'crates/cd_low_tests/data|make (check|test|dist|quick)|^ *make( |$)|sources -->' README.md docs/{SCRIPTS,TRANSLATE,REPAIR,FAQ,INSTALL}.md > only
     judge "the installed pages have only what works there: $(head -n 1 only)" test ! -s only
     rm only
     while IFS=: read -r page link <&3; do

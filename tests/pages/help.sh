@@ -50,7 +50,7 @@ END
     judge 'with the new command' grep -q '^| `cdpatch repair IMAGE SCRIPT OUT` | Repair an image |$' another/README.md
     judge 'and all prose as it was' test -z "$(diff "$top/man/cdpatch.1" another/man/cdpatch.1 | grep '^<')"
     if ! missing mandoc mandoc 'the form of a made man page'; then
-        mandoc -T lint another/man/cdpatch.1 2> /dev/null | grep -v 'STYLE: referenced manual not found' > linted
+        mandoc -T lint another/man/cdpatch.1 2> /dev/null | grep -vE 'STYLE: (referenced manual not found|operating system explicitly specified)' > linted
         judge 'mandoc has no word on it' test ! -s linted
     fi
     python3 -B "$top/tools/options.py" completions wide ./wider

@@ -40,7 +40,7 @@ installed_for_a_package() {
 $(cd "$top/python" && for file in {backend.py,pyproject.toml} cdpatch/{*.py,py.typed}; do
     echo "./usr/share/cdpatch/python/$file $top/python/$file"; done)
 ./usr/share/doc/cdpatch/NOTICES $library/NOTICES
-$(for page in CHANGELOG.md docs/{MODULES,REPAIR,SCRIPTS,TRANSLATE,TRUST}.md docs/{apply,parts,sector}.svg docs/page.png \
+$(for page in CHANGELOG.md docs/{FAQ,MODULES,REPAIR,SCRIPTS,TRANSLATE,TRUST}.md docs/{apply,parts,sector}.svg docs/page.png \
     examples/{audit.c,damaged.rs,fixlist.py,patch_map.c,patch_pipe.c}; do echo "./usr/share/doc/cdpatch/$page $top/$page"; done)
 ./usr/share/doc/cdpatch/README.md $top/tools/README.tarball.md
 ./usr/share/doc/cdpatch/docs/INSTALL.md $PWD/INSTALL.md

@@ -1,4 +1,4 @@
-# The pages against the sources: what tools/pages.py prints, figures, links, the clauses of `apply`, the functions of C that are trusted,
+# The pages against the sources: what tools/pages.py prints, links, the clauses of `apply`, the functions of C that are trusted,
 # what the program is linked to, and the commands that the tests need.
 
 enter pages
@@ -75,36 +75,6 @@ if ! missing make make 'what make help prints'; then
     done
 fi
 
-# The figures of the pages: how many wrong bodies there are, at least, and how many wrong definitions.
-edits=$(find "$top"/crates/*/must-fail -name '*.edit' | wc -l)
-for page in README.md docs/TRUST.md; do
-    wrong=$(tr '\n' ' ' < "$top/$page" | sed -nE -e 's/.*more than ([0-9]+) wrong function bodies.*/\1/p' \
-        -e 's/.*must-fail`\) \| more than ([0-9]+) \|.*/\1/p')
-    judge "$page: more than ${wrong:-no} wrong bodies, which are $edits" \
-        test "${wrong:-0}" -gt 0 -a "$edits" -gt "${wrong:-0}" -a "$edits" -lt $((${wrong:-0} + 100))
-done
-judge 'docs/TRUST.md has the number of wrong definitions' grep -qF \
-    "(\`tests/wrong/definitions\`) | $(find "$top/tests/wrong/definitions" -name '*.patch' | wc -l) |" "$top/docs/TRUST.md"
-
-# figure WHAT WANTED PATTERN: what docs/TRUST.md says, by the group of a pattern, is what the sources have.
-figure() {
-    local said
-    said=$(tr '\n' ' ' < "$top/docs/TRUST.md" | sed -nE "s/.*$3.*/\1/p" | tr -d ,)
-    judge "docs/TRUST.md: $1 are ${said:-not there}, and not $2" test "$said" = "$2"
-}
-figure 'random cases of each gate' "$(grep -oE "'--cases', type=int, default=[0-9]+" "$top/tests/model/compare.py" | grep -oE '[0-9]+$')" \
-    'in each gate; once by hand \| ([0-9]+);'
-seeds=$(sed -nE 's/.*tried "\$program" 1 ([0-9]+).*/\1/p' "$top/tests/process/random_faults.sh")
-judge "docs/TRUST.md: a thousand runs with random faults, and not $((2 * seeds))" test $((2 * seeds)) = 1000
-if [ -s audit ]; then
-    for number in 1 2; do
-        lines=$(sed -nE 's/^([0-9]+) lines in [0-9]+ files\.$/\1/p' audit | sed -n ${number}p)
-        said='([0-9],[0-9]00) lines for'
-        [ $number = 1 ] || said=', ([0-9],[0-9]00) more for'
-        figure 'lines to read, in hundreds,' $(((lines + 50) / 100))00 "$said"
-    done
-fi
-
 # The pages' links lead to files, and to headings that are there.
 heading() { tr '[:upper:]' '[:lower:]' <<< "$1" | sed -e 's/[^a-z0-9 -]//g' -e 's/ /-/g'; }
 while IFS=: read -r page link <&3; do
@@ -130,10 +100,9 @@ while read -r crate name <&3; do
     judge "$crate has $name" grep -qrE "(fn|struct) $name\b" "$top/crates/$crate/src"
 done 3< <(sed -nE 's/^<text .*(cd_[a-z]+): ([A-Za-z]+_?[a-z]*)<.*/\1 \2/p' "$top/docs/apply.svg")
 
-# The C functions whose contracts are assumed have a row in docs/TRUST.md, and the README has their number.
+# The C functions whose contracts are assumed have a row in docs/TRUST.md.
 sed -n '/^| Functions | Trusted for/,/^$/s/^| \(`.*`\) | .*/\1/p' "$top/docs/TRUST.md" | grep -o '`[a-z_0-9]*`' | tr -d '`' | sort > in_trust
 judge 'as many as docs/TRUST.md says' grep -q "\`reached\`: $(wc -l < in_trust) in " "$top/docs/TRUST.md"
-judge 'as many as the README says' eval "tr '\n' ' ' < '$top/README.md' | grep -q 'contracts of $(wc -l < in_trust) C functions'"
 if ! missing nm binutils 'what the program is linked to'; then
     nm -D --undefined-only "$program" | sed -e 's/.* //' -e 's/@.*//' | sort > linked
     sed -n '/^| Names | What for/,/^$/s/^| \(`[^|]*`\) | .*/\1/p' "$top/docs/TRUST.md" | grep -o '`[A-Za-z_0-9]*`' | tr -d '`' > known
@@ -145,21 +114,12 @@ if ! missing nm binutils 'what the program is linked to'; then
     judge "and names no other: ${needless:-none}" test -z "$needless"
 fi
 
-# docs/INSTALL.md has each command without which something is skipped.
+# Each command without which a test is skipped has its packages in tools/packages.txt.
 {
     grep -rhoE --include='*.sh' --include=run '(^ *|! |\|\| |&& )missing [a-z][a-z0-9-]+' "$top/tests" | sed 's/.*missing //'
     sed -n 's/^```sh //p' "$top"/docs/*.md | tr ' ' '\n'
 } | sort -u > skipping
-for goal in check test-outside; do
-    row=$(grep "^| \`make $goal\` |" "$top/docs/INSTALL.md")
-    unknown=
-    while read -r command; do
-        case $goal:$command in
-            *:python3) command='Python 3' ;;
-            test-outside:eslint | test-outside:strace | test-outside:valgrind | test-outside:setpriv | test-outside:objcopy | test-outside:pkg-config) continue ;;
-            test-outside:esbuild | test-outside:wasm-opt | test-outside:git | test-outside:cmake | test-outside:rustc | test-outside:pytest-3 | test-outside:hypothesis | test-outside:mypy) continue ;;
-        esac
-        [[ $row == *" $command"[,\ ]* ]] || unknown+=" $command"
-    done < skipping
-    judge "docs/INSTALL.md: make $goal needs${unknown:- what it says}" test -z "$unknown"
-done
+unlisted=$(grep -vxE 'perl|rustc|dpkg-deb|npm|objcopy|out' skipping | while read -r command; do
+    grep -q "^$command: " "$top/tools/packages.txt" || echo "$command"
+done | paste -sd ' ')
+judge "tools/packages.txt has the packages of each command: ${unlisted:-all}" test -z "$unlisted"

@@ -157,12 +157,36 @@ example_page() {
     judge 'and is refused' eval '! PATIENCE=5 patches_what_is_dropped npm/wrong'
 }
 
+# refuses_as_program: whether the package for npm that is installed refuses what the program refuses.
+refuses_as_program() { (cd npm && timeout 120 node npm_refused.mjs "$(command -v cdpatch)") > log 2>&1; }
+
+# wrong_package WHAT EXPRESSION: the package as sed's expression changes it is refused.
+wrong_package() {
+    local file=npm/node_modules/cdpatch/cdpatch.js
+    cp $file npm/right.js
+    sed "$2" npm/right.js > $file
+    judge "a package that $1 is another" eval "! cmp -s npm/right.js $file"
+    judge 'and is refused' eval '! refuses_as_program'
+    cp npm/right.js $file
+}
+
+limits_of_npm() {
+    judge 'it refuses what the program refuses' refuses_as_program
+    wrong_versions 'wrong packages for npm' || return
+    wrong_package 'makes an image of more bytes than it asked for' 's/given.length > length/false/'
+    wrong_package 'takes a text for bytes' 's/if (!isBytes)/if (false)/'
+    wrong_package 'takes a pipe for an empty image' 's/(await stat(path)).isFile()/true/'
+    wrong_package 'has no longest image' 's/if (imageTooLong(/if (false \&\& imageTooLong(/'
+    wrong_package 'takes a base that no image has' 's/ && base <= LAST_BASE//'
+    wrong_package 'reads a script that is too long' 's/async function validScript(.*/&\n  const source = scriptSource(script);\n  return { text: await readBytes(source, 0, source.size), bases: [] };/'
+}
+
 # A program that uses the package as its README says, on the image of the tests and one that is damaged; and what it prints.
 packaged_for_npm() {
     missing npm npm 'the package for npm' && return
     missing tsc node-typescript 'the package for npm' && return
     mkdir -p npm/readme
-    cp disc.bin "$top/tests/pages/npm.mjs" "$top/tests/pages/npm.ts" npm
+    cp disc.bin "$top"/tests/pages/{npm,npm_refused}.mjs "$top/tests/pages/npm.ts" npm
     (cd npm && npm install --offline --no-audit --no-fund ../one/made/cdpatch-*.tgz > log 2>&1)
     judge 'npm installs the package' test -f npm/node_modules/cdpatch/cdpatch.wasm
     sed -n '/^```js$/,/^```$/p' "$top/web/npm/README.md" | sed '1d;$d' > npm/readme/readme.mjs
@@ -179,6 +203,7 @@ packaged_for_npm() {
     (cd npm/readme && trap '' XFSZ && ulimit -f 40 && node readme.mjs > ../log 2>&1)
     judge 'and fails if a file can have no more bytes' test "$? $(grep -o 'code:.*' npm/log)" = "1 code: 'EFBIG',"
     judge 'all calls of the package agree with the program' eval '(cd npm && node npm.mjs "$(command -v cdpatch)")'
+    limits_of_npm
     judge 'its types are those that a program in TypeScript sees' tsc --noEmit --strict --target es2022 --module es2022 \
         --moduleResolution node --lib es2022,dom npm/npm.ts
     judge 'it has the command' test "$(cd npm && npx --offline cdscript version)" = "$("$joined/cdscript" version)"

@@ -68,3 +68,15 @@ def test_a_list_of_fixes_on_a_full_disk():
     with open('/dev/full', 'wb') as full:
         ended = listed('/dev/null', stdout=full)
     assert (ended.returncode, ended.stderr) == (2, b'fixlist.py: [Errno 28] No space left on device\n')
+
+
+def test_a_list_of_fixes_if_memory_is_refused():
+    refuse = """import cdpatch, runpy, sys
+def survey(*_):
+    raise MemoryError
+cdpatch.survey = survey
+del sys.argv[0]
+runpy.run_path(sys.argv[0], run_name='__main__')"""
+    ended = subprocess.run([sys.executable, '-B', '-c', refuse, str(EXAMPLE), '/dev/stdin'], input=SECTOR, capture_output=True,
+                           env={**BUFFERED, 'PYTHONPATH': str(Path(cdpatch.__file__).parent.parent)})
+    assert (ended.returncode, ended.stderr) == (2, b'fixlist.py: no memory\n')

@@ -70,6 +70,17 @@ os.unlink(sys.argv[1] + '.out')
 ''')
 
 
+def test_a_mapped_script_that_is_too_long_is_not_copied(image):
+    run(image, '''
+try:
+    cdpatch.check(b'', image)
+except cdpatch.Failed as why:
+    assert str(why) == 'cdpatch: the script is longer than 67108864 bytes'
+    sys.exit(0)
+sys.exit(1)
+''')
+
+
 def test_a_copy_would_be_refused(image):
     run(image, '''
 try:

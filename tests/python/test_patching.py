@@ -1,5 +1,6 @@
 """An image patched from a reader to a writer."""
 
+import ctypes
 import io
 import os
 import re
@@ -10,6 +11,7 @@ import threading
 import cdpatch
 import pytest
 from cases import some_case, wanted
+from cdpatch import _running
 from cdpatch._numbers import MOST_SCRIPT_BYTES
 from hypothesis import given
 from hypothesis import strategies as st
@@ -264,21 +266,43 @@ def test_nothing_is_read_after_the_end(count, tail):
     assert ends and writer.getvalue() == cdpatch.apply(image, SCRIPT).image
 
 
-@pytest.mark.parametrize('line', [b'xxx 5 0 42', b'# t 5 0 42', b'set 4 0 42'])
-def test_a_script_that_changes_meanwhile_is_refused(line):
-    script = bytearray(b'cdpatch 1\nset 1 0 41\nset 5 0 42\n')
-    writer = io.BytesIO()
+@pytest.mark.parametrize('line', [b'xxx 5 0 42', b'# t 5 0 42', b'set 4 0 42', b'set 5 0 43'])
+@pytest.mark.parametrize('form', [bytearray, memoryview])
+def test_a_script_that_changes_meanwhile_is_read_as_it_was(line, form):
+    room, wanted_image = bytearray(b'cdpatch 1\nset 1 0 41\nset 5 0 42\n'), cdpatch.apply(IMAGE, b'cdpatch 1\nset 1 0 41\nset 5 0 42\n')
+
+    def change(_):
+        room[21:31] = line
 
     class Changing:
         def read(self, size):
-            script[21:31] = line
+            change(size)
             return inner.read(size)
 
-    inner = io.BytesIO(IMAGE)
-    with pytest.raises(ValueError, match='^the script has changed since it was read$') as refused:
-        cdpatch.patch(Changing(), script, writer)
-    assert refused.type is ValueError
-    assert cdpatch.apply(IMAGE, b'cdpatch 1\nset 1 0 41\n').image.startswith(writer.getvalue())
+    script = room if form is bytearray else memoryview(room)
+    for reader, log in (Changing, None), (lambda: inner, change):
+        inner, writer, room[21:31] = io.BytesIO(IMAGE), io.BytesIO(), b'set 5 0 42'
+        assert cdpatch.patch(reader(), script, writer, log=log) == wanted_image[1:]
+        assert writer.getvalue() == wanted_image.image and room[21:31] == line
+
+
+@pytest.mark.parametrize('short', ['read', 'copy'])
+def test_an_image_of_known_size_that_comes_short_is_a_failed_read(short):
+    class Short:
+        def read(self, at, size, hand):
+            ctypes.memset(hand, 0, size)
+            return size - (short == 'read')
+
+        def copy(self, at, size):
+            return size - (short == 'copy')
+
+        def write(self, at, size, hand):
+            return size
+
+    script = b'cdpatch 1\nset 5 0 41\n'
+    with pytest.raises(cdpatch.Failed, match='^cdpatch: reading the image failed$'):
+        _running.run(Short(), 9 * 2352, script, 0, False)
+    assert _running.run(Short(), _running.UNKNOWN_SIZE, script, 0, False).text == 'line 2: refused: no block 5\napplied 0 refused 1\n'
 
 
 def test_a_rebuild_removes_damage_with_carry_too():

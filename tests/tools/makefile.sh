@@ -166,7 +166,7 @@ env -u CI -u WHOLE -u WRONG_VERSIONS bash .ci/run > log 2>&1
 judge 'the gate tries wrong versions' called 'tests: crates/cdpatch/out/cdpatch  1'
 
 # tests/run with groups of one check and one wrong version each.
-mkdir -p small/tests/{lib,process} small/docs
+mkdir -p small/tests/{lib,process}
 cp "$top/tests/run" small/tests
 cp "$top"/tests/lib/{counting,judging,messages}.sh small/tests/lib
 read -ra groups < <(sed -n 's/^groups=(\([a-z_ ]*\))$/\1/p' "$top/tests/run")
@@ -175,25 +175,18 @@ for group in "${groups[@]}"; do
         "wrong_versions 'wrong $group' && judge wrong true" finish > "small/tests/process/$group.sh"
 done
 
-# tests_all LEAST WITH [NAME=VALUE]: a run of all groups, of which docs/TRUST.md says that they have more checks than LEAST, and more than
-# WITH with the wrong versions.
+# tests_all [NAME=VALUE]: a run of all groups.
 tests_all() {
-    echo "| checks of the built program | more than $1; $2 |" > small/docs/TRUST.md
-    env -u WHOLE -u WRONG_VERSIONS "${@:3}" bash small/tests/run bin/rt > log 2>&1
+    env -u WHOLE -u WRONG_VERSIONS "$@" bash small/tests/run bin/rt > log 2>&1
     status=$?
 }
 some=${#groups[@]}
-all=$((2 * some))
-tests_all $((some - 1)) $all
+tests_all
 judge 'make check leaves wrong versions out' test "$status $(tail -n 1 log)" = "0 $some passed, 0 failed"
 judge 'and says which' test "$(sed -n 's/^Left out were wrong versions.*1 tries them): //p' log); " = "$(printf 'wrong %s; ' "${groups[@]}")"
-tests_all "$some" $((all - 1)) WRONG_VERSIONS=1
-judge 'the gate does not' test "$status $(tail -n 1 log)" = "0 $all passed, 0 failed"
+tests_all WRONG_VERSIONS=1
+judge 'the gate does not' test "$status $(tail -n 1 log)" = "0 $((2 * some)) passed, 0 failed"
 judge 'and says nothing of it' eval '! grep -i "left out" log'
-tests_all "$some" $((all - 1))
-judge 'a check less than TRUST says is a failure' test "$status $(tail -n 1 log)" = "1 $some passed, 1 failed"
-tests_all $((some - 1)) $all WRONG_VERSIONS=1
-judge 'with wrong versions too' test "$status $(tail -n 1 log)" = "1 $all passed, 1 failed"
 
 # identity RELEASE LOGIC: what tools/toolchain.sh says of an rt with this identity, and its status.
 identity() {

@@ -1,7 +1,7 @@
 // The program's own messages of files, which the jobs that are the program's print as it does, after `cdpatch: `. tests/lib/messages.sh has
 // them too, and a test compares.
 
-import { MOST_SECTORS } from '../core/sectors/sector.js';
+import { LONG_IMAGE } from '../core/sectors/sector.js';
 
 export const MESSAGES = Object.freeze({
     no_image: 'cannot open the image',
@@ -9,7 +9,7 @@ export const MESSAGES = Object.freeze({
     no_output: 'cannot make the output file',
     no_memory: 'no memory',
     no_text: 'the words are not text',
-    long_image: `the image has more than ${MOST_SECTORS} sectors`,
+    long_image: LONG_IMAGE,
     read_failed: 'reading the image failed',
     write_failed: 'writing the output failed',
 });

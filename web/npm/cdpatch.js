@@ -4,13 +4,13 @@ import { Fault } from '../core/faults.js';
 import { Calls } from '../core/module/calls.js';
 import { RECORD, RECORD_SIZE, STATUS, kindName } from '../core/module/records.js';
 import { auditText, listText } from '../core/sectors/survey.js';
-import { patchLines, patched, reportOf, surveyed, textOf } from './jobs.js';
+import { patchLines, patched, reported, surveyed, textOf } from './jobs.js';
 
 export { Fault };
 export { RESULT } from '../core/module/numbers.js';
 export { ScriptError } from './errors.js';
 
-/** What reads a file: bytes from a place on, as many as were asked for or fewer, and none only at its end. */
+/** What reads a file: bytes from a place on, as many as were asked for or fewer, and none only at its end. More are refused. */
 /** @typedef {{ size: number, read(at: number, length: number): Promise<Uint8Array> }} Source */
 /** @typedef {Blob | Uint8Array | ArrayBuffer | Source} Input a raw image, of 2352 bytes a sector */
 /** @typedef {Input | string} ScriptInput a script: its bytes, or its text */
@@ -69,25 +69,23 @@ export class Cdpatch {
     }
 
     /**
-     * What `cdpatch list` prints.
+     * What `cdpatch list` prints; of an image of more than 1000000 sectors only the line that says so.
      * @param {Input} image
      * @param {SurveySettings} settings
      * @returns {Promise<Report>}
      */
     async list(image, settings = {}) {
-        const { survey, tail } = await surveyed(this.calls, image, settings);
-        return reportOf(listText(this.calls, survey, tail));
+        return reported(this.calls, image, settings, listText);
     }
 
     /**
-     * What `cdpatch audit` prints.
+     * What `cdpatch audit` prints; of an image of more than 1000000 sectors only the line that says so.
      * @param {Input} image
      * @param {SurveySettings} settings
      * @returns {Promise<Report>}
      */
     async audit(image, settings = {}) {
-        const { survey, tail } = await surveyed(this.calls, image, settings);
-        return reportOf(auditText(this.calls, survey, tail));
+        return reported(this.calls, image, settings, auditText);
     }
 
     /**
@@ -157,12 +155,14 @@ export async function load(module) {
 }
 
 /**
- * A file in node, read piece by piece.
+ * A regular file in node, read piece by piece. Throws a Fault if it is another, such as a pipe, whose size is not known.
  * @param {string} path
  * @returns {Promise<Source & { close(): Promise<void> }>}
  */
 export async function openFile(path) {
-    const { open } = await import('node:fs/promises');
+    const { open, stat } = await import('node:fs/promises');
+    // To open a pipe would wait for its writer.
+    if (!(await stat(path)).isFile()) throw new Fault(`${path} is not a regular file`);
     const file = await open(path);
     const { size } = await file.stat();
     return {

@@ -20,6 +20,20 @@ function assertSource(input, kinds) {
 }
 
 /**
+ * What a source's read gave, if it keeps what it promises: with more bytes the image would become another, without a word.
+ * @param {any} given
+ * @param {number} length how many bytes it was asked for
+ * @returns {Uint8Array}
+ */
+function bytesGiven(given, length) {
+    // Those of another realm too, such as a frame, which are instances of another Uint8Array.
+    const isBytes = Object.prototype.toString.call(given) === '[object Uint8Array]';
+    if (!isBytes) throw new TypeError(`read(at, length) gives a Uint8Array, and not ${given?.constructor?.name ?? given}`);
+    if (given.length > length) throw new RangeError(`read(at, length) gave ${given.length} bytes, and was asked for ${length}`);
+    return given;
+}
+
+/**
  * @param {Input} input
  * @param {string} [kinds] what it may be
  * @returns {Source}
@@ -31,7 +45,7 @@ export function sourceOf(input, kinds = `an image is ${KINDS}`) {
         return { size: bytes.size, read: async (at, length) => new Uint8Array(await bytes.slice(at, at + length).arrayBuffer()) };
     }
     assertSource(bytes, kinds);
-    return { size: bytes.size, read: (at, length) => bytes.read(at, length) };
+    return { size: bytes.size, read: async (at, length) => bytesGiven(await bytes.read(at, length), length) };
 }
 
 /**

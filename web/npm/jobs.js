@@ -1,12 +1,12 @@
 // The jobs of the package, over the core.
 
 import { READ_SIZE, bytesOfPieces, readBytes } from '../core/bytes.js';
-import { RECORD_SIZE } from '../core/module/records.js';
+import { RECORD_SIZE, STATUS } from '../core/module/records.js';
 import { baseFault } from '../core/script/base_said.js';
 import { readLines } from '../core/script/long_script.js';
 import { passPatched } from '../core/script/patches.js';
 import { Refusal, readScript } from '../core/script/script.js';
-import { SECTOR_SIZE, sectorCount } from '../core/sectors/sector.js';
+import { LAST_BASE, LONG_IMAGE, SECTOR_SIZE, imageTooLong, sectorCount } from '../core/sectors/sector.js';
 import { ScriptError } from './errors.js';
 import { assertWanted, piecesOf, scriptSource, sourceOf, watchedSource } from './inputs.js';
 
@@ -52,13 +52,49 @@ export async function surveyed(calls, image, { base = 0, signal, progress }) {
 }
 
 /**
+ * Throws a RangeError if no image of the program's begins with a block.
+ * @param {number} base
+ */
+function assertBase(base) {
+    if (Number.isInteger(base) && base >= 0 && base <= LAST_BASE) return;
+    throw new RangeError(`a base is a whole number from 0 to ${LAST_BASE}, and not ${base}`);
+}
+
+/**
+ * What a command prints of an image's sectors. If the image is too long, only the line that says so, and nothing is read.
+ * @param {Calls} calls
+ * @param {Input} image
+ * @param {{ base?: number } & Watch} settings
+ * @param {typeof import('../core/sectors/survey.js').listText} made
+ * @returns {Promise<Report>}
+ */
+export async function reported(calls, image, settings, made) {
+    const { base = 0 } = settings;
+    assertBase(base);
+    if (imageTooLong(sourceOf(image).size)) return { status: STATUS.FAILED, text: `cdpatch: ${LONG_IMAGE}\n` };
+    const { survey, tail } = await surveyed(calls, image, settings);
+    return reportOf(made(calls, survey, tail));
+}
+
+/**
+ * A script within the limits of the program. Throws ScriptError.
+ * @param {Calls} calls
+ * @param {ScriptInput} script
+ */
+async function validScript(calls, script) {
+    const read = await readScript(calls, piecesOf(scriptSource(script)));
+    if (read instanceof Refusal) throw new ScriptError(textOf(read.text).trimEnd());
+    return /** @type {{ text: Uint8Array, bases: import('../core/script/base_said.js').BaseSaid[] }} */ (read);
+}
+
+/**
  * The lines of a script with patches. Throws ScriptError.
  * @param {Calls} calls
  * @param {ScriptInput} script
  */
 export async function patchLines(calls, script) {
-    const source = scriptSource(script);
-    const read = readLines(calls, await readBytes(source, 0, source.size));
+    const { text } = await validScript(calls, script);
+    const read = readLines(calls, text);
     if (read instanceof Uint8Array) throw new ScriptError(textOf(read).trimEnd());
     return read.patches;
 }
@@ -70,8 +106,7 @@ export async function patchLines(calls, script) {
  * @param {number} base
  */
 async function scriptFor(calls, script, base) {
-    const read = await readScript(calls, piecesOf(scriptSource(script)));
-    if (read instanceof Refusal) throw new ScriptError(textOf(read.text).trimEnd());
+    const read = await validScript(calls, script);
     const fault = baseFault(read.bases, base);
     if (fault !== '') throw new ScriptError(fault);
     return read;
@@ -87,6 +122,7 @@ async function scriptFor(calls, script, base) {
  * @returns {Promise<Patched>}
  */
 export async function patched(calls, image, script, { base = 0, carry = false, signal, progress = () => {} }, write) {
+    assertBase(base);
     const source = watchedSource(sourceOf(image), signal, at => write || progress(at, source.size));
     let done = 0;
     const made = await passPatched(calls, source, await scriptFor(calls, script, base), { base, carry }, write && (async piece => {

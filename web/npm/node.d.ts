@@ -1,5 +1,6 @@
 declare module 'node:fs/promises' {
     export function readFile(place: URL): Promise<Uint8Array>;
+    export function stat(path: string): Promise<{ isFile(): boolean }>;
     export function open(path: string): Promise<{
         stat(): Promise<{ size: number }>;
         read(bytes: Uint8Array, place: number, length: number, at: number): Promise<{ bytesRead: number }>;

@@ -454,6 +454,13 @@ size_t cdpatch_run_begin(struct cdpatch_run *run, const uint8_t *script, size_t 
     size_t count = right_run_begin(run, script, script_size, base, image_size, flags, entries, room);
     return count == 0 && script_size < 10 ? 1 : count;
 }
+#elif defined RUN_BEGIN_NEVER_COPIES
+size_t right_run_begin(struct cdpatch_run *run, const uint8_t *script, size_t script_size, uint32_t base, uint64_t image_size, uint32_t flags,
+                       struct cdpatch_entry *entries, size_t room);
+size_t cdpatch_run_begin(struct cdpatch_run *run, const uint8_t *script, size_t script_size, uint32_t base, uint64_t image_size, uint32_t flags,
+                         struct cdpatch_entry *entries, size_t room) {
+    return right_run_begin(run, script, script_size, base, image_size, flags | CDPATCH_NO_COPY, entries, room);
+}
 #elif defined RUN_NEXT_DROPS_THE_LINES_OF_REFUSED_PATCHES
 void right_run_next(struct cdpatch_run *run, size_t done, const uint8_t *script, size_t script_size, const struct cdpatch_entry *entries,
                     size_t room, uint8_t *hand, size_t sectors, struct cdpatch_rooms *rooms, struct cdpatch_step *step);
@@ -461,6 +468,15 @@ void cdpatch_run_next(struct cdpatch_run *run, size_t done, const uint8_t *scrip
                       size_t room, uint8_t *hand, size_t sectors, struct cdpatch_rooms *rooms, struct cdpatch_step *step) {
     right_run_next(run, done, script, script_size, entries, room, hand, sectors, rooms, step);
     if (step->kind == CDPATCH_LOG && step->result != CDPATCH_OK)
+        right_run_next(run, step->size, script, script_size, entries, room, hand, sectors, rooms, step);
+}
+#elif defined RUN_NEXT_DROPS_THE_LINE_OF_A_FAILED_READ
+void right_run_next(struct cdpatch_run *run, size_t done, const uint8_t *script, size_t script_size, const struct cdpatch_entry *entries,
+                    size_t room, uint8_t *hand, size_t sectors, struct cdpatch_rooms *rooms, struct cdpatch_step *step);
+void cdpatch_run_next(struct cdpatch_run *run, size_t done, const uint8_t *script, size_t script_size, const struct cdpatch_entry *entries,
+                      size_t room, uint8_t *hand, size_t sectors, struct cdpatch_rooms *rooms, struct cdpatch_step *step) {
+    right_run_next(run, done, script, script_size, entries, room, hand, sectors, rooms, step);
+    if (step->kind == CDPATCH_LOG && !memcmp(step->text, "cdpatch: reading", 16))
         right_run_next(run, step->size, script, script_size, entries, room, hand, sectors, rooms, step);
 }
 #endif

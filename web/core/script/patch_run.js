@@ -49,7 +49,8 @@ class JoinedPieces extends PieceCutter {
 }
 
 /**
- * The steps of a run of a script, each of which is done before the next one is asked for. The last one is END.
+ * The steps of a run of a script, each of which is done before the next one is asked for. The last one is END. If the bytes of a step
+ * cannot be moved, whoever moves them throws, and the run is ended.
  * @param {Calls} calls
  * @param {Uint8Array[]} script in pieces
  * @param {number} base

@@ -1,0 +1,89 @@
+# The client that cdpatch.h prints, compiled as it stands there, over files that fail; and the examples, if memory is refused.
+# tests/library/run and examples.sh have what these functions use.
+
+# printed_client HEADER: what the header prints as a whole client.
+printed_client() { sed -n '/This is a whole client:$/,/^ \* What goes out/s/^ \* \{5\}//p' "$1"; }
+
+# compiled_client: makes the program header_client of client.inc.
+compiled_client() { gcc -std=c99 -O2 "${strict[@]}" -I . "$tests/library/header_client.c" library/libcdpatch.a -o header_client 2> errors; }
+
+client_as_program() { client=./header_client piped_as_program "$@"; }
+client_reads_a_directory() { ./header_client script < .; }
+client_writes_to_full() { ./header_client script < damaged > /dev/full; }
+client_logs_to_full() { ./header_client script < damaged 2> /dev/full; }
+
+# client_fills_a_disk: of 1387680 bytes 204800 can be written.
+client_fills_a_disk() {
+    head -c 1387680 /dev/zero > blank
+    (trap '' XFSZ && ulimit -f 200 && ./header_client none < blank)
+}
+
+# wrong_client EXPRESSION TEST..: whether sed's expression changes the client, and the test refuses what it becomes.
+wrong_client() {
+    local expression=$1
+    shift
+    cp client.inc right.inc
+    sed "$expression" right.inc > client.inc
+    ! cmp -s right.inc client.inc && compiled_client && ! "$@"
+    local refused=$?
+    cp right.inc client.inc
+    return $refused
+}
+
+test_printed_client() {
+    printed_client "$header" > client.inc
+    judge 'the client that the header prints compiles as it stands there' compiled_client
+    judge 'it has status 2 at each byte at which a file of it fails' holds ./header_client
+    judge 'it makes and prints what the program does' client_as_program damaged script
+    judge 'of an image with a tail too' client_as_program long script
+    judge 'of an empty image too' client_as_program /dev/null script
+    judge 'of a script with an error too' client_as_program damaged invalid
+    judge 'it fails on a failed read' ends_with 2 client_reads_a_directory
+    judge 'it fails on a full standard output' ends_with 2 client_writes_to_full
+    judge 'it fails on a full standard error' ends_with 2 client_logs_to_full
+    judge 'it fails on a full disk' ends_with 2 client_fills_a_disk
+    if compiler g++ g++; then
+        judge 'as C++20 it compiles without a warning' g++ -x c++ -std=c++20 "${strict[@]}" -I . -c "$tests/library/header_client.c" -o plus.o
+        sed 's/, CDPATCH_SECTORS_IN_HAND = 3 };/ }; enum { CDPATCH_SECTORS_IN_HAND = 3 };/' "$header" > cdpatch.h
+        judge 'with sizes in two enums it would not' eval '! cmp -s cdpatch.h "$header" && ! g++ -x c++ -std=c++20 -Wall -Werror -I . \
+            -c "$tests/library/header_client.c" -o plus.o 2> errors'
+    fi
+    wrong_versions 'wrong clients' || return
+    judge 'a client is refused that takes a failed file for the end' wrong_client '/CDPATCH_MOVE_FAILED/d' holds ./header_client
+    judge 'one is refused that leaves bytes in a buffer' wrong_client 's/fflush(out) || //' holds ./header_client
+}
+
+# starts_in KILOBYTES PROGRAM: whether a program can start with so much memory.
+starts_in() { (ulimit -v "$1" && "$2" > log 2>&1; [ $? = 2 ]) && grep -q 'usage: ' log; }
+
+# survives STEP STEPS PROGRAM WORD..: whether a program, with more memory by so many kilobytes each time, ends as it ends if there is
+# enough, or with status 2 and a line that says why; and whether it ended in both ways.
+survives() {
+    local step=$1 steps=$2 limit=2000 wanted=0 status refused=0
+    shift 2
+    "$@" < damaged > log 2> errors || wanted=$?
+    until starts_in "$limit" "$1" || [ "$limit" -gt 20000 ]; do limit=$((limit + 100)); done
+    for ((; steps > 0; steps--, limit += step)); do
+        status=0
+        { (ulimit -v "$limit" && exec "$@" < damaged > log 2> errors) || status=$?; } 2> log
+        if [ "$status" = 2 ] && grep -q "^${1#./}: " errors; then
+            refused=$((refused + 1))
+        elif [ "$status" != "$wanted" ]; then
+            return 1
+        fi
+    done
+    [ "$refused" != 0 ] && [ "$status" = "$wanted" ]
+}
+
+test_refused_memory() {
+    { echo 'cdpatch 1' && head -c 40000000 /dev/zero | tr '\0' '#'; } > wide
+    truncate -s 6000000 sparse
+    judge 'examples/patch_pipe.c says so if there is no memory for its script' survives 3000 40 ./patch_pipe wide
+    judge 'examples/audit.c says so if there is none for the image or the text' survives 40 180 ./audit sparse
+    judge 'examples/patch_map.c says so if there is none for a map' survives 3000 40 ./patch_map --without-old wide sparse
+    wrong_versions 'wrong examples' || return
+    judge 'one is refused that reads a script into memory that it did not get' wrong_example patch_pipe.c \
+        's/ && (grown = realloc(text, room)) != NULL/ \&\& ((grown = realloc(text, room)), true)/;s/room - \*size, file/room - *size, text ? file : NULL/' \
+        patch_pipe survives 3000 40 ./patch_pipe wide
+    judge 'one is refused that audits into such memory' wrong_example audit.c 's/if (!text)/if (false)/' audit survives 40 180 ./audit sparse
+}

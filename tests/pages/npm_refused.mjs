@@ -1,0 +1,80 @@
+// What the package for npm refuses, as the program does: `node npm_refused.mjs PROGRAM`, where the package is installed and disc.bin is.
+
+import assert from 'node:assert/strict';
+import { spawn, spawnSync } from 'node:child_process';
+import { readFileSync, truncateSync, writeFileSync } from 'node:fs';
+import { Fault, ScriptError, load, openFile } from 'cdpatch';
+
+const program = process.argv[2];
+const cdpatch = await load();
+const sound = Uint8Array.from(readFileSync('disc.bin'));
+const script = 'cdpatch 1\nset 1 0 41\nset 2999 0 41\n';
+
+/** What the program prints. */
+const printed = (...words) => spawnSync(program, words).stdout.toString();
+
+// A source that gives other than it was asked for: no image is made of it.
+const image = new Uint8Array(2352 * 3000);
+for (let at = 0; at < image.length; at += sound.length) image.set(sound.subarray(0, image.length - at), at);
+const jobs = {
+    survey: source => cdpatch.survey(source), list: source => cdpatch.list(source), audit: source => cdpatch.audit(source),
+    check: source => cdpatch.check(source, script), apply: source => cdpatch.apply(source, 'cdpatch 1\n', () => {}),
+};
+const others = [
+    [async at => image.subarray(at), { name: 'RangeError', message: /^read\(at, length\) gave \d+ bytes, and was asked for \d+$/ }],
+    [async (at, length) => image.slice(at, at + length + 1), { name: 'RangeError' }],
+    [async (at, length) => 'a'.repeat(length), { name: 'TypeError', message: 'read(at, length) gives a Uint8Array, and not String' }],
+    [async (at, length) => Array.from(image.subarray(at, at + length)), { name: 'TypeError' }],
+    [async (at, length) => image.slice(at, at + length).buffer, { name: 'TypeError' }],
+    [async () => undefined, { name: 'TypeError', message: 'read(at, length) gives a Uint8Array, and not undefined' }],
+];
+for (const [name, job] of Object.entries(jobs)) {
+    // One byte more than the image has, so that the last read can give it too.
+    for (const [read, error] of others) await assert.rejects(job({ size: image.length - 1, read }), error, name);
+    await job({ size: image.length, read: async (at, length) => Buffer.from(image.subarray(at, at + length)) });
+}
+const source = { size: script.length, read: async () => new TextEncoder().encode(`${script}# more`) };
+for (const job of [cdpatch.check(image, source), cdpatch.patches(source)]) await assert.rejects(job, { name: 'RangeError' });
+
+// Not a regular file: a device, a directory, and a pipe into which somebody writes an image.
+spawnSync('mkfifo', ['pipe']);
+const writer = spawn('sh', ['-c', 'exec cat disc.bin > pipe']);
+for (const name of ['/dev/zero', '.', 'pipe']) {
+    await assert.rejects(openFile(name), error => error instanceof Fault && error.message === `${name} is not a regular file`);
+}
+writer.kill();
+await assert.rejects(openFile('nothing'), { code: 'ENOENT' });
+
+// An image that is too long, and one of the longest.
+const blank = size => ({ size, read: async (at, length) => new Uint8Array(length) });
+writeFileSync('long.bin', '');
+truncateSync('long.bin', 2352000001);
+const [line] = /[^\n]*\n$/.exec(printed('list', 'long.bin'));
+for (const job of ['list', 'audit']) {
+    assert.deepEqual(await cdpatch[job]({ size: 2352000001, read: () => assert.fail() }), { status: 2, text: line });
+}
+assert.equal((await cdpatch.check(blank(2352000001), 'cdpatch 1\n')).text, line);
+const { status, text } = await cdpatch.list(blank(2352000000));
+assert.deepEqual([status, text], [0, '0-999999 nosync\nsectors 1000000 tail 0\n']);
+
+// A base that no image has.
+for (const base of [449850, 500000, -1, 0.5, NaN, '5', null, 2 ** 32]) {
+    const isNamed = { name: 'RangeError', message: `a base is a whole number from 0 to 449849, and not ${base}` };
+    for (const job of ['list', 'audit']) await assert.rejects(cdpatch[job](sound, { base }), isNamed);
+    await assert.rejects(cdpatch.check(sound, script, { base }), isNamed);
+    await assert.rejects(cdpatch.apply(sound, script, () => assert.fail(), { base }), isNamed);
+}
+for (const job of ['list', 'audit']) {
+    assert.equal((await cdpatch[job](sound, { base: 449849 })).text, printed(job, '--base', '449849', 'disc.bin'));
+}
+
+// A script with more patches or bytes than the program takes.
+const rebuilds = count => `cdpatch 1\n${'rebuild 1\n'.repeat(count)}`;
+const long = [[rebuilds(65536), 'script line 65537: more than 65535 patches'],
+    [new Uint8Array(67108865).fill(10), 'cdpatch: the script is longer than 67108864 bytes']];
+for (const [given, message] of long) {
+    for (const job of [cdpatch.patches(given), cdpatch.check(sound, given)]) {
+        await assert.rejects(job, error => error instanceof ScriptError && error.message === message);
+    }
+}
+assert.equal((await cdpatch.patches(rebuilds(65535))).length, 65535);
