@@ -3,11 +3,12 @@
 import assert from 'node:assert/strict';
 import { spawn, spawnSync } from 'node:child_process';
 import { createHash } from 'node:crypto';
-import { chmodSync, existsSync, lstatSync, mkdirSync, readdirSync, statSync, symlinkSync, unlinkSync } from 'node:fs';
+import { chmodSync, existsSync, lstatSync, mkdirSync, readdirSync, statSync, symlinkSync, unlinkSync, utimesSync } from 'node:fs';
 import { createRequire } from 'node:module';
 import { join } from 'node:path';
 import { test } from 'node:test';
 import { fileURLToPath } from 'node:url';
+import { gzipSync } from 'node:zlib';
 
 // Before cdscript is loaded, which takes the calls as they are then.
 const faults = createRequire(import.meta.url)('./faulty.cjs');
@@ -21,15 +22,27 @@ const sheet = name => `FILE "${name}" BINARY\n TRACK 01 MODE1/2352\n INDEX 01 00
 const datOf = files => `<?xml version="1.0"?>\n<datafile>${Object.entries(files).map(([name, bytes]) =>
     `<game name="G"><rom name="${name}" size="${bytes.length}" sha1="${shaOf(bytes)}"/></game>`).join('\n')}</datafile>\n`;
 
+/** What is said at the end of a collection of writeCollection. */
+const COUNTED = 'cdscript: verified 20, known as bad 0, not in the DAT 20\n';
+
 /** What is said of what is not in a DAT. */
 const ONLY_SIZE = 'the DAT has a dump of this size, but none with this SHA-1: perhaps another dump of the disc repairs it';
 const NOT_EVEN_SIZE = 'the DAT has no dump of this size: perhaps it is cut, or of another disc';
 
 /** A row as it is if no list of dumps was given. */
-const withoutDat = row => row.replace(/[^\t]*$/, '-');
+const withoutDat = row => row.split('\t').map((cell, i) => i === 6 ? '-' : cell).join('\t');
+
+/** The columns that 1.3.0 had. */
+const seven = row => row.split('\t').slice(0, 7).join('\t');
+
+/** A row with the columns that came later: bytes and time, and no hashes, which no DAT asks for. */
+function dated(room, row) {
+    const { size, mtime } = statSync(join(room, row.split('\t')[0]));
+    return [row, size, mtime.toISOString(), '-', '-'].join('\t');
+}
 
 /** The row of a file that is no image. */
-const otherRow = (name, what, bytes, said) => [name, `none: ${what}`, '-', '-', '-', shaOf(bytes), said].join('\t');
+const otherRow = (room, name, what, bytes, said) => dated(room, [name, `none: ${what}`, '-', '-', '-', shaOf(bytes), said].join('\t'));
 
 /**
  * Forty images, some of them damaged, in two directories, half of them with cue sheets, and a file that is no image; a DAT of them whole; and
@@ -50,9 +63,10 @@ function writeCollection(room) {
         if (i % 2 === 0) write(join(room, directory), { [name.replace('.bin', '.cue')]: sheet(name) });
         const [damage, elsewhere] = i % 4 === 1 ? [2, 0] : i % 4 === 2 ? [1, 1] : [0, 0];
         rows.push([`${directory}/${name}`, `mode1 ${20 + i}`, damage, damage, elsewhere, shaOf(dumped), places.length > 0 ? 'not in the DAT' : `verified ${name}`].join('\t'));
+        rows.push(dated(room, rows.pop()));
     }
     write(room, { 'all.dat': datOf(whole), 'two/notes.txt': 'no image' });
-    return [...rows, otherRow('two/notes.txt', 'not recognised', 'no image', 'not in the DAT')];
+    return [...rows, otherRow(room, 'two/notes.txt', 'not recognised', 'no image', 'not in the DAT')];
 }
 
 test('a scan tells each image of a collection once, with what a list of dumps knows of it', () => inDirectory(async room => {
@@ -60,7 +74,7 @@ test('a scan tells each image of a collection once, with what a list of dumps kn
     symlinkSync('..', join(room, 'two', 'up'));
     write(join(room, 'one'), { 'again.cue': sheet('game 04.bin') });
     const { status, out, errors } = await run(['scan', 'one', 'two', 'one/game 00.bin', '--dat', 'all.dat'], { cwd: room });
-    assert.deepEqual([status, out.split('\n').filter(Boolean).sort(), errors], [1, rows, 'cdscript: files that are no raw images: 1\n']);
+    assert.deepEqual([status, out.split('\n').filter(Boolean).sort(), errors], [1, rows, `cdscript: files that are no raw images: 1\n${COUNTED}`]);
     const some = await run(['scan', 'one/game 00.cue', 'two/game 23.bin', '-o', 'list'], { cwd: room });
     assert.deepEqual([some.status, some.out], [0, '']);
     assert.deepEqual(read(room, 'list').toString(), [rows[0], rows[23]].map(row => `${withoutDat(row)}\n`).join(''));
@@ -99,7 +113,7 @@ test('each file that is looked at has a row, which names what info names and wha
         assert.equal(what.split(': ').length, 2, bytes);
     }
     const due = Object.entries({ ...others, ...images }).map(([name, bytes]) =>
-        [`set/${name}`, kinds[name], '-', '-', '-', shaOf(bytes), known[name] || 'not in the DAT'].join('\t')).sort();
+        dated(room, [`set/${name}`, kinds[name], '-', '-', '-', shaOf(bytes), known[name] || 'not in the DAT'].join('\t'))).sort();
     for (const path of ['set', 'set/']) {
         const { status, out } = await run(['scan', path, '--dat', 'all.dat'], { cwd: room });
         assert.deepEqual([status, out.split('\n').filter(Boolean).sort()], [0, due]);
@@ -108,7 +122,7 @@ test('each file that is looked at has a row, which names what info names and wha
     const words = ['scan', 'set/disc.iso', 'set/audio only.bin', '--dat', 'all.dat', '--resume', 'set/list'];
     for (let i = 0; i < 2; i++) {
         const { status, errors } = await run(words, { cwd: room });
-        assert.deepEqual([status, errors], [2, 'cdscript: set/disc.iso is an ISO image, 2048 bytes a sector\n']);
+        assert.deepEqual([status, errors], [2, 'cdscript: set/disc.iso is an ISO image, 2048 bytes a sector\ncdscript: verified 2, known as bad 0, not in the DAT 0\n']);
     }
     // The list is no part of the collection in which it lies.
     const all = await run(['scan', 'set', '--dat', 'all.dat', '--resume', 'set/list'], { cwd: room });
@@ -133,14 +147,14 @@ test('a list that goes on with a DAT says of each line what that knows', () => i
     write(room, { list: rows.slice(0, 30).map(row => `${withoutDat(row)}\n`).join('') + rows[35].slice(0, 20) });
     symlinkSync('list', join(room, 'link'));
     chmodSync(join(room, 'list'), 0o640);
-    const said = 'cdscript: link: its last column now says what the DAT knows, lines that changed: 30\n';
+    const said = 'cdscript: link: its seventh column now says what the DAT knows, lines that changed: 30\n';
     const { status, errors } = await run(['scan', 'one', 'two', '--dat', 'all.dat', '--resume', 'link'], { cwd: room });
-    assert.deepEqual([status, errors, lines().sort()], [1, `${said}cdscript: files that are no raw images: 1\n`, rows]);
+    assert.deepEqual([status, errors, lines().sort()], [1, `${said}cdscript: files that are no raw images: 1\n${COUNTED}`, rows]);
     assert.deepEqual([lines().slice(0, 30), statSync(join(room, 'list')).mode & 0o777, lstatSync(join(room, 'link')).isSymbolicLink()],
         [rows.slice(0, 30), 0o640, true]);
     const before = statSync(join(room, 'list')).ino;
     const again = await run(['scan', 'one', 'two', '--dat', 'all.dat', '--resume', 'list'], { cwd: room });
-    assert.deepEqual([again.status, again.errors, lines().sort(), statSync(join(room, 'list')).ino], [1, '', rows, before]);
+    assert.deepEqual([again.status, again.errors, lines().sort(), statSync(join(room, 'list')).ino], [1, COUNTED, rows, before]);
     // Without a DAT nothing is looked up, and with another one all lines say what that knows.
     assert.deepEqual([(await run(['scan', 'one', '--resume', 'list'], { cwd: room })).errors, lines().sort()], ['', rows]);
     write(room, { 'other.dat': datOf({ 'Other.bin': Buffer.from('x') }) });
@@ -151,7 +165,7 @@ test('a list that goes on with a DAT says of each line what that knows', () => i
 
 test('a list whose lines cannot be written anew stays as it is', () => inDirectory(room => inDirectory(async streams => {
     const rows = writeCollection(room);
-    const list = rows.slice(0, 30).map(row => `${withoutDat(row)}\n`).join('');
+    const list = rows.slice(0, 30).map(row => `${join(room, withoutDat(row))}\n`).join('');
     write(room, { list });
     for (const [call_, fault] of [['openSync', 'EACCES'], ['writeSync', 'ENOSPC'], ['fsyncSync', 'EIO'], ['renameSync', 'EPERM']]) {
         const isOther = (name, [of, bytes]) => name === 'openSync' ? !String(of).includes('.cdscript-') : name === 'writeSync' && !bytes.includes(0x09);
@@ -170,7 +184,7 @@ test('a list whose lines cannot be written anew stays as it is', () => inDirecto
             return name !== 'writeSync' || writes < 2 ? null : writes === 2 ? 'short' : faults.errorOf('ENOSPC');
         };
     }, () => { faults.hit = () => null; });
-    assert.deepEqual([full.status, read(room, 'list').toString()], [2, rows.slice(0, 30).map(row => `${row}\n`).join('')]);
+    assert.deepEqual([full.status, read(room, 'list').toString()], [2, rows.slice(0, 30).map(row => `${join(room, row)}\n`).join('')]);
 })));
 
 test('what could not be read is named, and the status is 2', () => inDirectory(async room => {
@@ -205,7 +219,7 @@ test('an image that is cut is marked, and the last column says whether there was
     const names = ['a.bin', 'cut.bin', 'hurt.bin', 'disc.cue'];
     const columns = async words => {
         const { status, out } = await run(['scan', ...names, ...words], { cwd: room });
-        const rows = out.split('\n').filter(Boolean).sort().map(row => row.split('\t'));
+        const rows = out.split('\n').filter(Boolean).sort().map(row => seven(row).split('\t'));
         return [status, rows.map(row => row.filter((_, i) => i !== 0 && i !== 5))];
     };
     const kinds = [['mode1 20', '0', '0', '0'], ['mode1 19,tail 1352', '0', '1', '0'], ['mode1 19,tail 2351', '1', '2', '0'], ['audio,tail 7', '-', '1', '-']];
@@ -213,10 +227,13 @@ test('an image that is cut is marked, and the last column says whether there was
     const known = ['verified A.bin', 'not in the DAT', 'not in the DAT', 'not in the DAT'];
     assert.deepEqual(await columns(['--dat', 'a.dat']), [1, kinds.map((row, i) => [...row, known[i]])]);
     // An earlier version has written `-` for what is not in the list of dumps, 0 for what was not tested, and its lists name no tail.
+    // Its lines are made anew; one of a file that is gone stays.
     const [earlier] = (await run(['scan', 'cut.bin'], { cwd: room })).out.split('\n');
-    write(room, { list: `${earlier.replace(',tail 1352\t0\t1', '\t0\t0')}\ngone.bin\taudio\t0\t0\t0\t${shaOf(track)}\t-\n` });
-    assert.equal((await run(['scan', 'a.bin', 'cut.bin', '--dat', 'a.dat', '--resume', 'list'], { cwd: room })).status, 0);
-    assert.deepEqual(read(room, 'list').toString().split('\n').map(row => row.split('\t').slice(-1)[0]), ['not in the DAT', 'not in the DAT', 'verified A.bin', '']);
+    write(room, { list: `${seven(earlier).replace(',tail 1352\t0\t1', '\t0\t0')}\ngone.bin\taudio\t0\t0\t0\t${shaOf(track)}\t-\n` });
+    const mended = await run(['scan', 'a.bin', 'cut.bin', '--dat', 'a.dat', '--resume', 'list'], { cwd: room });
+    assert.deepEqual([mended.status, mended.errors.split('\n')[0]], [1, 'cdscript: list: files that no longer exist, whose lines are kept: 1']);
+    assert.deepEqual(read(room, 'list').toString().split('\n').map(row => row.split('\t').slice(0, 7)).map(row => `${row[0]} ${row[1]} ${row[6]}`).sort(),
+        [' undefined undefined', 'a.bin mode1 20 verified A.bin', 'cut.bin mode1 19,tail 1352 not in the DAT', 'gone.bin audio not in the DAT']);
     for (let i = 0; i < 2; i++) assert.equal((await run(['scan', ...names, '--dat', 'a.dat', '--resume', 'list'], { cwd: room })).status, 1);
     assert.equal(read(room, 'list').toString().split('\n').length, 6);
 }));
@@ -224,9 +241,9 @@ test('an image that is cut is marked, and the last column says whether there was
 test('a file that is no list is not gone on with, and stays as it is', () => inDirectory(async room => {
     const image = imageOf(room, 20);
     write(room, { 'a.bin': image, 'b.bin': damaged(image, 0, [3, 100]) });
-    const row = `a.bin\tmode1 20\t0\t0\t0\t${shaOf(image)}\t-`;
+    const row = dated(room, `a.bin\tmode1 20\t0\t0\t0\t${shaOf(image)}\t-`);
     const others = { 'x.bin': damaged(image, 0, [2, 9]), note: 'no list, and no end of a line', 'k.dat': datOf({ 'a.bin': image }), lines: `${row}\nmine\n`,
-        columns: `${row}\n${row}\tmore\n`, half: row };
+        columns: `${row}\n${row}\tmore\n`, half: row, some: `${seven(row)}\t5\n` };
     write(room, others);
     for (const [name, bytes] of Object.entries(others)) {
         const { status, errors } = await run(['scan', '--resume', name, 'a.bin', 'b.bin'], { cwd: room });
@@ -275,8 +292,8 @@ test('an image that vanishes is named, and a full disk leaves whole lines', () =
     const kept = read(room, 'list').toString();
     assert.deepEqual([kept.split('\n').length, kept.endsWith('\n')], [6, true]);
     let isGone = false;
-    const vanished = await calling(name => {
-        if (name === 'writeSync' && !isGone) {
+    const vanished = await calling((name, [, bytes]) => {
+        if (name === 'writeSync' && bytes.includes(0x09) && !isGone) {
             isGone = true;
             unlinkSync(join(room, 'two', 'game 39.bin'));
         }
@@ -343,4 +360,119 @@ test('info and merge say whether a dump is known', () => inDirectory(async room 
     write(room, { 'bad.dat': '<datafile><x>&y;</x><rom name="&y;"/></datafile>' });
     const bad = await run(['merge', 'a.bin', 'b.bin', 'third', '--dat', 'bad.dat'], { cwd: room });
     assert.deepEqual([bad.status, bad.errors, existsSync(join(room, 'third'))], [2, 'cdscript: bad.dat: it has the entity &y;, which a DAT does not have\n', false]);
+}));
+
+/** The lines of a list, by their names. */
+const linesOf = (room, name) => new Map(read(room, name).toString().split('\n').filter(Boolean).map(line => [line.split('\t')[0], line]));
+
+test('a list goes on with files that were replaced, and names how many are gone', () => inDirectory(async room => {
+    mkdirSync(join(room, 'set'));
+    const image = imageOf(room, 20);
+    write(join(room, 'set'), { 'a.bin': image, 'b.bin': image, 'c.bin': image, 'd.bin': image, 'e.bin': image, 'e.cue': sheet('e.bin') });
+    const scan = async (...words) => (await run(['scan', 'set', '--resume', 'list', ...words], { cwd: room }));
+    assert.equal((await scan()).status, 0);
+    const before = linesOf(room, 'list');
+    // Another time, another size, gone, and a file that only a sheet names.
+    write(join(room, 'set'), { 'a.bin': damaged(image, 0, [3, 100]), 'b.bin': image.subarray(0, 2352 * 19), 'e.bin': damaged(image, 0, [5, 100]) });
+    for (const name of ['a.bin', 'e.bin']) utimesSync(join(room, 'set', name), 1e9, 1e9);
+    unlinkSync(join(room, 'set', 'c.bin'));
+    const { status, errors } = await scan();
+    const after = linesOf(room, 'list');
+    const damages = ['a', 'b', 'c', 'd', 'e'].map(name => after.get(`set/${name}.bin`).split('\t').slice(1, 4).join(' '));
+    assert.deepEqual([status, errors, after.size], [1, 'cdscript: list: files that no longer exist, whose lines are kept: 1\n', 5]);
+    assert.deepEqual(damages, ['mode1 20 1 1', 'mode1 19 0 0', 'mode1 20 0 0', 'mode1 20 0 0', 'mode1 20 1 1']);
+    assert.deepEqual(['c', 'd'].map(name => after.get(`set/${name}.bin`)), ['c', 'd'].map(name => before.get(`set/${name}.bin`)));
+    // What is not looked at keeps its line.
+    utimesSync(join(room, 'set', 'd.bin'), 1e9, 1e9);
+    await run(['scan', 'set/a.bin', '--resume', 'list'], { cwd: room });
+    assert.deepEqual(linesOf(room, 'list'), after);
+}));
+
+test('a line of an earlier version is made anew', () => inDirectory(async room => {
+    write(room, { 'a.bin': imageOf(room, 20), list: `a.bin\tmode1 20\t7\t7\t0\t${'0'.repeat(40)}\tverified A.bin\n` });
+    const { status } = await run(['scan', 'a.bin', '--resume', 'list'], { cwd: room });
+    const due = dated(room, `a.bin\tmode1 20\t0\t0\t0\t${shaOf(read(room, 'a.bin'))}\t-`);
+    assert.deepEqual([status, read(room, 'list').toString()], [0, `${due}\n`]);
+}));
+
+test('two runs on one list double none of its lines', () => inDirectory(async room => {
+    const rows = writeCollection(room).map(withoutDat);
+    const started = () => {
+        const child = spawn(process.execPath, ['-r', preload, command, 'scan', 'one', 'two', '--resume', 'list'],
+            { cwd: room, env: { ...process.env, SLOW: '20' }, stdio: ['ignore', 'ignore', 'pipe'] });
+        let errors = '';
+        child.stderr.on('data', text => { errors += text; });
+        return new Promise(resolve => child.on('close', status => resolve({ status, errors })));
+    };
+    const [one, other] = (await Promise.all([started(), started()])).sort((a, b) => a.status - b.status);
+    assert.deepEqual([one.status, other.status], [1, 2]);
+    assert.match(other.errors, /^cdscript: another run \(process \d+\) is writing to list: wait for it, or remove .*list\.lock if it has ended\n$/);
+    assert.deepEqual(read(room, 'list').toString().split('\n').filter(Boolean).sort(), rows);
+    assert.equal(existsSync(join(room, 'list.lock')), false);
+    // A run that was killed has left a lock.
+    write(room, { 'list.lock': `${spawnSync('true').pid}\n` });
+    assert.equal((await run(['scan', 'one', '--resume', 'list'], { cwd: room })).status, 1);
+    write(room, { 'list.lock': `${process.ppid}\n` });
+    const held = await run(['scan', '.', '--resume', 'list'], { cwd: room });
+    assert.deepEqual([held.status, existsSync(join(room, 'list.lock')), read(room, 'list').toString().includes('lock')], [2, true, false]);
+}));
+
+/** A row of a DAT that has no SHA-1. */
+const romWithoutSha = (name, bytes, hashes) => {
+    const sums = { crc: crc32Of(bytes), md5: createHash('md5').update(bytes).digest('hex') };
+    return `<game name="G"><rom name="${name}" size="${bytes.length}" ${hashes.map(it => `${it}="${sums[it]}"`).join(' ')}/></game>`;
+};
+
+/** The CRC-32 that gzip has. */
+const crc32Of = bytes => gzipSync(bytes).readUInt32LE(gzipSync(bytes).length - 8).toString(16).padStart(8, '0');
+
+test('a DAT without SHA-1 is looked up by CRC32 and MD5, also for a list that lacks them', () => inDirectory(async room => {
+    const image = imageOf(room, 20);
+    const files = { 'a.bin': image, 'b.bin': damaged(image, 0, [3, 100]), 'c.bin': damaged(image, 0, [4, 100]) };
+    write(room, { ...files, 'a.dat': `<datafile>${romWithoutSha('A.bin', image, ['crc', 'md5'])}${romWithoutSha('B.bin', files['b.bin'], ['md5'])}
+        <game name="x"><rom name="x" size="1"/></game></datafile>` });
+    const names = Object.keys(files);
+    await run(['scan', ...names, '--resume', 'list'], { cwd: room });
+    assert.match([...linesOf(room, 'list').values()].join('\n'), /^(a|b|c)\.bin\t.*\t-\t-$/m);
+    const { status, errors } = await run(['scan', ...names, '--resume', 'list', '--dat', 'a.dat'], { cwd: room });
+    const said = [...linesOf(room, 'list').values()].sort().map(line => line.split('\t')).map(row => [row[6], row[9], row[10].length]);
+    assert.deepEqual(said, [['verified A.bin', crc32Of(image), 32], ['verified B.bin', crc32Of(files['b.bin']), 32], ['not in the DAT', crc32Of(files['c.bin']), 32]]);
+    assert.deepEqual([status, errors], [1, 'cdscript: entries of the DAT without a size or a hash, which match no file: 1\ncdscript: verified 2, known as bad 0, not in the DAT 1\n']);
+    const info = await run(['info', 'a.bin', '--dat', 'a.dat'], { cwd: room });
+    assert.match(info.out, /\nverified A\.bin\n/);
+    const merged = await run(['merge', 'b.bin', 'a.bin', 'out', '--dat', 'a.dat'], { cwd: room });
+    assert.match(merged.errors, /cdscript: out: verified A\.bin\n/);
+}));
+
+test('the status and the last line say what a DAT knows', () => inDirectory(async room => {
+    const image = imageOf(room, 20);
+    const iso = Buffer.alloc(2048 * 20, 7);
+    iso.write('CD001', 16 * 2048 + 1);
+    const badDat = `<datafile><game name="G"><rom name="Bad.bin" size="${image.length}" sha1="${shaOf(image)}" status="baddump"/></game></datafile>`;
+    write(room, { 'a.bin': image, 'b.bin': damaged(image, 0, [3, 100]), 'g.iso': iso, 'notes.txt': 'notes', 'other.txt': 'seven77', 'bad.dat': badDat,
+        'two.dat': datOf({ 'Disc (Japan).bin': image, 'a.bin': image, 'I.iso': iso, 'seven': Buffer.from('sevens!') }), 'none.dat': datOf({ x: Buffer.from('x') }) });
+    mkdirSync(join(room, 'set'));
+    write(join(room, 'set'), { 'notes.txt': 'notes', 'other.txt': 'seven77' });
+    const said = async (...words) => {
+        const { status, out, errors } = await run(words, { cwd: room });
+        return [status, out.split('\n').filter(Boolean).map(row => row.split('\t')[6]), errors.split('\n').slice(-2)[0]];
+    };
+    const counts = (verified, bad, unknown) => `cdscript: verified ${verified}, known as bad ${bad}, not in the DAT ${unknown}`;
+    assert.deepEqual(await said('scan', 'a.bin', '--dat', 'two.dat'), [0, ['verified a.bin, and 1 other'], counts(1, 0, 0)]);
+    assert.deepEqual(await said('scan', 'a.bin', '--dat', 'none.dat'), [1, ['not in the DAT'], counts(0, 0, 1)]);
+    assert.deepEqual(await said('scan', 'a.bin', '--dat', 'bad.dat'), [1, ['known as a bad dump: Bad.bin'], counts(0, 1, 0)]);
+    // Of what is not an image only that counts whose size a dump has.
+    assert.deepEqual(await said('scan', 'set', '--dat', 'none.dat'), [0, ['not in the DAT', 'not in the DAT'], counts(0, 0, 0)]);
+    assert.deepEqual(await said('scan', 'set', '--dat', 'two.dat'), [1, ['not in the DAT', 'not in the DAT'], counts(0, 0, 1)]);
+    const info = async (...words) => {
+        const { status, out, errors } = await run(['info', ...words], { cwd: room });
+        return [status, out.split('\n').find(line => /^(verified|known|the DAT)/.test(line)), errors.split('\n').slice(-2)[0]];
+    };
+    assert.deepEqual(await info('a.bin', '--dat', 'two.dat'), [0, 'verified a.bin, and 1 other', counts(1, 0, 0)]);
+    assert.deepEqual(await info('a.bin', '--dat', 'none.dat'), [1, NOT_EVEN_SIZE, counts(0, 0, 1)]);
+    assert.deepEqual(await info('a.bin', '--dat', 'bad.dat'), [1, 'known as a bad dump: Bad.bin', counts(0, 1, 0)]);
+    assert.deepEqual(await info('g.iso', '--dat', 'two.dat'), [1, 'verified I.iso', counts(1, 0, 0)]);
+    for (const [dat, due] of [['bad.dat', 1], ['none.dat', 0], ['two.dat', 0]]) {
+        assert.equal((await run(['merge', 'b.bin', 'a.bin', `out ${dat}`, '--dat', dat], { cwd: room })).status, due, dat);
+    }
 }));

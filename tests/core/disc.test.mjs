@@ -72,6 +72,27 @@ test('a file for each track, of which those of audio need not be open', async ()
     await assert.rejects(opened(sheet('FILE game.cue BINARY', 'TRACK 1 MODE1/2352', 'INDEX 1 0:0:0')), own);
 });
 
+test('a sheet in Windows-1252 names files, and one in CP932 too; a file that it names often is one file', async () => {
+    const image = soundImage(diceOf(30), 20, 0);
+    const bytes = (...parts) => ({ name: 'game.cue', reader: readerOf(Uint8Array.from(Buffer.concat(parts.map(it => Buffer.from(it, 'latin1'))))) });
+    const tracks = '" BINARY\n TRACK 01 MODE1/2352\n  INDEX 01 00:00:00\n';
+    for (const [name, written] of [['Caf\u00E9.bin', 'Caf\xE9.bin'], ['Pok\u00E9mon \u2013 2.bin', 'Pok\xE9mon \x96 2.bin'], ['\u9B54.bin', '\x96\x82.bin']]) {
+        const disc = await opened(bytes('FILE "', written, tracks), file(`dir/${name}`, image));
+        assert.deepEqual([disc.files.map(it => it.name), disc.tracks.length], [[`dir/${name}`], 1]);
+    }
+    const often = await opened(bytes('FILE "a.bin" BINARY\n'.repeat(150), 'FILE "a.bin', tracks), file('a.bin', image));
+    assert.deepEqual([often.files.length, often.tracks[0].file], [1, 0]);
+    await assert.rejects(opened(bytes('FILE a B\n'.repeat(13000), 'FILE "a.bin', tracks), file('a.bin', image)),
+        { message: 'line 199 of the cue sheet: more than 198 files' });
+});
+
+test('a sheet tells files of one name in different directories apart', async () => {
+    const [one, two] = [soundImage(diceOf(31), 20, 0), soundImage(diceOf(32), 30, 20)];
+    const cue = sheet('FILE "a/t.bin" BINARY', 'TRACK 1 MODE1/2352', 'INDEX 1 0:0:0', 'FILE "b\\T.BIN" BINARY', 'TRACK 2 MODE1/2352', 'INDEX 1 0:0:0');
+    const disc = await opened(cue, file('set/b/t.bin', two), file('set/a/t.bin', one));
+    assert.deepEqual(disc.tracks.map(it => [it.sectors, disc.files[it.file].name]), [[20, 'set/a/t.bin'], [30, 'set/b/t.bin']]);
+});
+
 test('a track after a gap in its file begins at its INDEX 01', async () => {
     const whole = Uint8Array.from(Buffer.concat([audio(30), soundImage(diceOf(9), 70, 30 + 20)]));
     const cue = sheet('FILE a.bin BINARY', 'TRACK 1 AUDIO', 'INDEX 1 0:0:0', 'TRACK 2 MODE1/2352', 'INDEX 0 0:0:30', 'INDEX 1 0:0:50');

@@ -57,13 +57,66 @@ test('samples near one another are read together, and of a long image little mor
     }
 });
 
+test('an image of Nero is known by how it ends, and is not taken for one that is cut', async () => {
+    const image = sectors(0, 20);
+    assert.strictEqual(await kind(Buffer.concat([image, Buffer.from('CUEX....END!NER5\0\0\0\0\0\0\x10\0')])), 'nrg');
+    assert.strictEqual(await kind(Buffer.concat([image, Buffer.from('CUES....END!NERO\0\0\x10\0')])), 'nrg');
+    assert.strictEqual(await kind(Buffer.concat([image, Buffer.from('NERO\0\0\x10\0....')])), 'raw');
+});
+
+/** The bytes that scrambling adds to those after the sync field: a register of 15 bits (ECMA-130, Annex B). */
+function scrambling(size) {
+    let register = 1;
+    return Uint8Array.from({ length: size }, () => {
+        const byte = register & 255;
+        for (let i = 0; i < 8; i++) register = register >> 1 | ((register ^ register >> 1) & 1) << 14;
+        return byte;
+    });
+}
+
+test('a scrambled image is known by its headers', async () => {
+    const [image, added] = [Uint8Array.from(sectors(0, 60)), scrambling(RAW - 12)];
+    assert.deepStrictEqual([...added.subarray(0, 6)], [0x01, 0x80, 0x00, 0x60, 0x00, 0x28]);
+    const scrambled = image.map((byte, i) => i % RAW < 12 ? byte : byte ^ added[i % RAW - 12]);
+    assert.strictEqual(await kind(scrambled), 'scrambled');
+    // Some of its sectors are no proof.
+    const some = image.slice();
+    some.set(scrambled.subarray(0, 10 * RAW));
+    assert.deepStrictEqual([await kind(some), await kind(image)], ['raw', 'raw']);
+    const other = image.map((byte, i) => i % RAW === 15 ? 0x63 : byte);
+    assert.strictEqual(await kind(other), 'raw');
+});
+
+/** Channel Q of a sector in track 1, with its checksum, among channels P and R to W. */
+function subchannels(sector) {
+    const bytes = new Uint8Array(96);
+    bytes.set([0x41, 1, 1, 0, 0, sector & 127, 0, 0, 2, sector & 127], 12);
+    let sum = 0;
+    for (const byte of bytes.subarray(12, 22)) {
+        sum ^= byte << 8;
+        for (let bit = 0; bit < 8; bit++) sum = (sum & 0x8000 ? sum << 1 ^ 0x1021 : sum << 1) & 0xFFFF;
+    }
+    bytes.set([~sum >> 8 & 255, ~sum & 255], 22);
+    return bytes;
+}
+
+test('a file of subchannels is known by the checksums of channel Q', async () => {
+    const file = Buffer.concat(Array.from({ length: 500 }, (_, i) => subchannels(i)));
+    const worn = file.map((byte, i) => i % (96 * 3) === 15 ? 7 : byte);
+    assert.deepStrictEqual([await kind(file), await kind(worn), await kind(file.subarray(0, 96))], ['sub', 'sub', 'sub']);
+    for (const other of [Buffer.alloc(96 * 500), Buffer.alloc(96 * 500, 255), file.subarray(1), file.map((byte, i) => i % 96 === 12 ? byte ^ 1 : byte)]) {
+        assert.strictEqual(await kind(other), 'unknown');
+    }
+});
+
 test('other files are known by how they begin', async () => {
     const wave = Buffer.concat([Buffer.from('RIFF\0\0\0\0WAVEfmt '), Buffer.alloc(RAW)]);
     const iso = Buffer.alloc(40 * 2048);
     iso.write('CD001', 16 * 2048 + 1);
     const files = [['chd', 'MComprHD....'], ['ecm', 'ECM\0....'], ['archive', 'PK\x03\x04..'], ['archive', 'Rar!..'], ['wave', wave],
         ['iso', iso], ['empty', ''], ['audio', Buffer.alloc(5 * RAW, 3)], ['unknown', Buffer.alloc(5 * RAW + 1, 3)], ['unknown', 'x'],
-        ['unknown', 'RIFF....AVI '], ['archive', Buffer.from([0x1F, 0x8B, 8, 0])],
+        ['unknown', 'RIFF....AVI '], ['archive', Buffer.from([0x1F, 0x8B, 8, 0])], ['mds', 'MEDIA DESCRIPTOR\x01\x05'], ['ccd', '[CloneCD]\r\nVersion=3\r\n'],
+        ['toc', 'CD_ROM\n\n// Track 1\nTRACK MODE1_RAW\nDATAFILE "data.bin"\n'], ['toc', 'CD_DA\r\nTRACK AUDIO\r\nFILE "a.wav" 0\r\n'], ['unknown', 'CD_ROM'],
         ['cue', 'FILE "a.bin" BINARY\r\n  TRACK 01 MODE1/2352\r\n    INDEX 01 00:00:00\r\n']];
     for (const [due, bytes] of files) assert.strictEqual(await kind(bytes), due);
 });

@@ -99,7 +99,9 @@ export const KINDS = {
     },
     dat: {
         seeds: ['<?xml version="1.0"?><!DOCTYPE datafile><datafile><header><name>a</name></header><!-- c --><game name="&quot;g&#x41;">' +
-            `<rom name="a.bin" size="2352" crc="0" sha1="${'a'.repeat(40)}" status="baddump"/></game></datafile>`],
+            `<rom name="a.bin" size="2352" crc="0" sha1="${'a'.repeat(40)}" status="baddump"/></game></datafile>`,
+        '<?xml version="1.0" encoding="Shift_JIS"?><!DOCTYPE datafile [<!ELEMENT a (b)> <!ATTLIST a b CDATA "c>d">]><datafile><x><![CDATA[<y>]]></x>' +
+            '<rom name="a > b" size="7" crc="0000abcd"/><rom name=\'c\' size="7" crc="0000abcd" status="nodump"/></datafile>'],
         words: ['<', '>', '<rom ', '/>', '&#x', '&amp;', ';', '"', '<!--', '-->', '<![CDATA[', ']]>', 'size="99999999999999999999"', '</game>'],
         read: bytes => new KnownDumps().add((async function* () { yield bytes.subarray(0, bytes.length / 2); yield bytes.subarray(bytes.length / 2); })()),
     },

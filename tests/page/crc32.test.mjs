@@ -4,9 +4,9 @@ import assert from 'node:assert/strict';
 import test from 'node:test';
 import { gzipSync } from 'node:zlib';
 
-import { page } from './page.mjs';
+import { core } from './page.mjs';
 
-const { crc32, joinedCrc } = await page('app/crc32.js');
+const { crc32, joinedCrc } = await core('crc32.js');
 
 test('the CRC-32 is that of gzip, in whatever parts the bytes come', () => {
     assert.equal(crc32(0, new TextEncoder().encode('123456789')), 0xCBF43926);

@@ -1,5 +1,6 @@
 """The table of all texts of a disc, beside what cdscript prints and writes of it, and the lists of known dumps that name a disc."""
 
+import zlib
 from pathlib import Path
 
 import common
@@ -166,6 +167,16 @@ class TextsTable(PageTest):
                 self.setUp()
                 self.open_list(dat_of(('Starlit Detective (Japan).bin', game, ''), ('Hurt.bin', hurt, 'status="baddump"')))
                 self.browser.wait('#start-message .say.good')
+
+    def test_a_list_in_UTF_16_without_sha1_names_the_disc_by_its_crc32(self) -> None:
+        game = discs.game()
+        rows = ''.join(f'<rom name="{name}" size="{len(game)}" crc="{zlib.crc32(game):08X}"/>' for name in ('Other.bin', 'game.bin'))
+        path = common.folder('dat') / 'wide.dat'
+        path.write_text(f'<?xml version="1.0" encoding="UTF-16"?><datafile>{rows}</datafile>', 'utf-16')
+        self.open_files(path)
+        self.browser.wait('#start-message .say.good', 'known dump')
+        self.open_image(discs.written(game=game)['game'])
+        self.browser.wait('#disc-line .tag.good', 'verified: game.bin')
 
     def test_a_list_that_is_opened_later_names_the_open_disc(self) -> None:
         self.open_image(discs.written(game=discs.game())['game'])

@@ -1,9 +1,10 @@
 // Files: images as readers, scripts in pieces, and files that are made new.
 
-import { closeSync, constants, fstatSync, open, read, readFileSync, readSync, readdirSync } from 'node:fs';
+import { closeSync, constants, fstatSync, open, read, readFileSync, readSync } from 'node:fs';
 import { Fault, inMemory } from '../core/faults.js';
 import { MOST_SECTORS, SECTOR_SIZE } from '../core/sectors/sector.js';
 import { hasCode, tryFile } from './failures.js';
+import { pathOf } from './names.js';
 import { NewFile } from './new_file.js';
 import { later, letSignalsIn, pause } from './pausing.js';
 import { STREAM_STEP, readerOfPieces } from './pieces.js';
@@ -82,6 +83,14 @@ function readSoFar(descriptor) {
     }
 }
 
+/**
+ * When a file was changed, or '' if no date says that.
+ * @param {{ mtime: Date }} stat
+ */
+export function timeText({ mtime }) {
+    return Number.isNaN(mtime.getTime()) ? '' : mtime.toISOString();
+}
+
 /** The files of one run. */
 export class Files {
     /**
@@ -97,8 +106,10 @@ export class Files {
         this.images = new Map();
         /** @type {Map<string, number>} the descriptors of images of which nothing was read yet */
         this.begun = new Map();
-        /** @type {Set<NewFile>} */
+        /** @type {Set<{ finish(): unknown, remove(): void }>} */
         this.unfinished = new Set();
+        /** @type {Map<string, string>} when each image was changed, as far as that is known */
+        this.changed = new Map();
     }
 
     /**
@@ -107,7 +118,7 @@ export class Files {
      * @param {number} [flags] with which it is opened
      */
     async opened(name, flags = constants.O_RDONLY) {
-        const descriptor = await tryFile('open', name, () => later(callback => open(name, flags, callback)));
+        const descriptor = await tryFile('open', name, () => later(callback => open(pathOf(name), flags, callback)));
         this.open.push(descriptor);
         return descriptor;
     }
@@ -146,6 +157,7 @@ export class Files {
         const stat = await tryFile('read', name, () => fstatSync(descriptor));
         if (!stat.isFile()) throw new Fault(`${name} is no regular file, and only the cue sheet names it: give it as the image`);
         const file = { name, reader: diskReader(name, descriptor, stat.size, 0) };
+        this.changed.set(name, timeText(stat));
         this.images.set(name, file);
         return file;
     }
@@ -159,6 +171,7 @@ export class Files {
     async readerOf(name, descriptor) {
         const stat = await tryFile('read', name, () => fstatSync(descriptor));
         const start = descriptor === this.input ? readSoFar(descriptor) : 0;
+        if (stat.isFile()) this.changed.set(name, timeText(stat));
         if (stat.isFile() && stat.size > 0 && start !== null) return diskReader(name, descriptor, Math.max(stat.size - start, 0), start);
         const pieces = [];
         let taken = 0;
@@ -182,14 +195,6 @@ export class Files {
             going = piece.length === STREAM_STEP;
             if (piece.length > 0) yield piece;
         }
-    }
-
-    /**
-     * The names in a directory.
-     * @param {string} name
-     */
-    namesIn(name) {
-        return tryFile('read', name, () => readdirSync(name));
     }
 
     /** @param {string} name of a file that must not exist */

@@ -44,7 +44,7 @@ export const OPTION_FORMS = {
     fields: { word: '--fields', value: '', does: 'print the fields that differ, and no script' },
     output: { word: '-o', value: 'FILE', does: 'write to this new file; - is standard output' },
     dat: { word: '--dat', value: 'FILE', does: 'a list of known dumps (Logiqx XML); may be given again' },
-    resume: { word: '--resume', value: 'FILE', does: 'add to this list what it does not have yet' },
+    resume: { word: '--resume', value: 'FILE', does: 'add to this list what it does not have yet, and what has changed' },
     help: { word: '--help', value: '', does: 'print help' },
     version: { word: '--version', value: '', does: 'print the version' },
     notices: { word: '--notices', value: '', does: 'print the notices of what cdscript contains' },
@@ -64,17 +64,18 @@ const FROM_0 = 'The first sector is block 0, if --base or a cue sheet does not s
 export const FORMS = {
     'info': {
         job: infoJob, takes: ['IMAGE'], options: ['dat', 'base', 'track'], says: 'Say what a file is, and what is in it',
-        does: 'Prints tracks, kinds of sectors, base, findings and SHA-1, or what to do with a file that is no raw image. Status: 0 ' +
-            'no findings, 1 findings, 2 failed',
+        does: 'Prints tracks, kinds of sectors, base, findings and SHA-1, or what to do with a file that is not a raw image. Status: 0 ' +
+            'no findings, 1 findings, or not in the DAT, 2 failed',
         example: 'cdscript info game.cue',
     },
     'scan': {
         job: scanJob, takes: ['PATH..'], options: ['dat', 'resume', 'output'],
         says: 'Say what is in each image of a collection',
-        does: 'Prints a line for each file as it is done: name, kinds of sectors, with the bytes of one that is cut as tail N or the ' +
-            'blocks that its volume has beyond it as short N, or what it is after none:, damaged sectors, all findings, sectors with ' +
-            'another address, each - if there is no Mode 1, SHA-1, and what --dat knows of it, or - without --dat, with tabs between. ' +
-            'PATH is an image, a cue sheet or a directory. Status: 0 no findings, 1 findings, 2 something could not be read',
+        does: 'Prints a line for each file, with tabs between the columns: name; kinds of sectors, or what the file is after none:; ' +
+            'damaged sectors; findings; sectors with a wrong address; SHA-1; what the DAT knows of it; bytes; time of change; CRC32; ' +
+            'MD5. What was not tested or not computed is -. tail N is added to a file that ends with part of a sector, short N if its ' +
+            'volume has N more blocks. PATH is an image, a cue sheet or a directory. Status: 0 no findings, 1 findings, or not in the ' +
+            'DAT, 2 something could not be read',
         example: 'cdscript scan /games --dat redump.dat --resume games.tsv',
     },
     'list': {

@@ -1,6 +1,5 @@
 // The jobs that write images: `merge`, `raw`, `user` and `extract`.
 
-import { createHash } from 'node:crypto';
 import { bytesOfLines } from '../core/bytes.js';
 import { natureOf } from '../core/disc/file_type.js';
 import { Fault } from '../core/faults.js';
@@ -12,6 +11,7 @@ import { kindName } from '../core/module/records.js';
 import { lostSectors, mode1Tracks } from '../core/sectors/lost.js';
 import { blocksIn, blocksText, commonRuns, joinedRuns } from '../core/sectors/runs.js';
 import { USER_SIZE } from '../core/sectors/sector.js';
+import { RunningHashes, sayKnown } from './hashes.js';
 import { fileAtPath } from './looking.js';
 import { openTrack } from './opening.js';
 import { MOST_UNTESTED, linesOfRuns, sayOfRuns, untestedText, visible } from './printed.js';
@@ -86,7 +86,7 @@ export async function mergeJob(run) {
     const [name, ...more] = run.names;
     const known = await run.knownDumps();
     const out = await run.files.make(more.pop() || '');
-    const hash = known && createHash('sha1');
+    const hash = known && new RunningHashes(known.needs);
     const { image, part, disc, track } = await openTrack(run, name, true);
     const opened = [];
     for (const other of more) opened.push(await openTrack(run, other, true));
@@ -106,11 +106,9 @@ export async function mergeJob(run) {
     const unlike = commonRuns(repair.unlike, joinedRuns(untested));
     await run.output.write(bytesOfLines(repairLines(repair, others, lost, unlike).map(visible)));
     if (untested.length > 0) run.say(untestedText(untested, disc.sheet !== null));
-    if (known && hash) {
-        const [size, sha1] = [image.reader.size, hash.digest('hex')];
-        run.say(`${out.name}: ${known.said(size, sha1) || `${known.saidOfOther(size)}; its SHA-1 is ${sha1}`}`);
-    }
+    const isBad = known !== null && hash !== null && sayKnown(run, known, out.name, image.reader.size, hash.digest());
     sayOfRuns(run, repair.doubtful, it => `${blocksText([it])}: taken from ${others[it.other].name}, but ${OTHER_EDC}`);
+    if (isBad) return 1;
     return Number([repair.damaged, repair.doubtful, lost, unlike].some(runs => runs.length > 0));
 }
 

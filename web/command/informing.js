@@ -1,18 +1,21 @@
 // The job `info`: what a file is, with all that is found in it.
 
+import { basename } from 'node:path';
 import { bytesOfLines } from '../core/bytes.js';
 import { natureOf } from '../core/disc/file_type.js';
 import { SECTOR_KIND } from '../core/module/records.js';
 import { fileIn } from '../core/sectors/lost.js';
 import { blocksIn } from '../core/sectors/runs.js';
 import { kindRuns, listText } from '../core/sectors/survey.js';
+import { SHA1_ONLY, Verdicts } from './hashes.js';
 import { openDiscOf } from './opening.js';
 import { linesOfRuns, untestedText, visible } from './printed.js';
-import { findingsIn, foundInFiles, unsurveyedTracks } from './surveying.js';
+import { findingsIn, foundInFiles, hashesOf, unsurveyedTracks } from './surveying.js';
 
 /** @typedef {import('../core/disc/disc.js').Disc} Disc */
 /** @typedef {import('../core/disc/disc.js').DiscTrack} DiscTrack */
 /** @typedef {import('../core/sectors/lost.js').Lost} Lost */
+/** @typedef {import('../core/disc/dat.js').Hashes} Hashes */
 /** @typedef {import('./run.js').Run} Run */
 /** @typedef {{ found: boolean, lines: string[] }} Informed whether something is wrong, and what is printed */
 /** @typedef {import('./surveying.js').FileFound} FileFound */
@@ -88,18 +91,32 @@ function unsurveyedLines(disc) {
 }
 
 /**
+ * The line of a file, and if there is a DAT what that knows of it, which is counted.
+ * @param {import('../core/disc/disc.js').DiscFile} file
+ * @param {Hashes} hashes
+ * @param {Verdicts | null} verdicts
+ * @param {boolean} isImage
+ */
+function fileLines({ name, reader: { size } }, hashes, verdicts, isImage) {
+    const line = `file ${name} bytes ${size} sha1 ${hashes.sha1}`;
+    if (verdicts === null) return [line];
+    const said = verdicts.known.said(size, hashes, basename(name));
+    verdicts.add(said, size, isImage);
+    return [line, said || verdicts.known.saidOfOther(size)];
+}
+
+/**
  * The lines of a disc, and whether something is wrong with it.
  * @param {Run} run
+ * @param {Verdicts | null} verdicts
  * @returns {Promise<Informed>}
  */
-async function discLines(run) {
-    const known = await run.knownDumps();
+async function discLines(run, verdicts) {
     const disc = await openDiscOf(run, run.names[0]);
     const tracks = disc.tracks.map(track => trackText(disc, track));
-    const found = await foundInFiles(run, disc);
-    const files = found.flatMap(({ file: { name, reader: { size } }, sha1, tail }) => [
-        `file ${name} bytes ${size} sha1 ${sha1}`, ...tail > 0 ? [`tail ${tail}: ${name} is cut within a sector`] : [],
-        ...known ? [known.said(size, sha1) || known.saidOfOther(size)] : []]);
+    const found = await foundInFiles(run, disc, needsOf(verdicts));
+    const files = found.flatMap(({ file, hashes, tail }) => [
+        ...fileLines(file, hashes, verdicts, true), ...tail > 0 ? [`tail ${tail}: ${file.name} is cut within a sector`] : []]);
     const surveys = found.flatMap(it => it.surveys);
     const lines = surveys.flatMap(it => {
         const [first, ...more] = surveyLines(run, disc, it);
@@ -121,12 +138,22 @@ function advicesFor(name, kind, advice) {
     return [advice, kind === 'iso' ? WITH_CDSCRIPT : ''].filter(it => it !== '');
 }
 
+/** @param {Verdicts | null} verdicts */
+function needsOf(verdicts) {
+    return verdicts ? verdicts.known.needs : SHA1_ONLY;
+}
+
 /** @param {Run} run */
 export async function infoJob(run) {
-    const { reader } = await run.files.image(run.names[0]);
-    const { kind, what, advice } = await natureOf(run.calls, reader);
+    const file = await run.files.image(run.names[0]);
+    const { kind, what, advice } = await natureOf(run.calls, file.reader);
+    const known = await run.knownDumps();
+    const verdicts = known && new Verdicts(known);
     const isDisc = kind === 'raw' || kind === 'audio' || kind === 'cue';
-    const { found, lines } = isDisc ? await discLines(run) : { found: true, lines: advicesFor(run.names[0], kind, advice) };
+    const other = async () => verdicts ? fileLines(file, await hashesOf(file.reader, needsOf(verdicts)), verdicts, false) : [];
+    const { found, lines } = isDisc ? await discLines(run, verdicts)
+        : { found: true, lines: [...await other(), ...advicesFor(run.names[0], kind, advice)] };
     await run.output.write(bytesOfLines([`${run.names[0]}: ${what}`, ...lines].map(visible)));
-    return Number(found);
+    if (verdicts) run.say(verdicts.text());
+    return Number(found || (verdicts !== null && verdicts.status > 0));
 }

@@ -10,6 +10,7 @@ import { Files } from './files.js';
 import { FORMS } from './forms.js';
 import { helpText } from './help.js';
 import { MESSAGES } from './messages.js';
+import { hasOddBytes, wordsOfProcess } from './names.js';
 import { visible } from './printed.js';
 import { Run } from './run.js';
 import { serveScan } from './scan_thread.js';
@@ -49,6 +50,15 @@ function messageOf(error) {
 }
 
 /**
+ * Whether a word is the name of a file that is only read, by a job that takes nothing else.
+ * @param {string} word
+ * @param {Given} given
+ */
+function isNameRead(word, { job, names }) {
+    return names.includes(word) && job in FORMS && FORMS[job].takes.every(it => it === 'IMAGE' || it === 'PATH..');
+}
+
+/**
  * The whole command: what these arguments ask for. Returns the status.
  * @param {string[]} words
  * @param {Streams} [streams]
@@ -60,6 +70,7 @@ export async function main(words, streams = STANDARD, files = new Files(streams.
     try {
         if (words.some(word => word.includes('\uFFFD'))) throw new Fault(MESSAGES.no_text);
         const given = argumentsOf(words);
+        if (words.some(word => hasOddBytes(word) && !isNameRead(word, given))) throw new Fault(MESSAGES.no_text);
         const { help, version, notices } = given.options;
         run = new Run(given, streams, files, messages);
         const status = help || version || notices ? await printHelp(given, run) : await FORMS[given.job].job(run);
@@ -112,5 +123,5 @@ export function start() {
         files.removeUnfinished();
         process.exit(failed(new Fault('internal error: the job has not ended')));
     });
-    main(process.argv.slice(2), STANDARD, files).catch(failed).then(status => process.exit(status));
+    main(wordsOfProcess(), STANDARD, files).catch(failed).then(status => process.exit(status));
 }

@@ -1,9 +1,14 @@
 // What the command uses of node, for the compiler, so that it needs no package of node's types.
 
+interface Buffer extends Uint8Array {
+    toString(encoding?: 'latin1'): string;
+}
+
 declare const Buffer: {
     allocUnsafeSlow(size: number): Uint8Array;
-    concat(parts: Uint8Array[]): Uint8Array;
-    from(text: string, encoding: 'base64'): Uint8Array;
+    concat(parts: Uint8Array[]): Buffer;
+    from(text: string, encoding?: 'base64' | 'latin1'): Buffer;
+    of(...bytes: number[]): Buffer;
 };
 
 declare const process: {
@@ -13,7 +18,7 @@ declare const process: {
     execPath: string;
     pid: number;
     exit(status: number): never;
-    kill(pid: number, signal: string): void;
+    kill(pid: number, signal: string | number): void;
     off(signal: string, listener: (signal: string) => void): void;
     on(signal: string, listener: (signal: string) => void): void;
     once(signal: string, listener: () => void): void;
@@ -30,7 +35,7 @@ declare module 'node:child_process' {
 }
 
 declare module 'node:crypto' {
-    export function createHash(name: 'sha1'): { update(bytes: Uint8Array): void, digest(form: 'hex'): string };
+    export function createHash(name: 'sha1' | 'md5'): { update(bytes: Uint8Array): void, digest(form: 'hex'): string };
     export function randomBytes(size: number): { toString(form: 'hex'): string };
 }
 
@@ -38,7 +43,7 @@ declare module 'node:fs' {
     export const constants: { O_RDONLY: number, O_NONBLOCK?: number };
     export function closeSync(descriptor: number): void;
     export function fchmodSync(descriptor: number, mode: number): void;
-    export function fstatSync(descriptor: number): { size: number, isFile(): boolean };
+    export function fstatSync(descriptor: number): { size: number, mtime: Date, isFile(): boolean };
     export function fstatSync(descriptor: number, how: { bigint: true }): { dev: bigint, ino: bigint };
     export function ftruncateSync(descriptor: number, size: number): void;
     export function fsync(descriptor: number, done: (error: unknown, value: number) => void): void;
@@ -46,19 +51,19 @@ declare module 'node:fs' {
     export function linkSync(name: string, other: string): void;
     export function lstatSync(name: string): unknown;
     export function lstatSync(name: string, how: { bigint: true }): { dev: bigint, ino: bigint };
-    export function open(name: string, flags: number, done: (error: unknown, descriptor: number) => void): void;
+    export function open(name: string | Uint8Array, flags: number, done: (error: unknown, descriptor: number) => void): void;
     export function read(descriptor: number, bytes: Uint8Array, at: number, length: number, place: null,
         done: (error: unknown, count: number) => void): void;
     export function openSync(name: string, flags: string): number;
-    export function readFileSync(name: string): Uint8Array;
+    export function readFileSync(name: string | Uint8Array): Buffer;
     export function readFileSync(name: string, encoding: 'latin1'): string;
-    export function realpathSync(name: string): string;
+    export const realpathSync: { (name: string): string, native(name: string | Uint8Array, encoding: 'buffer'): Buffer };
     export function renameSync(name: string, other: string): void;
-    export function statSync(name: string): { mode: number, isFile(): boolean, isDirectory(): boolean };
-    export function statSync(name: string, how: { bigint: true }): { dev: bigint, ino: bigint };
+    export function statSync(name: string | Uint8Array): { mode: number, size: number, mtime: Date, isFile(): boolean, isDirectory(): boolean };
+    export function statSync(name: string | Uint8Array, how: { bigint: true }): { dev: bigint, ino: bigint };
     export function readSync(descriptor: number, bytes: Uint8Array, at: number, length: number, place: number): number;
-    export function readdirSync(name: string): string[];
-    export function readdirSync(name: string, how: { withFileTypes: true }): { name: string, isFile(): boolean, isDirectory(): boolean,
+    export function readdirSync(name: string | Uint8Array, encoding: 'buffer'): Buffer[];
+    export function readdirSync(name: string | Uint8Array, how: { withFileTypes: true, encoding: 'buffer' }): { name: Buffer, isFile(): boolean, isDirectory(): boolean,
         isSymbolicLink(): boolean }[];
     export function unlinkSync(name: string): void;
     export function writeSync(descriptor: number, bytes: Uint8Array, at: number, length?: number, place?: number): number;

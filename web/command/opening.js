@@ -1,15 +1,16 @@
 // Opens what the first argument of a job names: a raw image, or a cue sheet and the files that it names.
 
-import { basename, dirname, join } from 'node:path';
+import { dirname } from 'node:path';
 import { wholeOf } from '../core/bytes.js';
-import { sheetOf } from '../core/disc/cue.js';
+import { sheetsOf } from '../core/disc/cue.js';
 import { dataTrack, openDisc } from '../core/disc/disc.js';
 import { natureOf } from '../core/disc/file_type.js';
 import { FAULT, Fault, failedBy } from '../core/faults.js';
 import { baseFault } from '../core/script/base_said.js';
 import { imageTooLong } from '../core/sectors/sector.js';
-import { textOfFile } from '../core/texts/encodings.js';
+import { tryFile } from './failures.js';
 import { MESSAGES } from './messages.js';
+import { pathsOfSheet } from './sheet_files.js';
 
 /** @typedef {import('../core/disc/disc.js').Disc} Disc */
 /** @typedef {import('../core/disc/disc.js').DiscFile} DiscFile */
@@ -46,16 +47,15 @@ async function openNamedFiles(run, files) {
 }
 
 /**
- * The files that a cue sheet names, as far as they are there: beside it, in capitals or not. The core chooses among them.
+ * The files that a cue sheet names, as far as they are there. The core chooses among them.
  * @param {Run} run
  * @param {DiscFile} sheet
  */
 async function filesOfSheet(run, { name, reader }) {
-    const { files } = sheetOf(textOfFile(await wholeOf(reader)));
-    const named = new Set(files.map(file => basename(file.name.replace(/\\/g, '/')).toLowerCase()));
-    const there = (await run.files.namesIn(dirname(name))).filter(it => named.has(it.toLowerCase()));
+    const sheets = sheetsOf(await wholeOf(reader));
+    const paths = await tryFile('read', dirname(name), () => pathsOfSheet(name, sheets));
     const opened = [];
-    for (const it of there) opened.push(await run.files.imageOfSheet(join(dirname(name), it)));
+    for (const path of new Set(paths.flat())) if (path !== null) opened.push(await run.files.imageOfSheet(path));
     return opened;
 }
 

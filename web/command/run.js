@@ -91,6 +91,7 @@ export class Run {
                 throw failedBy(error, FAULT.FILE) || !(error instanceof Fault) ? error : new Fault(`${name}: ${error.message}`);
             });
         }
+        if (known.leftOut > 0) this.say(`entries of the DAT without a size or a hash, which match no file: ${known.leftOut}`);
         return dat.length > 0 ? known : null;
     }
 

@@ -1,30 +1,41 @@
 // The list that `scan` writes, which goes on where an earlier run was interrupted.
 
-import { closeSync, ftruncateSync, openSync, readFileSync, readSync } from 'node:fs';
+import { closeSync, ftruncateSync, openSync, readFileSync, readSync, statSync } from 'node:fs';
+import { basename } from 'node:path';
 import { bytesOfLines } from '../core/bytes.js';
 import { Fault } from '../core/faults.js';
-import { tryFile } from './failures.js';
+import { hasCode, tryFile } from './failures.js';
+import { timeText } from './files.js';
+import { lockList } from './list_lock.js';
+import { listedName, nameOfListed, pathOf } from './names.js';
+import { letSignalsIn } from './pausing.js';
 import { replaceFile, writeFully } from './new_file.js';
 
 /** @typedef {import('../core/disc/dat.js').KnownDumps} KnownDumps */
+/** @typedef {import('./hashes.js').Needs} Needs */
+/** @typedef {import('./hashes.js').Verdicts} Verdicts */
 /** @typedef {import('./run.js').Run} Run */
 /** @typedef {import('./scan_thread.js').Scanned} Scanned */
 
 const LINE_FEED = 0x0A;
 
-/** A line of a list, as `scan` writes it. Those of earlier versions have `0` for `-`, and none begins its kinds with NONE. */
-const LISTED = /^[^\t]+\t[^\t]*\t(?:\d+|-)\t(?:\d+|-)\t(?:\d+|-)\t[0-9a-f]{40}\t[^\t]+$/;
+/**
+ * A line of a list, as `scan` writes it. Those of earlier versions may have `0` for `-`, or begin no kinds with NONE, and they end after
+ * the seventh column.
+ */
+const LISTED = new RegExp(['^[^\\t]+', '[^\\t]*', '(?:\\d+|-)', '(?:\\d+|-)', '(?:\\d+|-)', '[0-9a-f]{40}',
+    '[^\\t]+(?:', '\\d+', '(?:[-0-9T:.+]+Z|-)', '(?:[0-9a-f]{8}|-)', '(?:[0-9a-f]{32}|-))?$'].join('\\t'));
 
 /** What stands for the kinds of sectors before what a file is that no disc is of. */
 export const NONE = 'none: ';
 
-/** What stands in a column of what was not tested. */
+/** What stands in a column of what was not tested or not computed. */
 const UNTESTED = '-';
 
-/** The columns of the SHA-1 and of what a DAT knows, the last one. */
-const [SHA1, SAID] = [5, 6];
+/** Columns, by their places. A line of an earlier version ends after that of what a DAT knows. */
+const [KINDS, FINDINGS, SHA1, SAID, BYTES, CHANGED, CRC32, MD5] = [1, 3, 5, 6, 7, 8, 9, 10];
 
-/** What stands in the last column if no DAT was given, and if none of its dumps is the file. */
+/** What stands in the column of a DAT if none was given, and if none of its dumps is the file. */
 const NO_DAT = '-';
 const NOT_IN_DAT = 'not in the DAT';
 
@@ -41,17 +52,59 @@ function isListed(line) {
  * @param {Scanned} file
  * @param {KnownDumps | null} known
  */
-export function listedLine({ name, kinds, mode1, damaged, findings, elsewhere, size, sha1 }, known) {
+export function listedLine({ name, kinds, mode1, damaged, findings, elsewhere, size, changed, hashes }, known) {
     const numbers = [damaged, findings, elsewhere].map(it => mode1 > 0 || it > 0 ? it : UNTESTED);
-    const said = known === null ? NO_DAT : known.said(size, sha1) || NOT_IN_DAT;
-    return [listedName(name), kinds, ...numbers, sha1, listedName(said)].join('\t');
+    const said = known === null ? NO_DAT : known.said(size, hashes, basename(name)) || NOT_IN_DAT;
+    const more = [changed, hashes.crc32, hashes.md5].map(it => it || UNTESTED);
+    return [listedName(name), kinds, ...numbers, hashes.sha1, listedName(said), size, ...more].join('\t');
+}
+
+/**
+ * What a DAT knows of the file of a line.
+ * @param {string[]} row
+ * @param {KnownDumps} known
+ */
+function saidOfRow(row, known) {
+    const own = basename(nameOfListed(row[0]));
+    if (row.length <= BYTES) return listedName(known.saidOfSha1(row[SHA1], own) || NOT_IN_DAT);
+    const [crc32, md5] = [row[CRC32], row[MD5]].map(it => it === UNTESTED ? '' : it);
+    const said = known.said(Number(row[BYTES]), { sha1: row[SHA1], crc32, md5 }, own);
+    return said !== null ? listedName(said) : lacksHash(row, known.needs) ? NO_DAT : NOT_IN_DAT;
+}
+
+/**
+ * Whether a hash that a DAT asks for was not computed.
+ * @param {string[]} row
+ * @param {Needs} needs
+ */
+function lacksHash(row, needs) {
+    return (needs.crc32 && row[CRC32] === UNTESTED) || (needs.md5 && row[MD5] === UNTESTED);
+}
+
+/**
+ * What became of the file of a line: it is `gone`, it is the `same` by size and time, or perhaps `other`.
+ * @param {string[]} row
+ * @param {Needs} needs
+ */
+function fateOf(row, needs) {
+    try {
+        const stat = statSync(pathOf(nameOfListed(row[0])));
+        const isSame = row[BYTES] === `${stat.size}` && row[CHANGED] === (timeText(stat) || UNTESTED);
+        return isSame && !lacksHash(row, needs) ? 'same' : 'other';
+    } catch (error) {
+        return hasCode(error, 'ENOENT') || hasCode(error, 'ENOTDIR') ? 'gone' : 'other';
+    }
 }
 
 /** A list that goes on where an earlier run was interrupted. It has whole lines only, whatever happens. */
 export class ResumedList {
-    /** @param {string} name */
-    constructor(name) {
+    /**
+     * @param {string} name
+     * @param {string} lock the place of its lock
+     */
+    constructor(name, lock) {
         this.name = name;
+        this.lock = lock;
         this.descriptor = openSync(name, 'a+');
         this.size = 0;
         /** @type {string[][]} the columns of what was done */
@@ -88,22 +141,58 @@ export class ResumedList {
     }
 
     hasFindings() {
-        return this.rows.some(([,,, findings]) => Number(findings) > 0);
+        return this.rows.some(row => Number(row[FINDINGS]) > 0);
     }
 
     /** What each file is that no disc is of, by its name in the list. */
     others() {
-        return new Map(this.rows.filter(([, kinds]) => kinds.startsWith(NONE)).map(([name, kinds]) => [name, kinds.slice(NONE.length)]));
+        return new Map(this.rows.filter(isOther).map(row => [row[0], row[KINDS].slice(NONE.length)]));
     }
 
     /**
-     * Looks all lines up in a DAT, by their SHA-1: perhaps there was none before, or another. Returns how many lines change.
+     * Takes the lines out whose files are perhaps other ones now, of those that are looked at again. Returns how many files are gone, whose
+     * lines stay.
+     * @param {Set<string>} wanted the names of what is looked at
+     * @param {Needs} needs
+     */
+    async dropOld(wanted, needs) {
+        /** @type {string[]} */
+        const fates = [];
+        for (const row of this.rows) {
+            await letSignalsIn();
+            fates.push(fateOf(row, needs));
+        }
+        await this.replace(this.rows.filter((row, i) => fates[i] !== 'other' || !wanted.has(row[0])));
+        return fates.filter(it => it === 'gone').length;
+    }
+
+    /**
+     * Looks all lines up in a DAT: perhaps there was none before, or another. Returns how many lines change.
      * @param {KnownDumps} known
      */
     async lookUp(known) {
-        const rows = this.rows.map(row => [...row.slice(0, -1), listedName(known.saidOfSha1(row[SHA1]) || NOT_IN_DAT)]);
+        const rows = this.rows.map(row => row.map((it, i) => i === SAID ? saidOfRow(row, known) : it));
         const changed = rows.filter((row, i) => row[SAID] !== this.rows[i][SAID]).length;
-        if (changed === 0) return 0;
+        if (changed > 0) await this.replace(rows);
+        return changed;
+    }
+
+    /**
+     * Counts what a DAT knows of the files of all lines.
+     * @param {Verdicts} verdicts
+     */
+    count(verdicts) {
+        for (const row of this.rows) {
+            if (row[SAID] !== NO_DAT) verdicts.add(row[SAID] === NOT_IN_DAT ? null : row[SAID], Number(row[BYTES]), !isOther(row));
+        }
+    }
+
+    /**
+     * Writes other lines in the place of all.
+     * @param {string[][]} rows
+     */
+    async replace(rows) {
+        if (rows.length === this.rows.length && rows.every((row, i) => row === this.rows[i])) return;
         const bytes = bytesOfLines(rows.map(row => row.join('\t')));
         await tryFile('write', this.name, () => {
             replaceFile(this.name, bytes);
@@ -112,7 +201,6 @@ export class ResumedList {
             this.descriptor = descriptor;
         });
         [this.rows, this.size] = [rows, bytes.length];
-        return changed;
     }
 
     /** @param {Uint8Array} bytes of whole lines */
@@ -133,13 +221,9 @@ export class ResumedList {
     }
 }
 
-/**
- * A name as a list has it: no two names are the same there, and none has a tab or a line end.
- * @param {string} name
- */
-export function listedName(name) {
-    const digits = (/** @type {string} */ it) => (it.codePointAt(0) || 0).toString(16);
-    return name.replace(/[\p{C}\p{Zl}\p{Zp}\\]/gu, it => it === '\\' ? '\\\\' : `\\u{${digits(it)}}`);
+/** @param {string[]} row */
+function isOther(row) {
+    return row[KINDS].startsWith(NONE);
 }
 
 /**
@@ -150,7 +234,11 @@ export async function resumedList(run) {
     const { resume, output } = run.options;
     if (resume === undefined) return null;
     if (output !== undefined) throw new Fault('--resume and -o exclude each other');
-    const list = await tryFile('open', resume, () => new ResumedList(resume));
+    await tryFile('open', resume, () => closeSync(openSync(resume, 'a+')));
+    run.files.onmake();
+    const lock = lockList(resume);
+    run.files.unfinished.add(lock);
+    const list = await tryFile('open', resume, () => new ResumedList(resume, lock.place));
     list.goOn(await tryFile('read', resume, () => list.bytes()));
     return list;
 }

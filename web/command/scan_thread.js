@@ -11,15 +11,17 @@ import { openDiscOf } from './opening.js';
 import { untestedText } from './printed.js';
 import { Run, takeModule } from './run.js';
 import { NONE } from './scan_list.js';
-import { findingsIn, foundInFiles, sha1Of, unsurveyedTracks } from './surveying.js';
+import { findingsIn, foundInFiles, hashesOf, unsurveyedTracks } from './surveying.js';
 
 /** @typedef {import('../core/disc/disc.js').Disc} Disc */
 /** @typedef {import('../core/disc/disc.js').DiscFile} DiscFile */
+/** @typedef {import('../core/disc/dat.js').Hashes} Hashes */
+/** @typedef {import('./hashes.js').Needs} Needs */
 /** @typedef {import('./surveying.js').FileFound} FileFound */
 /**
- * A file with what is found in it. Without Mode 1 no sector was tested.
- * @typedef {{ name: string, size: number, sha1: string, kinds: string, mode1: number, damaged: number, findings: number,
- *     elsewhere: number }} Scanned
+ * A file with what is found in it; `changed` is when it was changed, '' if the system does not say it. Without Mode 1 no sector was tested.
+ * @typedef {{ name: string, size: number, changed: string, hashes: Required<Hashes>, kinds: string, mode1: number, damaged: number,
+ *     findings: number, elsewhere: number }} Scanned
  */
 /**
  * What is found in the files of an image or a sheet; what is to be said of them; names that are not there; why nothing is found, '' if
@@ -56,17 +58,20 @@ function kindsText(surveys, unsurveyed, tail) {
 }
 
 /**
+/**
+ * @param {Run} run
  * @param {Disc} disc
  * @param {FileFound} found
  * @param {number} file
  * @returns {Scanned}
  */
-function scanned(disc, found, file) {
-    const { file: { name, reader }, sha1, surveys, tail } = found;
+function scanned(run, disc, found, file) {
+    const { file: { name, reader }, hashes, surveys, tail } = found;
     const sum = (/** @type {(it: FileFound['surveys'][0]) => number} */ of) => surveys.reduce((all, it) => all + of(it), 0);
     const [mode1, damaged, elsewhere] = [sum(it => it.mode1), sum(it => it.damaged), sum(it => it.elsewhere)];
     const kinds = kindsText(surveys, unsurveyedKinds(disc, file), tail);
-    return { name, size: reader.size, sha1, kinds, mode1, damaged, findings: findingsIn(found), elsewhere };
+    const changed = run.files.changed.get(name) || '';
+    return { name, size: reader.size, changed, hashes, kinds, mode1, damaged, findings: findingsIn(found), elsewhere };
 }
 
 /**
@@ -81,13 +86,15 @@ function unsurveyedKinds(disc, file) {
 
 /**
  * What is found in a file that no disc is of.
+ * @param {Run} run
  * @param {DiscFile} file
  * @param {string} what it is
+ * @param {Needs} needs
  * @returns {Promise<Answer>}
  */
-async function otherFile({ name, reader }, what) {
-    const sha1 = await sha1Of(reader);
-    const file = { name, size: reader.size, sha1, kinds: `${NONE}${what}`, mode1: 0, damaged: 0, findings: 0, elsewhere: 0 };
+async function otherFile(run, { name, reader }, what, needs) {
+    const [hashes, changed] = [await hashesOf(reader, needs), run.files.changed.get(name) || ''];
+    const file = { name, size: reader.size, changed, hashes, kinds: `${NONE}${what}`, mode1: 0, damaged: 0, findings: 0, elsewhere: 0 };
     return { files: [file], notes: [], missing: [], fault: '', other: what };
 }
 
@@ -107,9 +114,10 @@ function sayUntested(run, { sheet }, { file: { name }, surveys }) {
 /**
  * What is found in an image, or in the files of a sheet.
  * @param {string} name
+ * @param {Needs} needs
  * @returns {Promise<Answer>}
  */
-export async function scanOne(name) {
+export async function scanOne(name, needs) {
     const files = new Files(0);
     /** @type {string[]} */
     const notes = [];
@@ -118,13 +126,13 @@ export async function scanOne(name) {
     try {
         const opened = await files.image(name);
         const { kind, what } = await natureOf(run.calls, opened.reader);
-        if (kind !== 'raw' && kind !== 'audio' && kind !== 'cue') return await otherFile(opened, what);
+        if (kind !== 'raw' && kind !== 'audio' && kind !== 'cue') return await otherFile(run, opened, what, needs);
         const disc = await openDiscOf(run, name);
         const gone = disc.tracks.filter(({ file }) => file < 0);
         const missing = gone.map(({ number }) => `track ${number} of ${name} is in a file that is not there`);
-        const found = await foundInFiles(run, disc);
+        const found = await foundInFiles(run, disc, needs);
         found.forEach(it => sayUntested(run, disc, it));
-        return { files: found.map((it, i) => scanned(disc, it, i)), notes, missing, fault: '', other: '' };
+        return { files: found.map((it, i) => scanned(run, disc, it, i)), notes, missing, fault: '', other: '' };
     } catch (error) {
         if (!(error instanceof Fault)) throw error;
         const fault = error.facts.file === name ? error.message : `${name}: ${error.message}`;
@@ -142,8 +150,8 @@ export function serveScan(module) {
     if (parentPort === null) return;
     takeModule(module);
     const port = parentPort;
-    port.on('message', name => {
-        scanOne(name).catch(error => ({ files: [], notes: [], missing: [], fault: `${name}: ${error}`, other: '' }))
+    port.on('message', ({ name, needs }) => {
+        scanOne(name, needs).catch(error => ({ files: [], notes: [], missing: [], fault: `${name}: ${error}`, other: '' }))
             .then(answer => port.postMessage(answer, []));
     });
 }

@@ -1,15 +1,13 @@
 // The job `scan`: what is in each image of a collection, a line for each as it is done.
 
-import { fstatSync, readFileSync, readdirSync, realpathSync, statSync } from 'node:fs';
 import { cpus } from 'node:os';
-import { basename, dirname, join } from 'node:path';
+import { basename } from 'node:path';
 import { bytesOfLines } from '../core/bytes.js';
-import { sheetOf } from '../core/disc/cue.js';
-import { Fault } from '../core/faults.js';
-import { textOfFile } from '../core/texts/encodings.js';
-import { reasonOf } from './failures.js';
+import { Collection, filesNamedBy, isSheetName, realName } from './collection.js';
+import { SHA1_ONLY, Verdicts } from './hashes.js';
+import { listedName } from './names.js';
 import { compiledModule } from './run.js';
-import { listedLine, listedName, resumedList } from './scan_list.js';
+import { NONE, listedLine, resumedList } from './scan_list.js';
 import { scanOne } from './scan_thread.js';
 import { begunThread } from './threads.js';
 
@@ -18,71 +16,16 @@ import { begunThread } from './threads.js';
 /** @typedef {import('./run.js').Target} Target */
 /** @typedef {import('./scan_list.js').ResumedList} ResumedList */
 /** @typedef {import('./scan_thread.js').Answer} Answer */
+/** @typedef {import('./collection.js').Wanted} Wanted */
+/** @typedef {import('./hashes.js').Needs} Needs */
 /** @typedef {{ scan(name: string): Promise<Answer>, close(): void }} Scanner */
 
-/** What is looked at, each once: by the paths that were given, directories and all below them in the order of their names. */
-class Collection {
-    /**
-     * @param {(text: string) => void} fault
-     * @param {Target} target which is no part of it, wherever it is
-     */
-    constructor(fault, { descriptor }) {
-        this.fault = fault;
-        const { dev, ino } = fstatSync(descriptor, { bigint: true });
-        this.isTarget = (/** @type {string} */ name) => {
-            const found = statSync(name, { bigint: true });
-            return found.dev === dev && found.ino === ino;
-        };
-        /** @type {Map<string, { name: string, isNamed: boolean }>} by the real path */
-        this.found = new Map();
-    }
-
-    /** @param {string} path that was given */
-    add(path) {
-        this.tried(path, () => statSync(path).isDirectory() ? this.addAll(path) : this.addFile(path, true));
-    }
-
-    /** @param {string} directory */
-    addAll(directory) {
-        const entries = readdirSync(directory, { withFileTypes: true }).sort((a, b) => Number(a.name > b.name) - Number(a.name < b.name));
-        for (const entry of entries) {
-            const path = join(directory, entry.name);
-            // A link to a directory could lead round.
-            if (entry.isDirectory()) this.tried(path, () => this.addAll(path));
-            else if (entry.isFile() || entry.isSymbolicLink()) this.tried(path, () => statSync(path).isFile() && this.addFile(path, false));
-        }
-    }
-
-    /**
-     * @param {string} name
-     * @param {boolean} isNamed whether it was given by its name
-     */
-    addFile(name, isNamed) {
-        const real = realpathSync(name);
-        if (!this.isTarget(real) && !this.found.has(real)) this.found.set(real, { name, isNamed });
-    }
-
-    /**
-     * @param {string} path
-     * @param {() => void} tried
-     */
-    tried(path, tried) {
-        try {
-            tried();
-        } catch (error) {
-            if (error instanceof Fault) throw error;
-            this.fault(`cannot read ${path}: ${reasonOf(error)}`);
-        }
-    }
-
-    /** Cue sheets first, so that what they name is not looked at twice. */
-    names() {
-        return [...this.found.values()].sort((a, b) => Number(isSheetName(b.name)) - Number(isSheetName(a.name)));
-    }
-}
-
-/** @returns {Scanner} a thread that looks into images; without threads this one does, and after a thread has failed */
-function newScanner() {
+/**
+ * A thread that looks into images; without threads this one does, and after a thread has failed.
+ * @param {Needs} needs
+ * @returns {Scanner}
+ */
+function newScanner(needs) {
     const thread = begunThread({ module: compiledModule(), scans: true });
     let isGone = false;
     /** @type {(answer: Answer) => void} */
@@ -98,11 +41,11 @@ function newScanner() {
     }
     return {
         async scan(name) {
-            if (thread === null || !await thread.begun || isGone) return scanOne(name);
+            if (thread === null || !await thread.begun || isGone) return scanOne(name, needs);
             return new Promise(resolve => {
                 settle = resolve;
                 fail = error => resolve({ files: [], notes: [], missing: [], fault: `${name}: ${error}`, other: '' });
-                thread.worker.postMessage(name, []);
+                thread.worker.postMessage({ name, needs }, []);
             });
         },
         close: () => void (thread && thread.worker.terminate()),
@@ -115,13 +58,14 @@ class Scan {
      * @param {Run} run
      * @param {Target} target
      * @param {KnownDumps | null} known
-     * @param {Set<string>} done the names in a list that goes on
      */
-    constructor(run, target, known, done) {
+    constructor(run, target, known) {
         this.run = run;
         this.target = target;
         this.known = known;
-        this.done = done;
+        this.verdicts = known && new Verdicts(known);
+        /** @type {Set<string>} the names in a list that goes on */
+        this.done = new Set();
         /** @type {{ name: string, what: string }[]} files in directories that no disc is of */
         this.others = [];
         this.status = 0;
@@ -136,7 +80,7 @@ class Scan {
     }
 
     /**
-     * @param {{ name: string, isNamed: boolean }} wanted
+     * @param {Wanted} wanted
      * @param {Answer} answer
      */
     async tell({ name: wanted, isNamed }, { files, notes, missing, fault, other }) {
@@ -146,10 +90,17 @@ class Scan {
         missing.forEach(text => this.fault(text));
         const fresh = files.filter(({ name }) => !this.told.has(realName(name)));
         fresh.forEach(({ name }) => this.told.add(realName(name)));
-        const lines = fresh.filter(({ name }) => !this.done.has(listedName(name))).map(it => listedLine(it, this.known));
+        const unlisted = fresh.filter(({ name }) => !this.done.has(listedName(name)));
+        const lines = unlisted.map(it => listedLine(it, this.known));
+        unlisted.forEach(it => this.count(it));
         if (fresh.some(({ findings }) => findings > 0)) this.status = Math.max(this.status, 1);
         if (lines.length > 0) await this.target.write(bytesOfLines(lines));
         this.run.output.flush();
+    }
+
+    /** @param {import('./scan_thread.js').Scanned} file that a DAT may know */
+    count({ name, size, hashes, kinds }) {
+        if (this.verdicts) this.verdicts.add(this.verdicts.known.said(size, hashes, basename(name)), size, !kinds.startsWith(NONE));
     }
 
     /**
@@ -183,64 +134,47 @@ class Scan {
     }
 }
 
-/** @param {string} name */
-function isSheetName(name) {
-    return /\.cue$/i.test(name);
-}
-
-/**
- * The files that a sheet names, beside it; none if it can't be read, which is said when it is looked at.
- * @param {string} name
- */
-function filesNamedBy(name) {
-    try {
-        return sheetOf(textOfFile(readFileSync(name))).files.map(file => join(dirname(name), basename(file.name.replace(/\\/g, '/'))));
-    } catch {
-        return [];
-    }
-}
-
-/** @param {string} name of a file that may be gone */
-function realName(name) {
-    try {
-        return realpathSync(name);
-    } catch {
-        return name;
-    }
-}
-
 /** @param {Run} run */
 export async function scanJob(run) {
     const known = await run.knownDumps();
     const list = await resumedList(run);
-    const scan = new Scan(run, list || await run.target(), known, list ? list.done() : new Set());
-    if (list && list.hasFindings()) scan.status = 1;
-    const collection = new Collection(text => scan.fault(text), scan.target);
-    run.names.forEach(path => collection.add(path));
+    const scan = new Scan(run, list || await run.target(), known);
+    const collection = new Collection(text => scan.fault(text), scan.target, list ? list.lock : '');
+    await collection.addPaths(run.names);
     const names = collection.names();
     const sheets = names.filter(({ name }) => isSheetName(name));
-    const scanners = Array.from({ length: Math.min(cpus().length || 1, names.length) }, newScanner);
+    const needs = known ? known.needs : SHA1_ONLY;
+    const scanners = Array.from({ length: Math.min(cpus().length || 1, names.length) }, () => newScanner(needs));
     try {
-        if (list) await goOn(scan, list, names);
+        if (list) await goOn(scan, list, names, needs);
         for (const some of [sheets, names.slice(sheets.length)]) await scanAll(scan, some, scanners);
     } finally {
         scanners.forEach(scanner => scanner.close());
         if (list) list.close();
     }
     sayOthers(run, scan.others);
-    return scan.status;
+    if (scan.verdicts === null) return scan.status;
+    run.say(scan.verdicts.text());
+    return Math.max(scan.status, scan.verdicts.status);
 }
 
 /**
  * What a list says is said as by a run that was not interrupted: what its DAT knows of each line, and what the files are that were given
- * by their names and are no images.
+ * by their names and are no images. Lines whose files are other ones now are taken out, so that these are looked at again.
  * @param {Scan} scan
  * @param {ResumedList} list
- * @param {{ name: string, isNamed: boolean }[]} names
+ * @param {Wanted[]} names
+ * @param {Needs} needs
  */
-async function goOn(scan, list, names) {
+async function goOn(scan, list, names, needs) {
+    const wanted = names.flatMap(({ name }) => isSheetName(name) ? [name, ...filesNamedBy(name)] : [name]);
+    const gone = await list.dropOld(new Set(wanted.map(listedName)), needs);
+    if (gone > 0) scan.run.say(`${list.name}: files that no longer exist, whose lines are kept: ${gone}`);
+    scan.done = list.done();
+    if (list.hasFindings()) scan.status = Math.max(scan.status, 1);
     const changed = scan.known === null ? 0 : await list.lookUp(scan.known);
-    if (changed > 0) scan.run.say(`${list.name}: its last column now says what the DAT knows, lines that changed: ${changed}`);
+    if (changed > 0) scan.run.say(`${list.name}: its seventh column now says what the DAT knows, lines that changed: ${changed}`);
+    if (scan.verdicts) list.count(scan.verdicts);
     const others = list.others();
     for (const { name } of names.filter(it => it.isNamed)) {
         const what = others.get(listedName(name));
@@ -263,7 +197,7 @@ function sayOthers(run, others) {
 
 /**
  * @param {Scan} scan
- * @param {{ name: string, isNamed: boolean }[]} names
+ * @param {Wanted[]} names
  * @param {Scanner[]} scanners
  */
 async function scanAll(scan, names, scanners) {

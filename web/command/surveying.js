@@ -1,6 +1,5 @@
-// What is found in the files of a disc: in the sectors of its data tracks, and the SHA-1 of each file.
+// What is found in the files of a disc: in the sectors of its data tracks, and the hashes of each file.
 
-import { createHash } from 'node:crypto';
 import { readBytes } from '../core/bytes.js';
 import { addressShift } from '../core/images/common_part.js';
 import { lackOf } from '../core/iso/volume_end.js';
@@ -8,6 +7,7 @@ import { MODE1, lostSectors, mode1Tracks, otherSectors } from '../core/sectors/l
 import { blocksIn } from '../core/sectors/runs.js';
 import { SECTOR_SIZE, sectorCount } from '../core/sectors/sector.js';
 import { surveyCounts } from '../core/sectors/survey.js';
+import { RunningHashes, SHA1_ONLY } from './hashes.js';
 import { openTrack, sayUnknownBase } from './opening.js';
 import { turn } from './pausing.js';
 
@@ -18,6 +18,8 @@ import { turn } from './pausing.js';
 /** @typedef {import('../core/iso/volume_end.js').Lack} Lack */
 /** @typedef {import('../core/sectors/runs.js').Run} BlockRun */
 /** @typedef {import('../core/sectors/survey.js').Survey} Survey */
+/** @typedef {import('../core/disc/dat.js').Hashes} Hashes */
+/** @typedef {import('./hashes.js').Needs} Needs */
 /** @typedef {import('./run.js').Run} Run */
 /**
  * A track, which is `part` of `image`; whether that is all of its file; and the tracks that a sheet says are Mode 1 in it.
@@ -28,7 +30,7 @@ import { turn } from './pausing.js';
 /** @typedef {ReturnType<typeof surveyCounts> & { survey: Survey, lack: Lack | null } & Lost} Counted */
 /**
  * A file of a disc, what is found in it, and how many bytes come after its last whole sector.
- * @typedef {{ file: DiscFile, sha1: string, surveys: (Surveyed & Counted)[], tail: number }} FileFound
+ * @typedef {{ file: DiscFile, hashes: Required<Hashes>, surveys: (Surveyed & Counted)[], tail: number }} FileFound
  */
 
 /**
@@ -43,13 +45,14 @@ export function unsurveyedTracks({ tracks }) {
 const HASH_STEP = 1 << 20;
 
 /**
- * A reader that hashes what it is read, which has to be all bytes, one after the other; and its SHA-1, after what was not read yet.
+ * A reader that hashes what it is read, which has to be all bytes, one after the other; and its hashes, after what was not read yet.
  * @param {Reader} reader
- * @returns {Reader & { digest(): Promise<string> }}
+ * @param {Needs} needs
+ * @returns {Reader & { digest(): Promise<Required<Hashes>> }}
  */
-function hashing(reader) {
+function hashing(reader, needs) {
     const { size } = reader;
-    const hash = createHash('sha1');
+    const hash = new RunningHashes(needs);
     let hashed = 0;
     return {
         size,
@@ -66,14 +69,17 @@ function hashing(reader) {
                 await readBytes(this, hashed, Math.min(HASH_STEP, size - hashed), room);
                 await turn();
             }
-            return hash.digest('hex');
+            return hash.digest();
         },
     };
 }
 
-/** @param {Reader} reader */
-export function sha1Of(reader) {
-    return hashing(reader).digest();
+/**
+ * @param {Reader} reader
+ * @param {Needs} needs
+ */
+export function hashesOf(reader, needs) {
+    return hashing(reader, needs).digest();
 }
 
 /**
@@ -152,14 +158,15 @@ function isHashedBeside(run, reader) {
  * What is found in each file of a disc.
  * @param {Run} run
  * @param {Disc} disc
+ * @param {Needs} [needs]
  * @returns {Promise<FileFound[]>}
  */
-export async function foundInFiles(run, disc) {
+export async function foundInFiles(run, disc, needs = SHA1_ONLY) {
     const surveyed = await surveyedTracks(run, disc);
     const found = [];
     for (const [i, file] of disc.files.entries()) {
         const own = surveyed.filter(it => it.file === i);
-        const hashed = hashing(file.reader);
+        const hashed = hashing(file.reader, needs);
         const isBeside = own.length > 0 && isHashedBeside(run, file.reader);
         const beside = isBeside ? hashed.digest() : null;
         if (beside !== null) beside.catch(() => {}); // it is thrown when its turn comes
@@ -168,7 +175,7 @@ export async function foundInFiles(run, disc) {
             const reader = it.isWhole && !isBeside ? hashed : it.image.reader;
             surveys.push({ ...it, ...await countedSurvey(run, disc, it, reader) });
         }
-        found.push({ file, sha1: await (beside || hashed.digest()), surveys, tail: tailOf(disc, i) });
+        found.push({ file, hashes: await (beside || hashed.digest()), surveys, tail: tailOf(disc, i) });
     }
     return found;
 }

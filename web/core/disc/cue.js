@@ -2,6 +2,7 @@
 
 import { Fault } from '../faults.js';
 import { SECTOR_SIZE } from '../module/numbers.js';
+import { textsOfFile } from '../texts/encodings.js';
 
 /** @typedef {{ name: string, raw: boolean }} SheetFile `raw` if its bytes are sectors, as in BINARY */
 /** @typedef {{ track: SheetTrack, index: number, file: number, frame: number }} Point where an index of a track begins in a file */
@@ -19,6 +20,8 @@ const RAW_FORMATS = ['BINARY', 'MOTOROLA'];
 /** Blocks count from the end of a pause of two seconds, which the first track's pregap begins with. */
 const FIRST_PAUSE = 150;
 export const LAST_TRACK = 99;
+/** A track may have a file of its own for its pause. */
+const MOST_FILES = 2 * LAST_TRACK;
 
 /**
  * Why a line of a cue sheet can't be used.
@@ -51,6 +54,16 @@ export function sheetOf(text) {
     return sheet;
 }
 
+/**
+ * What the bytes of a cue sheet may say: which of two encodings its names are in only files of these names show. Throws a Fault.
+ * @param {Uint8Array} bytes
+ * @returns {Sheet[]} one, or two
+ */
+export function sheetsOf(bytes) {
+    const [text, ...others] = textsOfFile(bytes);
+    return [sheetOf(text), ...others.map(sheetOf)];
+}
+
 /** @type {Record<string, (sheet: Sheet, rest: string, line: number) => void>} */
 const SHEET_COMMANDS = {
     FILE: readFileLine,
@@ -66,6 +79,7 @@ function readFileLine(sheet, rest, line) {
     const before = rest.slice(0, rest.length - format.length).trimEnd();
     const [, name] = /^"([^"]*)"$/.exec(before) || /^([^"].*)$/s.exec(before) || [];
     if (name === undefined) throw sheetFault('FILE needs a name and a format', line);
+    if (sheet.files.length >= MOST_FILES) throw sheetFault(`more than ${MOST_FILES} files`, line);
     sheet.files.push({ name, raw: RAW_FORMATS.includes(format.toUpperCase()) });
 }
 

@@ -1,10 +1,17 @@
-// Known dumps: the list of a DAT (Logiqx XML), by size and SHA-1. It is read in pieces, and what it may hold is bounded.
+// Known dumps: the list of a DAT (Logiqx XML), by size and hashes. It is read in pieces, and what it may hold is bounded.
 
 import { Fault } from '../faults.js';
+import { TagReader } from './dat_tags.js';
+import { textOfDat } from './dat_text.js';
 
-/** @typedef {{ name: string, size: number, isBad: boolean }} Dump `isBad` if the DAT says that it is a bad one */
+/** @typedef {{ sha1: string, crc32?: string, md5?: string }} Hashes of a file, in small letters, as far as they are known */
+/**
+ * A dump of some size and hash. Several entries may have it: `name` is the first that is not a bad dump, or else the first, and `names`
+ * has all if there is more than one, and whether each is bad. `md5` is '' if the entry has a SHA-1.
+ * @typedef {{ name: string, size: number, isBad: boolean, md5: string, names: Map<string, boolean> | null }} Dump
+ */
+/** @typedef {{ name: string, isBad: boolean, others: number }} Found an entry, and how many other ones have the same hash */
 
-const LONGEST_TAG = 1 << 14;
 const LONGEST_NAME = 512;
 const DEEPEST_ELEMENT = 16;
 const MOST_DUMPS = 400000;
@@ -12,13 +19,21 @@ const MOST_DUMPS = 400000;
 const ONLY_SIZE = 'the DAT has a dump of this size, but none with this SHA-1: perhaps another dump of the disc repairs it';
 const NOT_EVEN_SIZE = 'the DAT has no dump of this size: perhaps it is cut, or of another disc';
 
-/** @type {Record<string, string>} */
-const ENTITIES = { amp: '&', lt: '<', gt: '>', quot: '"', apos: "'" };
+/** What begins what is said of a bad dump. */
+export const BAD_DUMP = 'known as a bad dump:';
 
-/** Where a comment begins. The script of the page may not have that as it is. */
-const COMMENT = /<[!]--/y;
+const SOFTWARE_LIST = 'it is a software list of MAME, and not a DAT in Logiqx XML';
+const NOT_A_DAT = 'it is not a DAT in Logiqx XML';
 
-const ATTRIBUTE = /\s+([\w:.-]+)\s*=\s*(?:"([^"<]*)"|'([^'<]*)')/gy;
+/** Other lists in XML, by their first element. */
+const OTHER_LISTS = new Map([
+    ['softwarelist', SOFTWARE_LIST], ['softwarelists', SOFTWARE_LIST],
+    ['mame', "it is a list of MAME's machines, and not a DAT in Logiqx XML"],
+]);
+
+const ENTITIES = new Map([['amp', '&'], ['lt', '<'], ['gt', '>'], ['quot', '"'], ['apos', "'"]]);
+
+const ATTRIBUTE = /\s+([\w:.-]+)\s*=\s*(?:"([^"]*)"|'([^']*)')/gy;
 
 /**
  * A text that does not keep the one alive that it was cut of.
@@ -30,10 +45,12 @@ function copied(text) {
 
 /** @param {string} text */
 function unescaped(text) {
+    if (!text.includes('&')) return text;
     return text.replace(/&(?:#x([0-9a-fA-F]{1,6})|#(\d{1,7})|(\w{1,16}));|&/g, (whole, hex, decimal, name) => {
         const code = hex ? parseInt(hex, 16) : Number(decimal);
         if (code >= 0 && code <= 0x10FFFF) return String.fromCodePoint(code);
-        if (name !== undefined && name in ENTITIES) return ENTITIES[name];
+        const character = ENTITIES.get(name);
+        if (character !== undefined) return character;
         throw new Fault(`it has the entity ${whole.slice(0, 20)}, which a DAT does not have`);
     });
 }
@@ -47,17 +64,17 @@ function attributesOf(tag) {
     const attributes = new Map();
     ATTRIBUTE.lastIndex = (/^[^\s/]*/.exec(tag) || [''])[0].length;
     for (let found = ATTRIBUTE.exec(tag); found !== null; found = ATTRIBUTE.exec(tag)) {
-        attributes.set(found[1], unescaped(found[2] === undefined ? found[3] : found[2]));
+        attributes.set(found[1], found[2] === undefined ? found[3] : found[2]);
     }
     return attributes;
 }
 
 /** What a DAT lists. Its text comes by `push`, in pieces; `end` comes after the last one. Both throw a Fault. */
 class DatReading {
-    /** @param {Map<string, Dump>} dumps to which its own are added */
-    constructor(dumps) {
-        this.dumps = dumps;
-        this.rest = '';
+    /** @param {KnownDumps} known to which its own are added */
+    constructor(known) {
+        this.known = known;
+        this.tags = new TagReader(tag => this.tag(tag));
         this.depth = 0;
         this.isDat = false;
         this.found = 0;
@@ -65,40 +82,13 @@ class DatReading {
 
     /** @param {string} text */
     push(text) {
-        this.rest += text;
-        let from = 0;
-        for (let at = this.rest.indexOf('<'); at >= 0; at = this.rest.indexOf('<', from)) {
-            const end = this.endOfTag(at);
-            if (end < 0) {
-                if (this.rest.length - at > LONGEST_TAG) throw new Fault(`it has a tag of more than ${LONGEST_TAG} characters`);
-                from = at;
-                break;
-            }
-            this.tag(this.rest.slice(at + 1, end));
-            from = end + 1;
-        }
-        const left = this.rest.indexOf('<', from);
-        this.rest = left < 0 ? '' : this.rest.slice(left);
-    }
-
-    /**
-     * Where the bracket of a tag or of a comment is that ends it, or -1.
-     * @param {number} at
-     */
-    endOfTag(at) {
-        COMMENT.lastIndex = at;
-        if (!COMMENT.test(this.rest)) return this.rest.indexOf('>', at);
-        const end = this.rest.indexOf('-->', at + 4);
-        return end < 0 ? -1 : end + 2;
+        this.tags.push(text);
     }
 
     /** @param {string} tag without its brackets */
     tag(tag) {
-        if (tag.length > LONGEST_TAG) throw new Fault(`it has a tag of more than ${LONGEST_TAG} characters`);
-        if (tag.startsWith('!--') || tag.startsWith('?')) return;
-        if (tag.startsWith('!')) return this.declaration(tag);
         const [name] = /^\/?[\w:.-]*/.exec(tag) || [''];
-        if (!this.isDat && name !== 'datafile') throw new Fault('it is no DAT in Logiqx XML');
+        if (!this.isDat && name !== 'datafile') throw new Fault(OTHER_LISTS.get(name) || NOT_A_DAT);
         this.isDat = true;
         if (name.startsWith('/')) this.depth -= 1;
         else if (!tag.endsWith('/')) this.depth += 1;
@@ -106,42 +96,61 @@ class DatReading {
         if (name === 'rom' || name === 'disk') this.dump(attributesOf(tag));
     }
 
-    /** @param {string} tag */
-    declaration(tag) {
-        if (/^!DOCTYPE\s[^[]*$/i.test(tag)) return;
-        throw new Fault('it declares what a DAT does not, as entities');
-    }
-
     /** @param {Map<string, string>} attributes */
     dump(attributes) {
-        const [name, size, sha1] = ['name', 'size', 'sha1'].map(it => attributes.get(it) || '');
-        if (!/^[0-9a-fA-F]{40}$/.test(sha1) || !/^\d{1,15}$/.test(size)) return;
+        const hash = (/** @type {string} */ key, /** @type {number} */ digits) => hexOf((attributes.get(key) || '').toLowerCase(), digits);
+        const [size, status] = [attributes.get('size') || '', attributes.get('status')];
+        const name = unescaped(attributes.get('name') || '');
         if (name.length > LONGEST_NAME) throw new Fault(`it has a name of more than ${LONGEST_NAME} characters`);
-        if (this.dumps.size >= MOST_DUMPS) throw new Fault(`there are more than ${MOST_DUMPS} dumps`);
+        const sha1 = hash('sha1', 40);
+        const hashes = sha1 === '' ? { sha1, crc32: hash('crc', 8), md5: hash('md5', 32) } : { sha1, crc32: '', md5: '' };
+        if (!/^\d{1,15}$/.test(size) || `${sha1}${hashes.crc32}${hashes.md5}` === '' || status === 'nodump') {
+            this.known.leftOut += 1;
+            return;
+        }
         this.found += 1;
-        const key = dumpKey(Number(size), sha1.toLowerCase());
-        const isBad = attributes.get('status') === 'baddump';
-        if (!this.dumps.has(key)) this.dumps.set(key, { name: copied(name), size: Number(size), isBad });
+        this.known.addDump(copied(name), Number(size), hashes, status === 'baddump');
     }
 
     end() {
-        if (!this.isDat) throw new Fault('it is no DAT in Logiqx XML');
-        if (this.rest !== '' || this.depth !== 0) throw new Fault('it is cut');
-        if (this.found === 0) throw new Fault('it has no dump with size and SHA-1');
+        if (!this.isDat) throw new Fault(NOT_A_DAT);
+        if (this.tags.isCut() || this.depth !== 0) throw new Fault('it is cut');
+        if (this.found === 0) throw new Fault('it has no dump with a size and a hash');
     }
 }
 
 /**
- * @param {number} size
- * @param {string} sha1 in small letters
+ * A hash, '' if it is none.
+ * @param {string} text
+ * @param {number} digits
  */
-function dumpKey(size, sha1) {
-    return `${sha1}${size}`;
+function hexOf(text, digits) {
+    return text.length === digits && /^[0-9a-f]+$/.test(text) ? text : '';
 }
 
-/** @param {Dump} dump */
-function saidOf({ name, isBad }) {
-    return `${isBad ? 'known as a bad dump:' : 'verified'} ${name}`;
+/**
+ * @param {number} size
+ * @param {string} hash in small letters
+ */
+function dumpKey(size, hash) {
+    return `${size}:${hash}`;
+}
+
+/**
+ * The entry of a dump that a file means: the one of its own name, unless that is a bad one and another is not.
+ * @param {Dump} dump
+ * @param {string} own the name of the file
+ * @returns {Found}
+ */
+function foundEntry({ name, isBad, names }, own) {
+    const isOwn = names !== null && names.has(own) && (isBad || names.get(own) === false);
+    return { name: isOwn ? own : name, isBad, others: names === null ? 0 : names.size - 1 };
+}
+
+/** @param {Found} found */
+function saidOf({ name, isBad, others }) {
+    const more = others === 0 ? '' : others === 1 ? ', and 1 other' : `, and ${others} others`;
+    return `${isBad ? BAD_DUMP : 'verified'} ${name}${more}`;
 }
 
 /** The dumps that DATs list. */
@@ -149,8 +158,16 @@ export class KnownDumps {
     constructor() {
         /** @type {Map<string, Dump>} */
         this.dumps = new Map();
-        /** @type {Map<string, Dump> | null} by their SHA-1, once somebody asks for it */
-        this.bySha1 = null;
+        /** @type {Set<number>} */
+        this.sizes = new Set();
+        /** @type {Map<string, Dump> | null} by their hash, once somebody asks for it */
+        this.byHash = null;
+        /** How many entries there are, of which several may have one hash. */
+        this.entries = 0;
+        /** How many entries have no size or no hash, or are of no dump. */
+        this.leftOut = 0;
+        /** The hashes beside SHA-1 without which not all entries can be found. */
+        this.needs = { crc32: false, md5: false };
     }
 
     /**
@@ -158,41 +175,77 @@ export class KnownDumps {
      * @param {AsyncIterable<Uint8Array>} pieces of its bytes
      */
     async add(pieces) {
-        const decoder = new TextDecoder();
-        const reading = new DatReading(this.dumps);
-        this.bySha1 = null;
-        for await (const piece of pieces) reading.push(decoder.decode(piece, { stream: true }));
-        reading.push(decoder.decode());
+        const reading = new DatReading(this);
+        this.byHash = null;
+        for await (const text of textOfDat(pieces)) reading.push(text);
         reading.end();
     }
 
     /**
-     * The dump of a size and a SHA-1, or null.
+     * Adds an entry. It is found by its SHA-1, or if it has none by its CRC32, or else by its MD5. Throws a Fault.
+     * @param {string} name
      * @param {number} size
-     * @param {string} sha1 in small letters
+     * @param {Required<Hashes>} hashes '' for each that it does not have
+     * @param {boolean} isBad
      */
-    find(size, sha1) {
-        return this.dumps.get(dumpKey(size, sha1)) || null;
+    addDump(name, size, { sha1, crc32, md5 }, isBad) {
+        const key = dumpKey(size, sha1 || crc32 || md5);
+        const dump = this.dumps.get(key);
+        if (dump !== undefined && dump.name === name && dump.names === null) {
+            dump.isBad = dump.isBad && isBad;
+            return;
+        }
+        if (dump === undefined || dump.names === null || !dump.names.has(name)) this.entries += 1;
+        if (this.entries > MOST_DUMPS) throw new Fault(`there are more than ${MOST_DUMPS} dumps`);
+        if (dump !== undefined) {
+            addName(dump, name, isBad);
+            return;
+        }
+        this.dumps.set(key, { name, size, isBad, md5: sha1 === '' ? copied(md5) : '', names: null });
+        this.sizes.add(size);
+        if (sha1 === '') this.needs[crc32 === '' ? 'md5' : 'crc32'] = true;
+        if (sha1 === '' && md5 !== '') this.needs.md5 = true;
     }
 
     /**
-     * What is known of a file, as 'verified NAME', or null.
+     * The dump that a file is, or null.
      * @param {number} size
-     * @param {string} sha1 in small letters
+     * @param {Hashes} hashes
+     * @param {string} [name] of the file, which one of several entries may have
+     * @returns {Found | null}
      */
-    said(size, sha1) {
-        const dump = this.find(size, sha1);
-        return dump && saidOf(dump);
+    find(size, { sha1, crc32 = '', md5 = '' }, name = '') {
+        const found = [sha1, crc32, md5].map(hash => this.dumps.get(dumpKey(size, hash))).find(it => it !== undefined);
+        const isOther = found === undefined || (md5 !== '' && found.md5 !== '' && md5 !== found.md5);
+        return isOther ? null : foundEntry(found, name);
     }
 
     /**
-     * The same of a file whose size is not at hand.
-     * @param {string} sha1 in small letters
+     * What is known of a file, such as 'verified NAME', or null.
+     * @param {number} size
+     * @param {Hashes} hashes
+     * @param {string} [name] of the file
      */
-    saidOfSha1(sha1) {
-        if (this.bySha1 === null) this.bySha1 = new Map([...this.dumps].reverse().map(([key, dump]) => [key.slice(0, sha1.length), dump]));
-        const dump = this.bySha1.get(sha1);
-        return dump ? saidOf(dump) : null;
+    said(size, hashes, name) {
+        const found = this.find(size, hashes, name);
+        return found && saidOf(found);
+    }
+
+    /**
+     * The same of a file whose size is not known.
+     * @param {string} sha1 in small letters
+     * @param {string} [name]
+     */
+    saidOfSha1(sha1, name = '') {
+        const hashed = (/** @type {string} */ key) => key.slice(key.indexOf(':') + 1);
+        if (this.byHash === null) this.byHash = new Map([...this.dumps].reverse().map(([key, dump]) => [hashed(key), dump]));
+        const dump = this.byHash.get(sha1);
+        return dump ? saidOf(foundEntry(dump, name)) : null;
+    }
+
+    /** @param {number} size */
+    hasSize(size) {
+        return this.sizes.has(size);
     }
 
     /**
@@ -200,7 +253,18 @@ export class KnownDumps {
      * @param {number} size
      */
     saidOfOther(size) {
-        for (const dump of this.dumps.values()) if (dump.size === size) return ONLY_SIZE;
-        return NOT_EVEN_SIZE;
+        return this.hasSize(size) ? ONLY_SIZE : NOT_EVEN_SIZE;
     }
+}
+
+/**
+ * Gives a dump one more name.
+ * @param {Dump} dump
+ * @param {string} name
+ * @param {boolean} isBad
+ */
+function addName(dump, name, isBad) {
+    if (dump.names === null) dump.names = new Map([[dump.name, dump.isBad]]);
+    dump.names.set(name, isBad && dump.names.get(name) !== false);
+    if (dump.isBad && !isBad) [dump.name, dump.isBad] = [name, false];
 }

@@ -4,9 +4,8 @@
 import { sliceOf, wholeOf } from '../bytes.js';
 import { FAULT, Fault } from '../faults.js';
 import { SECTOR_SIZE, sectorCount } from '../sectors/sector.js';
-import { textOfFile } from '../texts/encodings.js';
 import { baseByAddresses } from './base.js';
-import { sheetOf, tracksOf } from './cue.js';
+import { sheetsOf, tracksOf } from './cue.js';
 import { natureOf } from './file_type.js';
 
 /** @typedef {import('../module/calls.js').Calls} Calls */
@@ -107,10 +106,10 @@ export function dataTrack({ sheet, tracks }, number = null) {
  * @returns {Promise<Disc>}
  */
 async function openSheet(calls, sheetFile, others, natures) {
-    const sheet = sheetOf(textOfFile(await wholeOf(sheetFile.reader)));
+    const sheet = sheetOfFiles(sheetsOf(await wholeOf(sheetFile.reader)), others);
     const files = sheet.files.map(({ name }) => fileNamed(name, others));
     const known = { ...sheet, files: sheet.files.map((file, i) => ({ ...file, raw: file.raw && files[i] !== null })) };
-    const open = files.filter(file => file !== null);
+    const open = [...new Set(files.filter(file => file !== null))];
     const tracks = [];
     for (const track of tracksOf(known, files.map(file => file ? file.reader.size : 0))) {
         const file = files[track.file];
@@ -124,6 +123,16 @@ async function openSheet(calls, sheetFile, others, natures) {
     return { sheet: sheetFile.name, files: /** @type {DiscFile[]} */ (open), tracks };
 }
 
+/**
+ * What a sheet says: of several readings the one that names most of the files.
+ * @param {Sheet[]} sheets
+ * @param {DiscFile[]} files
+ */
+function sheetOfFiles(sheets, files) {
+    const named = (/** @type {Sheet} */ sheet) => sheet.files.filter(({ name }) => fileNamed(name, files) !== null).length;
+    return sheets.reduce((best, sheet) => named(sheet) > named(best) ? sheet : best);
+}
+
 /** @param {{ type: string }} track */
 function isData({ type }) {
     return type !== 'AUDIO' && type !== 'CDG';
@@ -135,14 +144,19 @@ function isRaw({ type }) {
 }
 
 /**
- * The file that a sheet names: by its last name, if need be in capitals or not.
+ * The file that a sheet names: by its path below the sheet or by its last name, if need be in capitals or not.
  * @param {string} name
  * @param {DiscFile[]} files
  */
 function fileNamed(name, files) {
-    const last = (/** @type {string} */ path) => path.replace(/^.*[/\\]/, '');
-    const same = (/** @type {string} */ a, /** @type {string} */ b) => a.toLowerCase() === b.toLowerCase();
-    return files.find(file => last(file.name) === last(name)) || files.find(file => same(last(file.name), last(name))) || null;
+    const path = (/** @type {string} */ it) => `/${it.replace(/\\/g, '/')}`;
+    const last = (/** @type {string} */ it) => path(it).replace(/^.*\//, '/');
+    for (const end of new Set([path(name), last(name)])) {
+        const found = files.find(file => path(file.name).endsWith(end))
+            || files.find(file => path(file.name).toLowerCase().endsWith(end.toLowerCase()));
+        if (found) return found;
+    }
+    return null;
 }
 
 /**

@@ -4,16 +4,26 @@ import { readBytes, wholeOf } from '../bytes.js';
 import { SECTOR_KIND } from '../module/records.js';
 import { SECTOR_SIZE, USER_SIZE } from '../sectors/sector.js';
 import { textOfFile } from '../texts/encodings.js';
+import { isSubchannelFile } from './subchannels.js';
 
 /** @typedef {import('../module/calls.js').Calls} Calls */
 /** @typedef {import('../bytes.js').Reader} Reader */
-/** @typedef {'raw' | 'audio' | 'subchannels' | 'iso' | 'chd' | 'ecm' | 'archive' | 'wave' | 'cue' | 'empty' | 'unknown'} FileKind */
+/**
+ * @typedef {'raw' | 'audio' | 'subchannels' | 'iso' | 'chd' | 'ecm' | 'archive' | 'wave' | 'cue' | 'empty' | 'unknown' | 'scrambled' |
+ *     'nrg' | 'mds' | 'ccd' | 'toc' | 'sub'} FileKind
+ */
 /** @typedef {{ kind: FileKind, what: string, advice: string }} FileNature */
 
 const SUBCHANNEL_SIZE = 2448;
 const VOLUME_MARK = 16 * USER_SIZE + 1;
 const LARGEST_SHEET = 1 << 17;
 const SAMPLED_PAIRS = 32;
+/** The bytes in which it shows how a file begins, and how an image of Nero ends. */
+const LONGEST_BEGINNING = 16;
+const NERO_END = 12;
+/** Where a sector has its header, and what scrambling adds to that. */
+const HEADER = 12;
+const SCRAMBLER = [0x01, 0x80, 0x00, 0x60];
 /** Of a file with a sample in so many bytes, so many are read at once: each read takes its time, however little it reads. */
 const NEAR = 1 << 16;
 const SAMPLED_AT_ONCE = 1 << 18;
@@ -35,6 +45,12 @@ const NATURES = {
     archive: ['an archive', 'Unpack it, and choose the cue sheet or the raw image in it.'],
     wave: ['audio in a RIFF/WAVE file', 'Choose the data track of the disc.'],
     cue: ['a cue sheet', 'Open it with the files that it names.'],
+    scrambled: ['a scrambled image, with its sectors as they are on the disc', 'Descramble it first, with the program that read the disc.'],
+    nrg: ['an image of Nero (NRG)', 'Convert it to a raw image and a cue sheet.'],
+    mds: ['the description of an MDF image (MDS)', 'Choose the MDF file: with 2352 bytes a sector it is a raw image.'],
+    ccd: ['a control file of CloneCD (CCD)', 'Choose the IMG file beside it, which is a raw image.'],
+    toc: ['a TOC file of cdrdao', 'Make a cue sheet of it with `toc2cue`, or choose the image that it names.'],
+    sub: ['the subchannels of an image (SUB)', 'Choose the image itself.'],
     empty: ['an empty file', 'Copy or download it again.'],
     unknown: ['not recognised', 'Choose a raw image, 2352 bytes a sector, or its cue sheet.'],
 };
@@ -42,8 +58,17 @@ const NATURES = {
 /** @type {[FileKind, string][]} how files begin, a byte a character */
 const BEGINNINGS = [
     ['chd', 'MComprHD'], ['ecm', 'ECM\0'], ['archive', 'PK\x03\x04'], ['archive', '7z\xBC\xAF\x27\x1C'], ['archive', 'Rar!'],
-    ['archive', '\x1F\x8B'],
+    ['archive', '\x1F\x8B'], ['mds', 'MEDIA DESCRIPTOR'], ['ccd', '[CloneCD]'],
 ];
+
+/**
+ * What a file is by how it begins; undefined if that does not say it.
+ * @param {string} begins its first bytes, a character each
+ */
+export function kindByBeginning(begins) {
+    const known = BEGINNINGS.find(([, beginning]) => begins.startsWith(beginning));
+    return known && known[0];
+}
 
 /**
  * What a file is, by its size, its first bytes and a few of its sectors.
@@ -64,10 +89,11 @@ export async function natureOf(calls, reader) {
  */
 async function kindOfFile(calls, reader) {
     if (reader.size === 0) return 'empty';
-    const begins = await latin(reader, 0, 12);
-    const known = BEGINNINGS.find(([, beginning]) => begins.startsWith(beginning));
-    if (known) return known[0];
-    if (begins.startsWith('RIFF') && begins.endsWith('WAVE')) return 'wave';
+    const begins = await latin(reader, 0, LONGEST_BEGINNING);
+    const known = kindByBeginning(begins);
+    if (known) return known;
+    if (/^RIFF[^]{4}WAVE/.test(begins)) return 'wave';
+    if (/NER5[^]{8}$|NERO[^]{4}$/.test(await latin(reader, Math.max(reader.size - NERO_END, 0), NERO_END))) return 'nrg';
     if (await latin(reader, VOLUME_MARK, 5) === 'CD001') return 'iso';
     return kindBySectors(calls, reader);
 }
@@ -78,12 +104,14 @@ async function kindOfFile(calls, reader) {
  * @returns {Promise<FileKind>}
  */
 async function kindBySectors(calls, reader) {
-    const raw = await countSynced(calls, reader, SECTOR_SIZE);
-    const longer = await countSynced(calls, reader, SUBCHANNEL_SIZE);
+    const { synced: raw, scrambled } = await countSynced(calls, reader, SECTOR_SIZE);
+    const { synced: longer } = await countSynced(calls, reader, SUBCHANNEL_SIZE);
     const one = reader.size === SUBCHANNEL_SIZE; // a single sector has no neighbour
     if (longer > raw || (one && longer > 0)) return 'subchannels';
-    if (raw > 0) return 'raw';
-    if (await isSheet(reader)) return 'cue';
+    if (raw > 0) return 2 * scrambled > raw ? 'scrambled' : 'raw';
+    const sheet = await kindOfSheet(reader);
+    if (sheet !== null) return sheet;
+    if (await isSubchannelFile(reader)) return 'sub';
     return reader.size % SECTOR_SIZE === 0 ? 'audio' : 'unknown';
 }
 
@@ -124,22 +152,40 @@ export async function* sampledSectors(reader, size, together, most) {
 }
 
 /**
- * How many of some sectors begin with a sync field. Of two neighbours at most one does if sectors have another size.
+ * How many of some sectors begin with a sync field, and how many of these are scrambled. Of two neighbours at most one begins so if sectors
+ * have a different size.
  * @param {Calls} calls
  * @param {Reader} reader
  * @param {number} size of a sector
  */
 async function countSynced(calls, reader, size) {
-    let found = 0;
+    let [synced, scrambled] = [0, 0];
     for await (const { sector } of sampledSectors(reader, size, 2, SAMPLED_PAIRS)) {
-        found += Number(calls.kind(sector) !== SECTOR_KIND.NOSYNC);
+        const kind = calls.kind(sector);
+        synced += Number(kind !== SECTOR_KIND.NOSYNC);
+        scrambled += Number(kind === SECTOR_KIND.OTHER && isScrambled(sector));
     }
-    return found;
+    return { synced, scrambled };
 }
 
-/** @param {Reader} reader */
-async function isSheet(reader) {
-    if (reader.size > LARGEST_SHEET) return false;
+/**
+ * Whether the header of a sector is one if it is descrambled: digits of an address, and a mode (ECMA-130, Annex B).
+ * @param {Uint8Array} sector
+ */
+function isScrambled(sector) {
+    const [minute, second, frame, mode] = SCRAMBLER.map((it, i) => it ^ sector[HEADER + i]);
+    return [minute, second, frame].every(it => it >> 4 <= 9 && (it & 15) <= 9) && second < 0x60 && frame < 0x75 && mode <= 2;
+}
+
+/**
+ * Which sheet of tracks a small file is: a cue sheet, a TOC file, or none.
+ * @param {Reader} reader
+ * @returns {Promise<'cue' | 'toc' | null>}
+ */
+async function kindOfSheet(reader) {
+    if (reader.size > LARGEST_SHEET) return null;
     const lines = textOfFile(await wholeOf(reader)).split(/\r\n|\r|\n/).map(line => line.trim());
-    return lines.some(line => /^FILE\s/i.test(line)) && lines.some(line => /^TRACK\s+\d/i.test(line));
+    const has = (/** @type {RegExp} */ form) => lines.some(line => form.test(line));
+    if (has(/^FILE\s/i) && has(/^TRACK\s+\d/i)) return 'cue';
+    return has(/^CD_(?:DA|ROM|ROM_XA|I)$/) && has(/^TRACK\s+(?:AUDIO|MODE)/) ? 'toc' : null;
 }

@@ -10,6 +10,7 @@ import { HEX } from './hex.js';
 import { tableEncoding } from './table.js';
 import { UTF16BE, UTF16LE } from './utf16.js';
 import { UTF8 } from './utf8.js';
+import { textOf1252 } from './windows_1252.js';
 
 /** @typedef {import('./encoding.js').Encoding} Encoding */
 
@@ -48,16 +49,24 @@ export function markOf(bytes) {
 }
 
 /**
- * The text of a small file that somebody wrote, as a cue sheet or a table: UTF-16 if it has its mark, UTF-8 if it is that, else CP932.
+ * The text of a small file that somebody wrote, such as a table: UTF-16 if it has its mark, UTF-8 if it is that, else CP932.
  * @param {Uint8Array} bytes
  */
 export function textOfFile(bytes) {
+    return textsOfFile(bytes)[0];
+}
+
+/**
+ * What the text of such a file may be: the second one, if there is one, is in Windows-1252.
+ * @param {Uint8Array} bytes
+ */
+export function textsOfFile(bytes) {
     const marked = markOf(bytes);
-    if (marked) return marked.text(bytes.subarray(2));
+    if (marked) return [marked.text(bytes.subarray(2))];
     try {
-        return strictUtf8.decode(bytes);
+        return [strictUtf8.decode(bytes)];
     } catch {
-        return CP932.text(bytes);
+        return [CP932.text(bytes), textOf1252(bytes)];
     }
 }
 

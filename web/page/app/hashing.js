@@ -1,10 +1,10 @@
 // The SHA-1 and the CRC-32 of images. What is hashed is read once, and forward.
 
 import { forwardOf, readBytes } from '../../core/bytes.js';
+import { crc32, joinedCrc } from '../../core/crc32.js';
 import { cancelled } from '../../core/faults.js';
 import { SECTOR_SIZE } from '../../core/sectors/sector.js';
 import { hexOf } from '../ui/index.js';
-import { crc32, joinedCrc } from './crc32.js';
 import { startedWorker } from './crew.js';
 
 /** @typedef {import('../../core/bytes.js').Reader} Reader */

@@ -1,7 +1,7 @@
 // What a worker does with a range of an image that is hashed.
 
+import { crc32 } from '../../core/crc32.js';
 import { surveyRange } from '../../core/sectors/survey.js';
-import { crc32 } from './crc32.js';
 
 /**
  * The CRC-32 of a range and, if it is wanted, its survey. The bytes go back: they are hashed on elsewhere.

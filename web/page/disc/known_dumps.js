@@ -1,6 +1,7 @@
 // Lists of known dumps (DAT, Logiqx XML): one that is opened names the disc, as long as the page is open.
 
 import { KnownDumps } from '../../core/disc/dat.js';
+import { beginsLikeDat } from '../../core/disc/dat_text.js';
 import { fileReader } from '../open/index.js';
 import * as texts from '../texts/index.js';
 import { say, told } from '../texts/index.js';
@@ -30,8 +31,7 @@ async function* piecesOf(file) {
  */
 async function takeList(app, file) {
     if (!/\.(dat|xml)$/i.test(file.name)) return false;
-    const start = new TextDecoder().decode(await fileReader(file).read(0, 64));
-    if (!/^\s*<[?!d]/.test(start)) return false;
+    if (!beginsLikeDat(await fileReader(file).read(0, 64))) return false;
     try {
         const known = new KnownDumps();
         await known.add(piecesOf(file));
@@ -50,9 +50,9 @@ async function takeList(app, file) {
  * @param {App} app
  * @param {Image} image
  */
-export function dumpWords({ dumps }, { reader, sha1 }) {
+export function dumpWords({ dumps }, { name: own, reader, sha1, crc32 }) {
     if (dumps.length === 0 || sha1 === '') return null;
-    const found = dumps.flatMap(known => known.find(reader.size, sha1) || []);
+    const found = dumps.flatMap(known => known.find(reader.size, { sha1, crc32 }, own) || []);
     if (found.length === 0) return element('span', { class: 'tag warn' }, texts.inNoListOfDumps);
     const [{ name, isBad }] = found;
     const words = isBad ? texts.knownBadDump : texts.verifiedDump;

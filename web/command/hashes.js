@@ -1,0 +1,85 @@
+// The hashes of a file, and what DATs know of files by them.
+
+import { createHash } from 'node:crypto';
+import { basename } from 'node:path';
+import { crc32 } from '../core/crc32.js';
+import { BAD_DUMP } from '../core/disc/dat.js';
+
+/** @typedef {import('../core/disc/dat.js').Hashes} Hashes */
+/** @typedef {import('../core/disc/dat.js').KnownDumps} KnownDumps */
+/** @typedef {import('./run.js').Run} Run */
+/** @typedef {KnownDumps['needs']} Needs which hashes are computed beside SHA-1 */
+
+/** No hash beside SHA-1. */
+export const SHA1_ONLY = { crc32: false, md5: false };
+
+/** Hashes that grow with what is added. */
+export class RunningHashes {
+    /** @param {Needs} needs */
+    constructor(needs) {
+        this.sha1 = createHash('sha1');
+        this.md5 = needs.md5 ? createHash('md5') : null;
+        this.crc = needs.crc32 ? 0 : null;
+    }
+
+    /** @param {Uint8Array} bytes */
+    update(bytes) {
+        this.sha1.update(bytes);
+        if (this.md5 !== null) this.md5.update(bytes);
+        if (this.crc !== null) this.crc = crc32(this.crc, bytes);
+    }
+
+    /** @returns {Required<Hashes>} '' for one that was not computed */
+    digest() {
+        return {
+            sha1: this.sha1.digest('hex'), md5: this.md5 === null ? '' : this.md5.digest('hex'),
+            crc32: this.crc === null ? '' : this.crc.toString(16).padStart(8, '0'),
+        };
+    }
+}
+
+/**
+ * Says what DATs know of a new file. Returns whether it is a bad dump.
+ * @param {Run} run
+ * @param {KnownDumps} known
+ * @param {string} name
+ * @param {number} size
+ * @param {Hashes} hashes
+ */
+export function sayKnown(run, known, name, size, hashes) {
+    const said = known.said(size, hashes, basename(name));
+    run.say(`${name}: ${said || `${known.saidOfOther(size)}; its SHA-1 is ${hashes.sha1}`}`);
+    return said !== null && said.startsWith(BAD_DUMP);
+}
+
+/** How many files are verified, are bad dumps and are not in the DAT. */
+export class Verdicts {
+    /** @param {KnownDumps} known */
+    constructor(known) {
+        this.known = known;
+        this.verified = 0;
+        this.bad = 0;
+        this.unknown = 0;
+    }
+
+    /**
+     * Counts a file. One that is not an image is unknown only if a dump has its size.
+     * @param {string | null} said what the DAT knows of it
+     * @param {number} size
+     * @param {boolean} isImage
+     */
+    add(said, size, isImage) {
+        if (said === null) this.unknown += Number(isImage || this.known.hasSize(size));
+        else if (said.startsWith(BAD_DUMP)) this.bad += 1;
+        else this.verified += 1;
+    }
+
+    /** The status that follows. */
+    get status() {
+        return Number(this.bad + this.unknown > 0);
+    }
+
+    text() {
+        return `verified ${this.verified}, known as bad ${this.bad}, not in the DAT ${this.unknown}`;
+    }
+}

@@ -1,0 +1,74 @@
+// A lock on a list, so that two runs at a time do not write the same lines. It is a file beside the list, with the number of the process.
+
+import { closeSync, openSync, readFileSync, realpathSync, unlinkSync } from 'node:fs';
+import { Fault } from '../core/faults.js';
+import { fileFault, hasCode } from './failures.js';
+import { writeFully } from './new_file.js';
+
+/**
+ * Whether the process that made a lock still runs. If it has the number of this one, it has ended, and the number was given out again.
+ * @param {number} pid
+ */
+function isRunning(pid) {
+    if (pid === process.pid) return false;
+    try {
+        process.kill(pid, 0);
+        return true;
+    } catch (error) {
+        return !hasCode(error, 'ESRCH');
+    }
+}
+
+/** @param {string} place */
+function heldBy(place) {
+    try {
+        return Number(readFileSync(place, 'latin1').trim());
+    } catch {
+        return 0;
+    }
+}
+
+/** @param {string} place of a lock that may be gone already */
+function removeLock(place) {
+    try {
+        unlinkSync(place);
+    } catch (error) {
+        if (!hasCode(error, 'ENOENT')) throw error;
+    }
+}
+
+/** @param {string} place */
+function made(place) {
+    try {
+        const descriptor = openSync(place, 'wx');
+        try {
+            writeFully(descriptor, new TextEncoder().encode(`${process.pid}\n`));
+        } catch (error) {
+            removeLock(place);
+            throw error;
+        } finally {
+            closeSync(descriptor);
+        }
+        return true;
+    } catch (error) {
+        if (hasCode(error, 'EEXIST')) return false;
+        throw fileFault('make', place, error);
+    }
+}
+
+/**
+ * Locks a list. The lock of a run that was killed is replaced. Throws a Fault if another run has it.
+ * @param {string} name of the list, which is there
+ * @returns {{ place: string, finish(): void, remove(): void }}
+ */
+export function lockList(name) {
+    const place = `${realpathSync(name)}.lock`;
+    const lock = { place, finish: () => removeLock(place), remove: () => removeLock(place) };
+    if (made(place)) return lock;
+    const pid = heldBy(place);
+    if (pid > 0 && !isRunning(pid)) {
+        removeLock(place);
+        if (made(place)) return lock;
+    }
+    throw new Fault(`another run (process ${heldBy(place)}) is writing to ${name}: wait for it, or remove ${place} if it has ended`);
+}

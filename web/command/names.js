@@ -1,0 +1,71 @@
+// Names of files as the system has them: bytes, which are UTF-8 as a rule. For a byte that is not, a name here has a lone surrogate.
+
+import { readFileSync } from 'node:fs';
+
+/** What is added to a byte, so that it becomes a lone surrogate. */
+const ESCAPE = 0xDC00;
+
+const ESCAPED = /([\uDC80-\uDCFF])/u;
+
+/** Valid UTF-8, or a byte that is not; a byte is a character here. */
+const PARTS = new RegExp(`((?:${[
+    '[\\0-\\x7F]', '[\\xC2-\\xDF][\\x80-\\xBF]', '\\xE0[\\xA0-\\xBF][\\x80-\\xBF]', '[\\xE1-\\xEC\\xEE\\xEF][\\x80-\\xBF]{2}',
+    '\\xED[\\x80-\\x9F][\\x80-\\xBF]', '\\xF0[\\x90-\\xBF][\\x80-\\xBF]{2}', '[\\xF1-\\xF3][\\x80-\\xBF]{3}',
+    '\\xF4[\\x80-\\x8F][\\x80-\\xBF]{2}',
+].join('|')})+)|[^]`, 'g');
+
+/**
+ * The name that bytes are.
+ * @param {Buffer} bytes
+ */
+export function nameOfBytes(bytes) {
+    return bytes.toString('latin1').replace(PARTS, (it, valid) =>
+        valid ? Buffer.from(valid, 'latin1').toString() : String.fromCharCode(ESCAPE + it.charCodeAt(0)));
+}
+
+/**
+ * What the calls of the system take for a name.
+ * @param {string} name
+ */
+export function pathOf(name) {
+    if (!ESCAPED.test(name)) return name;
+    return Buffer.concat(name.split(ESCAPED).map((part, i) => i % 2 === 0 ? Buffer.from(part) : Buffer.of(part.charCodeAt(0) - ESCAPE)));
+}
+
+/** @param {string} name */
+export function hasOddBytes(name) {
+    return ESCAPED.test(name);
+}
+
+/** The words that the process was given, as the system has them: node reads bytes that are not UTF-8 as U+FFFD. */
+export function wordsOfProcess() {
+    const words = process.argv.slice(2);
+    if (!words.some(word => word.includes('\uFFFD'))) return words;
+    try {
+        return nameOfBytes(readFileSync('/proc/self/cmdline')).split('\0').slice(0, -1).slice(-words.length);
+    } catch {
+        return words;
+    }
+}
+
+/**
+ * A name as a list has it: no two names are the same there, and none has a tab or a line end.
+ * @param {string} name
+ */
+export function listedName(name) {
+    const digits = (/** @type {string} */ it) => (it.codePointAt(0) || 0).toString(16);
+    const byte = (/** @type {string} */ it) => (it.charCodeAt(0) - ESCAPE).toString(16);
+    return name.replace(/[\p{C}\p{Zl}\p{Zp}\\]/gu, it =>
+        it === '\\' ? '\\\\' : ESCAPED.test(it) ? `\\x${byte(it)}` : `\\u{${digits(it)}}`);
+}
+
+/**
+ * The name that a list has so.
+ * @param {string} listed
+ */
+export function nameOfListed(listed) {
+    return listed.replace(/\\(?:\\|u\{([0-9a-f]{1,6})\}|x([89a-f][0-9a-f]))/g, (it, code, byte) => {
+        if (code) return String.fromCodePoint(Math.min(parseInt(code, 16), 0x10FFFF));
+        return byte ? String.fromCharCode(ESCAPE + parseInt(byte, 16)) : '\\';
+    });
+}
