@@ -294,7 +294,7 @@ const WRONG_WORDS = {
     'find a b --encoding hex --table t': '--encoding and --table exclude each other',
     'diff a b --skip-damaged --fields': '--fields and --skip-damaged exclude each other',
     'replace a 1 0 b c --all': '--all and a place exclude each other',
-    'replace a b c --fill 2': "--fill is two hexadecimal digits for each byte, not '2'",
+    'replace a b c --fill 2': "--fill is two hexadecimal digits for each byte, or end, not '2'",
     'show a x': "a block is a number from 0 to 999999999, not 'x'",
     'show a 1 2048': "an offset is a number from 0 to 2047, not '2048'",
 };

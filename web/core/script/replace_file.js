@@ -31,7 +31,7 @@ function extentRoom({ size }) {
 }
 
 /** @param {FileEntry} extent */
-function keyOf({ block, size }) {
+function extentKey({ block, size }) {
     return `${block} ${size}`;
 }
 
@@ -62,9 +62,9 @@ function sharingWith({ path, extents }, { udf, own, tables, entries, files }, ke
         throw new Fault(`${path} has block ${mine}, which has a ${own.get(mine) || 'path table'} of the volume: that is not replaced`);
     }
     if (!keeps && udf) throw new Fault(`${path} would have its old length in the UDF that the disc has too: --fill keeps the length`);
-    const same = new Set(extents.map(keyOf));
+    const same = new Set(extents.map(extentKey));
     const isIn = (/** @type {FileEntry} */ it) => it.size > 0 && meets(it.block, endOfExtent(it));
-    const other = keeps ? undefined : entries.find(it => !same.has(keyOf(it)) && isIn(it));
+    const other = keeps ? undefined : entries.find(it => !same.has(extentKey(it)) && isIn(it));
     if (other) throw new Fault(`${path} can have no other length: ${other.path} has some of its blocks`);
     return [...new Set(files.filter(it => it.path !== path && isIn(it)).map(it => it.path))];
 }
@@ -97,14 +97,14 @@ async function pushSize(calls, image, parts, records, size) {
 }
 
 /**
- * The entries of extents in all trees of names, by what keyOf says.
+ * The entries of extents in all trees of names, by what extentKey says.
  * @param {FileEntry[]} entries
  * @param {FileEntry[]} extents
  */
-function recordsOf(entries, extents) {
+function recordsByKey(entries, extents) {
     /** @type {Map<string, FileEntry[]>} */
-    const records = new Map(extents.map(it => [keyOf(it), []]));
-    for (const it of entries) records.get(keyOf(it))?.push(it);
+    const records = new Map(extents.map(it => [extentKey(it), []]));
+    for (const it of entries) records.get(extentKey(it))?.push(it);
     return records;
 }
 
@@ -126,14 +126,14 @@ export async function replaceFile(calls, crew, image, { path, size, extents, nam
     const had = `${size} bytes${keeps ? '' : ` and room for ${room}`}`;
     if (wanted.size > room) throw new Fault(`${path} has ${had}, the new file ${wanted.size}`);
     const sharing = sharingWith({ path, size, extents }, names, keeps);
-    const records = recordsOf(names.entries, extents);
+    const records = recordsByKey(names.entries, extents);
     const parts = new ScriptParts();
     const filled = filledReader(wanted, room + USER_SIZE, fill);
     let before = 0;
     for (const [i, extent] of extents.entries()) {
         const count = extentRoom(extent) / USER_SIZE;
         const fresh = Math.max(Math.min(wanted.size - before, lengths[i]), 0);
-        if (!keeps && fresh !== extent.size) await pushSize(calls, image, parts, records.get(keyOf(extent)) || [], fresh);
+        if (!keeps && fresh !== extent.size) await pushSize(calls, image, parts, records.get(extentKey(extent)) || [], fresh);
         const first = extent.block - image.base;
         const old = sliceOf(image.reader, first * SECTOR_SIZE, (first + count) * SECTOR_SIZE);
         const readers = [old, sliceOf(filled, before, before + count * USER_SIZE)];

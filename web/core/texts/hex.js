@@ -3,7 +3,7 @@
 import { lacks, textFault } from './characters.js';
 import { PAIRS_OF_DIGITS, bytesOfHex, hexText } from './digits.js';
 
-export { bytesOfHex, hexText };
+export { bytesOfHex, hexText } from './digits.js';
 
 /** @typedef {import('./encoding.js').Encoding} Encoding */
 

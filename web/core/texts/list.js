@@ -28,8 +28,8 @@ import { assertHasRoom, replacedEach } from './replace.js';
  */
 /** @typedef {{ text: ListRow, why: string }} LeftRow a row that does not fit, and why */
 
-const COLUMNS = ['block', 'offset', 'text', 'new', 'room', 'encoding'];
-const NEEDED = COLUMNS.slice(0, 4);
+const LIST_COLUMNS = ['block', 'offset', 'text', 'new', 'room', 'encoding'];
+const NEEDED = LIST_COLUMNS.slice(0, 4);
 
 /** How many rows have new texts at most. */
 const MOST_ROWS = 1000000;
@@ -83,7 +83,7 @@ function headOf(list) {
             if (number > MOST_HEADS) break;
             const names = cells.map(name => name.trim().replace(/^"(.*)"$/, '$1').toLowerCase());
             const missing = NEEDED.filter(name => !names.includes(name));
-            const twice = COLUMNS.find(name => names.indexOf(name) !== names.lastIndexOf(name));
+            const twice = LIST_COLUMNS.find(name => names.indexOf(name) !== names.lastIndexOf(name));
             if (missing.length === 0 && twice) throw new Fault(`row ${number} of the list names two columns ${twice}`);
             if (missing.length === 0) return { mark, number, names, isQuoted };
             if (nearest === null || missing.length < nearest.missing.length) nearest = { number, missing };
@@ -109,7 +109,7 @@ export async function* listRows(list, isAlso = () => false, signal) {
     const head = headOf(list);
     if (head === null) return;
     const table = new Table(list, head.mark);
-    const [block, offset, text, fresh, room, encoding] = COLUMNS.map(name => head.names.indexOf(name));
+    const [block, offset, text, fresh, room, encoding] = LIST_COLUMNS.map(name => head.names.indexOf(name));
     const isPlace = (/** @type {string[]} */ cells) => [block, offset].every(column => wholeIn(cells[column]) >= 0);
     table.isQuoted = table.isQuoted || head.isQuoted;
     table.isRow = line => isPlace(line.split(head.mark, Math.max(block, offset) + 1));

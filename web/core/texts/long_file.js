@@ -11,7 +11,7 @@ import { markOf } from './encodings.js';
 /** Bytes that are decoded at a time. */
 const PART = 1 << 20;
 
-const LINE_FEED = 0x0A;
+const NEW_LINE = 0x0A;
 
 /**
  * The text of a file, as `textOfFile` reads it.
@@ -64,7 +64,7 @@ function* cutAfterLines(parts) {
     /** @type {Uint8Array[]} */
     let held = [];
     for (const part of parts) {
-        const end = part.lastIndexOf(LINE_FEED) + 1;
+        const end = part.lastIndexOf(NEW_LINE) + 1;
         if (end === 0) {
             held.push(part);
             continue;

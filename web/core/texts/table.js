@@ -24,7 +24,7 @@ const SILENT = /^(\s*$|[;#]|\/\/)/;
  * Lines that mean something to the tools that dump and insert scripts, and nothing here: the name of a table and a change to another one,
  * the marks of Thingy, bytes without a text, and parameters that are given by their forms.
  */
-const FOREIGN = /^([@!([{]|[$*/]?([0-9A-Fa-f]{2})+=$|\$[0-9A-Fa-f]+=.*,%)/;
+const OTHER_TOOLS = /^([@!([{]|[$*/]?([0-9A-Fa-f]{2})+=$|\$[0-9A-Fa-f]+=.*,%)/;
 
 /**
  * The encoding of the text of a `.tbl` file: lines HEX=TEXT. `*HEX` is a line end, `/HEX=TEXT` or `/HEX` ends a text, and in `$HEX=TEXT,N`
@@ -37,7 +37,7 @@ export function tableEncoding(file) {
     file.split(/\r?\n/).forEach((line, i) => {
         const start = line.slice(0, LONGEST_LINE);
         if (SILENT.test(start)) return;
-        if (FOREIGN.test(start)) return void made.leftOut.push(i + 1);
+        if (OTHER_TOOLS.test(start)) return void made.leftOut.push(i + 1);
         const why = addLine(made, start);
         if (why !== '') throw textFault(`line ${i + 1} of the table${why}`);
     });
