@@ -7,7 +7,7 @@ import { filledUp, replaceBytes } from '../script/replace_bytes.js';
 import { rowsOf } from './cells.js';
 import { unitsOfCell } from './codes.js';
 import { bytesAround, bytesBefore } from './context.js';
-import { spaceIn, usualBytes } from './encoding.js';
+import { spaceIn, usualBytes, wideSpaceIn } from './encoding.js';
 import { encodingOf, textOfFile } from './encodings.js';
 import { endOfMatch } from './find.js';
 import { assertHasRoom, replacedEach } from './replace.js';
@@ -29,7 +29,7 @@ const NEEDED = ['block', 'offset', 'text', 'new'];
 const LONGEST_TEXT = 1 << 16;
 const MOST_ROWS = 1000000;
 
-/** What may stand after a text to fill up its room. */
+/** What may fill up the room of a text after it, beside the wide space. */
 const FILLING = [0x00, 0x20, 0xFF];
 
 /** The most bytes of a list. */
@@ -94,6 +94,8 @@ export function* listRows(list, isAlso = () => false) {
  * @param {number} [to] where the next one begins
  */
 export function fillingAfter(encoding, bytes, from, to = bytes.length) {
+    const wide = wideSpaceIn(encoding);
+    if (wide !== null && from < to && bytes[from] === wide[0] && wide[0] !== 0) return repeatedAfter(wide, bytes, from, to);
     const value = bytes[from];
     if (from >= to || !FILLING.includes(value)) return 0;
     const { length: unit } = spaceIn(encoding) || [0];
@@ -101,6 +103,19 @@ export function fillingAfter(encoding, bytes, from, to = bytes.length) {
     while (end < to && bytes[end] === value) end += 1;
     const count = end - from - (value === (encoding.end || 0) ? unit : 0);
     return Math.max(count - count % unit, 0);
+}
+
+/**
+ * How many bytes from a place on repeat some.
+ * @param {Uint8Array} repeated
+ * @param {Uint8Array} bytes
+ * @param {number} from
+ * @param {number} to
+ */
+function repeatedAfter(repeated, bytes, from, to) {
+    let end = from;
+    while (end + repeated.length <= to && repeated.every((byte, k) => bytes[end + k] === byte)) end += repeated.length;
+    return end - from;
 }
 
 /**
