@@ -5,7 +5,7 @@ import { ASCII, CONTROL, HALF_WIDTH, LINE_END, codeAt } from './scores.js';
 /** @typedef {import('./scores.js').Scores} Scores */
 
 /** Characters that are not text: control codes but tabs and line ends, a user's own, and bytes without a character. */
-const NOT_PLAIN = /[\0-\x08\x0B\x0C\x0E-\x1F\x7F-\x9F\uE000-\uF8FF\uFFFD]/;
+const NOT_PLAIN = /(?![\t\n\r])[\p{Cc}\uE000-\uF8FF\uFFFD]/u;
 
 /**
  * How many bytes the character at a place has: 1, or in UTF-16 2, if there is none.

@@ -4,7 +4,7 @@ import { readTo } from './candidates.js';
 
 /** @typedef {import('./candidates.js').Candidate} Candidate */
 /** @typedef {import('./scores.js').Scores} Scores */
-/** @typedef {{ distance: number, column: number, members: number[] }} Table the distance of its records, and where which texts begin in it */
+/** @typedef {{ distance: number, column: number, members: number[] }} Table the distance of records, and where in it which texts begin */
 /** @typedef {{ filling: number[], from: number, to: number }} Filled what fills up the field of a record, and from where to where */
 
 /** Of this many texts on each side of one, so many begin at a multiple of the distance of records. */
@@ -36,9 +36,9 @@ const NUMBERS = [[0x00], [0xFF]];
  * @param {Candidate[]} texts in order
  */
 export function withRecords(bytes, texts) {
-    const fitted = [...texts];
-    for (const table of tablesOf(texts)) fitTable(bytes, fitted, table);
-    return fitted;
+    const all = [...texts];
+    for (const table of tablesOf(texts)) fitTable(bytes, all, table);
+    return all;
 }
 
 /**

@@ -6,8 +6,8 @@ import { plainTo, sizeAt, wholeText } from './plain.js';
 /** @typedef {import('./scores.js').Scores} Scores */
 
 /**
- * A row has at most MOST bytes. A longer text is cut before places that are GRID bytes apart in the file, so that all ranges that see it cut
- * it alike: at the last line end within WINDOW bytes before such a place, or else at the end of a sentence.
+ * A row has at most MOST bytes. A longer text is cut before places that are GRID bytes apart in the file, so that all ranges that see it
+ * cut it alike: at the last line end within WINDOW bytes before such a place, or else at the end of a sentence.
  */
 const MOST = 4096;
 const WINDOW = 1024;
@@ -69,7 +69,7 @@ function wholeOf(bytes, texts, shift) {
     if (most === undefined || most[0].own) return null;
     const [scores, count] = most;
     const own = texts.filter(it => it.scores === scores);
-    const longest = own.reduce((most, it) => it.to - it.from > most.to - most.from ? it : most);
+    const longest = own.reduce((last, it) => it.to - it.from > last.to - last.from ? it : last);
     // The longest text is most likely read from the right byte on. At the beginning of a file there is no doubt.
     const bounds = wholeText(scores, bytes, shift === 0 ? [0, longest.from] : [longest.from], count, shift === 0);
     if (bounds === null) return null;
