@@ -244,3 +244,16 @@ test('several paths are looked into, each once, and one that is none is named', 
     assert.deepEqual((await paths('A', 'A/ONE.BIN', 'AA.BIN'))[1], all.slice(0, 3));
     assert.deepEqual(await paths('A', 'C'), [2, [], 'cdscript: there is no file C; cdscript files lists them\n']);
 }));
+
+test('each line of a text is a row with --lines, and comes back as it is', t => inDirectory(async room => {
+    const lines = ['勇者は古い剣を手に入れた。', 'は', '', 'The hero', '村人が城の地下について話した！'];
+    const bytes = encoded(lines.slice(0, 5), 'CP932');
+    if (!await makeFiles(room, { 'STORY.TXT': bytes })) return t.skip('no genisoimage');
+    const rows = rowsOf((await run(['texts', 'image', '--lines', '--in', 'STORY.TXT'], { cwd: room })).out);
+    assert.deepEqual(rows.map(row => row[6]), lines.filter(line => line !== ''));
+    assert.deepEqual(rows.map(row => row[2]), rows.map(row => row[3]));
+    assert.deepEqual(rowsOf((await run(['texts', 'image', '--in', 'STORY.TXT'], { cwd: room })).out).length, 1);
+    write(room, { list: [HEAD, ...rows.map(row => `${row.slice(0, 7).join('\t')}\tok`).filter((_, i) => i !== 1), ''].join('\n') });
+    const made = await run(['replace', 'image', '--list', 'list'], { cwd: room });
+    assert.deepEqual([made.status, made.out.split('\n').length], [0, 5]);
+}));

@@ -220,3 +220,67 @@ test('of a file in one encoding others are kept only if they are surer', () => {
     assert.equal(keptOf([...many, made(euc, 36)]).length, 11);
     assert.equal(keptOf([made(cp932, 40), made(euc, 40)]).length, 2);
 });
+
+/** Texts with a byte after each. */
+const endedBy = (name, texts, byte) => Buffer.concat(texts.flatMap(text => [bytesOf(name, text), Buffer.of(byte)]));
+
+/** What a teller of an encoding finds: the bytes of each text. */
+const foundIn = (name, bytes) => new TextTeller(allScores().some(it => it.encoding.name === name) ? allScores() : [tableScores(encodingOf(name))])
+    .tell(bytes).map(({ start, end }) => bytes.subarray(start, end).toString('hex'));
+
+const SENTENCES = {
+    'CP932': ['城の地下に宝があるらしい！', '旅の商人からそう聞いた…', '扉を開けますか？', 'ここは港町です。', '「だれもいない。」'],
+    'EUC-JP': ['城の地下に宝があるらしい！', '旅の商人からそう聞いた…', '扉を開けますか？', 'ここは港町です。', '「だれもいない。」'],
+    'Big5': ['對所有指定的檔案進行解壓縮處理。', '如果設定了這個變數！', '要刪除的現有約束？', '無法讀取磁碟的狀態，'],
+    'GBK': ['对所有指定的文件进行解压缩处理。', '如果设定了这个变量！', '要删除的现有约束？', '无法读取磁盘的状态，'],
+    'EUC-KR': ['숨김 파일을 표시합니다.', '이 프로그램은 무엇을 합니까?', '모두 지우시겠습니까?', '노르웨이어로 쓴 글입니다!'],
+};
+
+test('final marks belong to a text, whatever ends it', () => {
+    for (const [name, texts] of Object.entries(SENTENCES)) for (const end of [0x00, 0xFF]) for (const count of [1, 3]) {
+        const some = Array.from({ length: count }, () => texts).flat();
+        const bytes = endedBy(name, some, end);
+        assert.deepEqual(foundIn(name, bytes), some.map(text => bytesOf(name, text).toString('hex')), `${name} ${end}`);
+    }
+});
+
+test('letters, marks, and half-width kana at the beginning belong to a text', () => {
+    const texts = ['HPが足りません', '「だれだ！」', 'ﾒﾓﾘｰが足りません', '『古い本』を読みますか？', 'A城の地下に宝がある', 'OK、旅に出ましょう。', '(小さな声で)ここです'];
+    for (const end of [0x00, 0xFF]) {
+        const bytes = Buffer.concat([Buffer.of(end), endedBy('CP932', texts, end)]);
+        assert.deepEqual(foundIn('CP932', bytes), texts.map(text => bytesOf('CP932', text).toString('hex')), `${end}`);
+    }
+    // Of two letters or more nobody needs to know what is before them; a code before them is not a part of the text.
+    for (const [before, text] of [[[0x11, 0x80], 'HPが足りません'], [[0x00, 0x10, 0x02], '城の地下に宝がある'], [[0x00, 0x10, 0x23], '城の地下に宝がある']]) {
+        const bytes = Buffer.concat([Buffer.from(before), bytesOf('CP932', text), Buffer.of(0)]);
+        assert.deepEqual(foundIn('CP932', bytes), [bytesOf('CP932', text).toString('hex')], `${before}`);
+    }
+});
+
+test('short words of Big5 one after the other are texts, and addresses are not', () => {
+    const words = ['長劍', '短弓', '木盾', '鐵盔', '藥草', '毒草', '聖水', '地圖', '鑰匙', '火把', '金幣', '寶石', '戒指', '項鍊', '披風'];
+    assert.ok(foundIn('Big5', Buffer.concat([Buffer.of(0), endedBy('Big5', words, 0)])).length >= words.length - 1);
+    assert.deepEqual(foundIn('Big5', Buffer.concat([Buffer.of(0), endedBy('Big5', words.slice(0, 4), 0)])), []);
+    const addresses = Buffer.concat(Array.from({ length: 40 }, (_, i) => Buffer.of(0x60 + i, 0xA4, 0x6A, 0xAB, 0, 0)));
+    assert.deepEqual(foundIn('Big5', addresses), []);
+});
+
+test('texts with a length before each are found as they are, in each encoding', () => {
+    for (const [name, texts] of Object.entries({ ...SENTENCES, 'UTF-8': SENTENCES.CP932, 'UTF-16LE': SENTENCES.CP932, 'UTF-16BE': SENTENCES.CP932 })) {
+        const some = Array.from({ length: 40 }, (_, i) => texts[(i * 7 + (i >> 2)) % texts.length]).map(text => bytesOf(name, text));
+        for (const length of [size => [size], size => [size, 0], size => [0, size], size => [size, 0, 0, 0]]) {
+            const bytes = Buffer.concat(some.flatMap(text => [Buffer.from(length(text.length)), text]));
+            assert.deepEqual(foundIn(name, bytes), some.map(text => text.toString('hex')), `${name} ${length(1)}`);
+        }
+    }
+});
+
+test('a text with many letters and digits is not cut by what may be lengths', () => {
+    const text = Array.from({ length: 90 }, (_, i) => `城の地下に HP ${i} の薬があるらしい, Lv ${i % 9} NPC ok ${7 * i} `).join(' / ');
+    for (const name of ['CP932', 'EUC-JP', 'UTF-8']) {
+        const bytes = Buffer.concat([Buffer.of(0xFF, 0), bytesOf(name, text), Buffer.of(0)]);
+        const places = found(bytes);
+        assert.deepEqual([places[0][0], places.at(-1)[1]], [2, bytes.length - 1], name);
+        places.forEach(([start], i) => assert.ok(i === 0 || start === places[i - 1][1], name));
+    }
+});

@@ -33,6 +33,7 @@ export const OPTION_FORMS = {
     loose: { word: '--loose', value: '', does: 'take half-width and full-width, and both cases, as one' },
     list: { word: '--list', value: 'FILE', does: 'replace what this table says, in TSV or CSV' },
     csv: { word: '--csv', value: '', does: 'print CSV, as spreadsheets open it, and not TSV' },
+    lines: { word: '--lines', value: '', does: 'print a row for each line of a text, without its line end' },
     in: { word: '--in', value: 'PATH', does: 'look only into this file or directory; may be given again' },
     min: { word: '--min', value: 'N', does: 'print texts of N characters or more; the default is 2' },
     limit: { word: '--limit', value: 'N', does: 'print the first N hits; the default is 1000' },
@@ -54,8 +55,8 @@ export const OPTION_FORMS = {
  * The options that were given, by their names in OPTION_FORMS.
  * @typedef {{ base?: number, track?: number, limit?: number, first?: number, fill?: Uint8Array | 'end', encoding?: string, table?: string,
  *     output?: string, carry?: boolean, long?: boolean, skipDamaged?: boolean, partial?: boolean, all?: boolean, inside?: boolean,
- *     loose?: boolean, list?: string, csv?: boolean, in?: string[], min?: number, fields?: boolean, help?: boolean, version?: boolean,
- *     notices?: boolean, dat?: string[], resume?: string }} Options
+ *     loose?: boolean, list?: string, csv?: boolean, lines?: boolean, in?: string[], min?: number, fields?: boolean, help?: boolean,
+ *     version?: boolean, notices?: boolean, dat?: string[], resume?: string }} Options
  */
 
 const FROM_0 = 'The first sector is block 0, if --base or a cue sheet does not say another one. ';
@@ -118,7 +119,7 @@ export const FORMS = {
         example: "cdscript find game.cue 'press start' --encoding CP932",
     },
     'texts': {
-        job: textsJob, takes: ['IMAGE'], options: ['encoding', 'table', 'in', 'min', 'csv', 'track', 'base', 'output'],
+        job: textsJob, takes: ['IMAGE'], options: ['encoding', 'table', 'in', 'min', 'lines', 'csv', 'track', 'base', 'output'],
         says: 'Print a table of all texts of a disc',
         does: 'Its columns are block, offset, bytes, room, encoding, file, text, and an empty one for what replace --list takes. What is ' +
             'no text is kept out by how likely it is. Without an encoding those of Japanese discs are looked for. Status: 0 done, 1 none ' +

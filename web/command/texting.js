@@ -26,10 +26,10 @@ function stretchesIn(stretches, paths) {
 
 /** @param {Run} run */
 export async function textsJob(run) {
-    const { encoding, table, csv, min: least, in: paths = [] } = run.options;
+    const { encoding, table, csv, lines, min: least, in: paths = [] } = run.options;
     const named = encoding === undefined ? null : encodingOf(encoding);
     if (named !== null && !named.hasCharacters) throw new Fault(`texts are told by their characters, and ${named.name} has none`);
-    const asked = { encoding, table: table && tableTextOf(await wholeOf((await run.files.image(table)).reader)) };
+    const asked = { encoding, lines, table: table && tableTextOf(await wholeOf((await run.files.image(table)).reader)) };
     const target = await run.target();
     const { part, files, why } = await openTexts(run, run.names[0]);
     why.forEach(text => run.say(text));

@@ -19,15 +19,17 @@ import { visible } from './visible.js';
  * @typedef {{ path: string, before: number, first: number, size: number }} Stretch
  */
 /**
- * What a table has: texts in what is asked for, of at least so many characters, and a tab or a comma between cells. `signal` ends the job;
- * `progress` hears of sectors.
+ * What a table has: texts in what is asked for, of at least so many characters, each line of them in a row of its own if `asked` says so,
+ * and a tab or a comma between cells. `signal` ends the job; `progress` hears of sectors.
  * @typedef {{ asked: AskedTexts, least?: number, mark?: string, signal?: { aborted: boolean },
  *     progress?: (done: number, all: number) => void }} TableHow
  */
 
 const COLUMN_NAMES = ['block', 'offset', 'bytes', 'room', 'encoding', 'file', 'text', 'new'];
 
+/** The fewest characters of a row. A line of one character is a line. */
 const LEAST_CHARACTERS = 2;
+const LEAST_OF_LINES = 1;
 
 /** Stretches that are looked at side by side. */
 const STRETCHES_AT_ONCE = 64;
@@ -103,7 +105,8 @@ function cellsOf({ base, order }, { path, before, first }, { start, end, room, s
  * @param {TableHow} how
  * @returns {AsyncGenerator<{ text: string, count: number }>}
  */
-export async function* tableOfTexts(crew, part, stretches, { asked, least = LEAST_CHARACTERS, mark = '\t', signal, progress }) {
+export async function* tableOfTexts(crew, part, stretches, how) {
+    const { asked, least = asked.lines ? LEAST_OF_LINES : LEAST_CHARACTERS, mark = '\t', signal, progress } = how;
     const all = stretches.reduce((sum, stretch) => sum + sectorsOf(stretch), 0);
     // A character has two units at most.
     const isLong = (/** @type {Told} */ { text }) => text.length >= 2 * least || [...text].length >= least;

@@ -1,7 +1,7 @@
 // The best way to read bytes around a place as characters of one encoding.
 
 import { AFTER_KINDS } from './frequencies.js';
-import { BAD, KANJI, codeAt } from './scores.js';
+import { ASCII, BAD, CONTROL, KANJI, codeAt } from './scores.js';
 
 /** @typedef {import('./scores.js').Scores} Scores */
 
@@ -14,6 +14,9 @@ const FALL = 56;
 
 /** In UTF-16 two bytes 00 over the border of two characters are the end of a text that is read with the other byte first. */
 const ZEROS = -FALL - 4;
+
+/** What a control code after another one has more: two begin a new line in many games, and do not end a text. */
+const SECOND_CONTROL = 20;
 
 /** Only so many kanji in a row count, and no character that stands among the last ones. */
 const KANJI_IN_A_ROW = 6;
@@ -31,6 +34,8 @@ const KINDS = AFTER_KINDS.length;
 export class PathFinder {
     constructor() {
         this.order = Int8Array.from(AFTER_KINDS.flat());
+        this.order[CONTROL * KINDS + CONTROL] = SECOND_CONTROL;
+        this.order[CONTROL * KINDS + ASCII] = 0;
         // By places after the first one: of the best path that ends there its score and its start, the kind of its last character, and how
         // many kanji end it.
         this.score = new Int32Array(MOST + LONGEST);

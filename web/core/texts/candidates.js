@@ -2,14 +2,16 @@
 
 import { asWords } from '../sectors/sector.js';
 import { PathFinder } from './best_path.js';
-import { ASCII, BAD, allScores, codeAt, seedBits, strengthOf } from './scores.js';
+import { ASCII, BAD, HALF_WIDTH, allScores, codeAt, seedBits, strengthOf } from './scores.js';
 import { SURE } from './told.js';
 
 /** @typedef {import('./scores.js').Scores} Scores */
 /**
- * A text: where it begins and ends, its score in bits, its encoding, on how many sides of it 00 stands, whether only what is beside it
- * tells it, and its characters, '' if they are not decoded yet.
- * @typedef {{ start: number, end: number, score: number, scores: Scores, zeros: number, near: boolean, text: string }} Candidate
+ * A text: where it begins and ends; where the part of it begins and ends whose characters are counted; its score in bits, its encoding, on
+ * how many sides of it there is a 00, whether it is accepted only because of its neighbours, and its characters, '' if they are not decoded
+ * yet. `limit` is where its room ends at the latest, if it is in a table.
+ * @typedef {{ start: number, end: number, from: number, to: number, score: number, scores: Scores, zeros: number, near: boolean,
+ *     text: string, limit?: number }} Candidate
  */
 /** @typedef {{ covered: number, end: number }} Known how far an encoding has been looked at, and where its last text ended */
 
@@ -20,7 +22,7 @@ export const LESS = 10;
 const ODD = 14;
 
 /** A text is extended to a 00 over this many bytes, and a 00 on a side of it is worth this many bits. */
-const MOST_EXTENSION = 40;
+export const MOST_EXTENSION = 40;
 const ZERO = 6;
 
 /** How much neighbouring bytes of a text differ on average, unlike those of pictures; and which part of its characters are different. */
@@ -114,7 +116,7 @@ export class CandidateFinder {
         const first = bytes[at - 3] << 8 | bytes[at - 2];
         // One character twice counts once.
         if (size === 2 && (last === first || strengthOf(scores, last) + strengthOf(scores, first) < least)) return null;
-        const place = at - size - 1;
+        const place = Math.max(at - size - 1, Math.min(known.end, at - 1));
         const { start, end, score } = this.paths.find(scores, bytes, Math.min(known.end, place), place);
         known.covered = Math.max(end, at + 1);
         if (score / 4 + 2 * ZERO < SURE - LESS) return null;
@@ -134,7 +136,8 @@ export class CandidateFinder {
         const zeros = Number(before) + Number(isZero(scores, bytes, reached.end));
         const bits = score / 4 + ZERO * zeros - (wide && reached.start % 2 === 1 ? ODD : 0);
         const isText = bits >= SURE - LESS && (zeros === 2 || own || !goesOneWay(text));
-        return isText ? { start: reached.start, end: reached.end, score: bits, scores, zeros, near: false, text: whole } : null;
+        if (!isText) return null;
+        return { start: reached.start, end: reached.end, from: start, to: end, score: bits, scores, zeros, near: false, text: whole };
     }
 }
 
@@ -196,17 +199,20 @@ function extended(scores, bytes, start, end, low) {
 }
 
 /**
- * How far bytes can be read as characters from a place on: to a 00, to a limit, or to what is no character.
+ * How far bytes can be read as characters from a place on: to a 00, to a limit, or to a byte that is not a character. A half-width kana by
+ * itself does not count as one.
  * @param {Scores} scores
  * @param {Uint8Array} bytes
  * @param {number} from
  * @param {number} limit
  */
-function readTo(scores, bytes, from, limit) {
+export function readTo(scores, bytes, from, limit) {
     const { wide, size, one, oneKind, pair } = scores;
+    const isHalf = (/** @type {number} */ at) => at >= from && at < limit && oneKind[bytes[at]] === HALF_WIDTH;
     for (let at = from; ; ) {
         const code = codeAt(scores, bytes, at, limit);
-        const isOne = at < limit && !wide && one[bytes[at]] !== BAD && (bytes[at] < 0x80 || oneKind[bytes[at]] < ASCII);
+        const isOne = at < limit && !wide && one[bytes[at]] !== BAD &&
+            (bytes[at] < 0x80 || oneKind[bytes[at]] < ASCII || (isHalf(at) && (isHalf(at - 1) || isHalf(at + 1))));
         if (code > 0 && pair[code] > RAREST) at += size;
         else if (isOne) at += 1;
         else return at;

@@ -111,19 +111,30 @@ function bytesIfAny(encoding, text) {
     }
 }
 
-/** @type {WeakMap<Encoding, Uint8Array | null>} the spaces that were asked for: a table of texts asks at each */
+/** @type {WeakMap<Encoding, (Uint8Array | null)[]>} the spaces that were asked for, as a table of texts asks for them for each */
 const spaces = new WeakMap();
+
+/** @param {Encoding} encoding */
+function spacesIn(encoding) {
+    const known = spaces.get(encoding) || [bytesIfAny(encoding, encoding.space), bytesIfAny(encoding, encoding.wideSpace)];
+    spaces.set(encoding, known);
+    return known;
+}
 
 /**
  * What fills up a shorter text if nothing else is asked for, or null if the encoding has no space.
  * @param {Encoding} encoding
  */
 export function spaceIn(encoding) {
-    const known = spaces.get(encoding);
-    if (known !== undefined) return known;
-    const space = bytesIfAny(encoding, encoding.space);
-    spaces.set(encoding, space);
-    return space;
+    return spacesIn(encoding)[0];
+}
+
+/**
+ * The wide space of an encoding, or null if it has none.
+ * @param {Encoding} encoding
+ */
+export function wideSpaceIn(encoding) {
+    return spacesIn(encoding)[1];
 }
 
 /**

@@ -7,7 +7,7 @@ import { isTurnDue, letOthersIn, sortedInTurns } from '../turns.js';
 import { MARKS, Table } from './cells.js';
 import { LONGEST_TEXT, assertMeant, unitsOfCell } from './codes.js';
 import { bytesAround, bytesBefore } from './context.js';
-import { fillerOf, spaceIn, usualBytes } from './encoding.js';
+import { fillerOf, spaceIn, usualBytes, wideSpaceIn } from './encoding.js';
 import { encodingOf } from './encodings.js';
 import { endOfMatch } from './find.js';
 import { longTextOf } from './long_file.js';
@@ -37,7 +37,7 @@ const MOST_ROWS = 1000000;
 /** The row that names the columns is one of the first: others, such as a title, may come before it. */
 const MOST_HEADS = 20;
 
-/** What may stand after a text to fill up its room. */
+/** What may fill up the room of a text after it, beside the wide space. */
 const FILLING = [0x00, 0x20, 0xFF];
 
 /** The most bytes of a list. */
@@ -137,6 +137,8 @@ export async function* listRows(list, isAlso = () => false, signal) {
  * @param {number} [to] where the next one begins
  */
 export function fillingAfter(encoding, bytes, from, to = bytes.length) {
+    const wide = wideSpaceIn(encoding);
+    if (wide !== null && from < to && bytes[from] === wide[0] && wide[0] !== 0) return repeatedAfter(wide, bytes, from, to);
     const value = bytes[from];
     if (from >= to || !FILLING.includes(value)) return 0;
     const { length: unit } = spaceIn(encoding) || [0];
@@ -144,6 +146,19 @@ export function fillingAfter(encoding, bytes, from, to = bytes.length) {
     while (end < to && bytes[end] === value) end += 1;
     const count = end - from - (value === (encoding.end || 0) ? unit : 0);
     return Math.max(count - count % unit, 0);
+}
+
+/**
+ * How many bytes from a place on repeat some.
+ * @param {Uint8Array} repeated
+ * @param {Uint8Array} bytes
+ * @param {number} from
+ * @param {number} to
+ */
+function repeatedAfter(repeated, bytes, from, to) {
+    let end = from;
+    while (end + repeated.length <= to && repeated.every((byte, k) => bytes[end + k] === byte)) end += repeated.length;
+    return end - from;
 }
 
 /**

@@ -12,7 +12,10 @@ import { BESIDE } from './told.js';
 /** @typedef {import('./encoding.js').Encoding} Encoding */
 /** @typedef {import('./encoding.js').TableEncoding} TableEncoding */
 /** @typedef {import('./scores.js').Scores} Scores */
-/** @typedef {{ encoding?: string, table?: string }} AskedTexts the name of an encoding, or a table; neither for the usual encodings */
+/**
+ * The name of an encoding, or a table, or neither for the usual encodings; and whether each line is a text by itself.
+ * @typedef {{ encoding?: string, table?: string, lines?: boolean }} AskedTexts
+ */
 /**
  * A text, as it can be posted: its place in its file, how many bytes its room has, the name of its encoding, its score, whether only what
  * is beside it tells it, and itself.
@@ -44,17 +47,18 @@ function tellerOf({ encoding, table }) {
  * @param {{ count: number, size: number } & AskedTexts} args how many are the range, and the bytes of the file
  * @returns {Told[]}
  */
-export function textsOfRange(sectors, first, { count, size, ...asked }) {
+export function textsOfRange(sectors, first, { count, size, lines, ...asked }) {
     const shift = first * USER_SIZE;
     const bytes = userOfRange(sectors).subarray(0, size - shift);
     const [from, to] = [first === 0 ? 0 : BESIDE * USER_SIZE, (count + BESIDE) * USER_SIZE];
+    const texts = tellerOf(asked).tell(bytes, shift, lines);
     /** @type {Told[]} */
     const told = [];
     /** @type {Map<Scores, number>} by encodings, where the next text begins */
     const next = new Map();
-    for (const { start, end, scores, score, near, text: known } of tellerOf(asked).tell(bytes).reverse()) {
+    for (const { start, end, scores, score, near, text: known, limit = bytes.length } of texts.reverse()) {
         const { encoding } = scores;
-        const room = end - start + fillingAfter(encoding, bytes, end, next.get(scores) || bytes.length);
+        const room = end - start + fillingAfter(encoding, bytes, end, Math.min(next.get(scores) || bytes.length, limit));
         next.set(scores, start);
         if (start < from || start >= to) continue;
         const text = cellOf(encoding, bytes.subarray(start, end), known);

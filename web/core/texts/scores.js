@@ -22,9 +22,9 @@ export const BAD = -128;
 /** Kinds of characters: those of AFTER_KINDS, of which 0 is what is none. */
 export const KANJI = 3;
 export const ASCII = 6;
-const LINE_END = 7;
-const CONTROL = 8;
-const HALF_WIDTH = 9;
+export const LINE_END = 7;
+export const CONTROL = 8;
+export const HALF_WIDTH = 9;
 
 /** What characters of one byte score, by their kinds. */
 const ONES = { [ASCII]: -1, [LINE_END]: -16, [CONTROL]: -32, [HALF_WIDTH]: -1 };
@@ -32,6 +32,9 @@ const ONES = { [ASCII]: -1, [LINE_END]: -16, [CONTROL]: -32, [HALF_WIDTH]: -1 };
 /** What a character scores that the table lacks, by the rows of CP932: signs, the usual kanji, the others, NEC's, a user's own, IBM's. */
 export const USUAL_KANJI = 3;
 const RARE = [[0x8900, -24], [0x9873, USUAL_KANJI], [0xED00, -20], [0xF000, -27], [0xFA00, -28], [0x10000, -27]];
+
+/** What signs score that man pages have seldom and games often: those that end a sentence, and others. */
+const SIGNS = /** @type {[number, string][]} */ ([[24, '！？…'], [16, '『』♪～']]);
 
 /** Two neighbours of a text have this score each at least, and so much together. */
 const STRONG = 8;
@@ -77,6 +80,7 @@ function knownCharacters() {
             known.set(it, { score, kind: kindOf(it.charCodeAt(0)) });
         }
     });
+    for (const [score, signs] of SIGNS) for (const it of signs) known.set(it, { score, kind: kindOf(it.charCodeAt(0)) });
     return known;
 }
 
@@ -122,8 +126,9 @@ export function allScores() {
     });
 }
 
-/** What pairs of bytes score that stand seldom in texts of another language. */
+/** What pairs of bytes score that are rare in texts of another language. Its signs are as frequent as its usual characters. */
 const SELDOM = -16;
+const USUAL_SIGNS = '、。，．！？：；…—・·「」『』《》〈〉（）“”‘’';
 
 /** What the small Latin letters and the space of a game's own table score, as texts in English have them, and what is in no table. */
 const LATIN = 45;
@@ -161,9 +166,10 @@ export function tableScores(encoding) {
     const { usual } = encoding;
     const spelled = [...encoding.table.spellings].flatMap(([text, all]) => all.map(bytes => ({ text, bytes })));
     if (!usual) return ownScores(encoding, spelled);
-    const scored = spelled.map(({ bytes }) => {
+    const scored = spelled.map(({ text, bytes }) => {
         const code = codeOf(2, bytes, 0);
-        const score = code >= usual.first && code <= usual.last ? usual.score : SELDOM;
+        const isUsual = (code >= usual.first && code <= usual.last) || USUAL_SIGNS.includes(text);
+        const score = isUsual ? usual.score : SELDOM;
         return { bytes, ...bytes.length === 1 ? scoredOne(bytes[0]) : { score, kind: 0 } };
     });
     return scoresOf(encoding, scored, { least: 2 * usual.score });

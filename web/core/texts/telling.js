@@ -1,7 +1,11 @@
 // Which bytes of a stretch of a disc are texts, told from code, pictures and sound by how likely they are Japanese.
 
 import { CandidateFinder, LESS, isZero } from './candidates.js';
+import { withEdges } from './edges.js';
 import { ASCII, BAD, KANJI, USUAL_KANJI, codeAt } from './scores.js';
+import { withLengths } from './lengths.js';
+import { withRecords } from './records.js';
+import { joinedTexts, piecesOf } from './runs.js';
 import { SURE } from './told.js';
 
 /** @typedef {import('./candidates.js').Candidate} Candidate */
@@ -10,6 +14,14 @@ import { SURE } from './told.js';
 /** What is accepted near a sure text lies within this many bytes of it, and if no 00 adjoins it, within a few. */
 const REACH = 64;
 const REACH_WITHOUT_ZERO = 4;
+
+/**
+ * So many texts with 00 on both sides, each this many bytes from the next one at most, are sure together, as a list of short words is. So
+ * many of them have to begin with different characters, and end with different ones: those of addresses do not.
+ */
+const MANY = 10;
+const APART = 8;
+const DIFFERENT = 6;
 
 /** If a smaller share of candidates has LESS bits more, they are there by chance. */
 const MOST_BY_CHANCE = 0.4;
@@ -25,10 +37,15 @@ const RARE_BESIDE = -8;
 
 /** The texts of a stretch, in their order. */
 export class TextTeller extends CandidateFinder {
-    /** @param {Uint8Array} bytes */
-    tell(bytes) {
-        const sure = acceptedOf(withoutOverlaps(this.find(bytes)));
-        return withNeighbours(bytes, sure).flatMap(it => chainOf(bytes, it) || it);
+    /**
+     * @param {Uint8Array} bytes
+     * @param {number} [shift] how many bytes of the file come before them
+     * @param {boolean} [byLines] whether each line is a text
+     */
+    tell(bytes, shift = 0, byLines = false) {
+        const sure = acceptedOf(bytes, withoutOverlaps(this.find(bytes)));
+        const whole = joinedTexts(bytes, withEdges(bytes, withNeighbours(bytes, sure)), shift);
+        return withRecords(bytes, withLengths(bytes, whole)).flatMap(it => piecesOf(bytes, it, shift, byLines));
     }
 }
 
@@ -81,12 +98,47 @@ function sureWithoutZeros(candidates) {
 }
 
 /**
- * The candidates that are sure, and those near them in their encoding.
+ * The candidates with 00 on both sides that follow one another in a list.
+ * @param {Uint8Array} bytes
  * @param {Candidate[]} candidates in order
  */
-function acceptedOf(candidates) {
+function listedOf(bytes, candidates) {
+    /** @type {Map<Scores, Candidate[]>} by encodings, the last ones that follow one another */
+    const lists = new Map();
+    /** @type {Set<Candidate>} */
+    const listed = new Set();
+    for (const it of candidates) {
+        if (it.zeros < 2) continue;
+        const before = lists.get(it.scores) || [];
+        const list = before.length > 0 && it.start - before[before.length - 1].end <= APART ? before : [];
+        list.push(it);
+        lists.set(it.scores, list.slice(-MANY));
+        const isUnsure = list.length >= MANY && list.some(({ score }) => score < SURE);
+        if (isUnsure && areDifferent(bytes, list)) list.forEach(other => listed.add(other));
+    }
+    return listed;
+}
+
+/**
+ * Whether most of some texts begin, and end, with different characters.
+ * @param {Uint8Array} bytes
+ * @param {Candidate[]} texts
+ */
+function areDifferent(bytes, texts) {
+    const first = new Set(texts.map(({ start }) => bytes[start] << 8 | bytes[start + 1]));
+    const last = new Set(texts.map(({ end }) => bytes[end - 2] << 8 | bytes[end - 1]));
+    return Math.min(first.size, last.size) >= DIFFERENT;
+}
+
+/**
+ * The candidates that are sure, and those near them in their encoding.
+ * @param {Uint8Array} bytes
+ * @param {Candidate[]} candidates in order
+ */
+function acceptedOf(bytes, candidates) {
     const least = sureWithoutZeros(candidates);
-    const accepted = candidates.map(({ score, scores, zeros }) => score >= (zeros === 2 ? SURE : least.get(scores) || SURE));
+    const listed = listedOf(bytes, candidates);
+    const accepted = candidates.map(it => listed.has(it) || it.score >= (it.zeros === 2 ? SURE : least.get(it.scores) || SURE));
     for (const step of [1, -1]) {
         /** @type {Map<Scores, Candidate>} by encodings, the one that was accepted last */
         const last = new Map();
@@ -147,28 +199,7 @@ function textsBeside(bytes, { start, end, scores }, limit, isAfter) {
         const to = Math.max(near, far);
         const score = isBound ? bitsOf(scores, bytes, from, to) : -1;
         if (score < (scores.own ? 0 : LEAST_BESIDE)) return found;
-        found.push({ start: from, end: to, score, scores, zeros: 2, near: true, text: '' });
+        found.push({ start: from, end: to, from, to, score, scores, zeros: 2, near: true, text: '' });
         edge = far;
     }
-}
-
-/**
- * The texts of a chain in which the length of each stands before it, or null if it is none.
- * @param {Uint8Array} bytes
- * @param {Candidate} text
- */
-function chainOf(bytes, { start, end, score, scores, zeros, near }) {
-    if (scores.wide) return null;
-    for (let from = start - 1; from <= start; from++) {
-        let [at, count] = [from, 0];
-        for (; at >= 0 && at < end && bytes[at] >= 2; at += 1 + bytes[at]) count += 1;
-        if (at !== end || count < 2) continue;
-        /** @type {Candidate[]} */
-        const parts = [];
-        for (at = from; at < end; at += 1 + bytes[at]) {
-            parts.push({ start: at + 1, end: at + 1 + bytes[at], score, scores, zeros, near, text: '' });
-        }
-        return parts;
-    }
-    return null;
 }

@@ -1,0 +1,125 @@
+// Where texts begin and end exactly: at what ends the texts of a file, or at the letters and marks beside what is counted of them.
+
+import { MOST_EXTENSION, isZero, readTo } from './candidates.js';
+import { ASCII, BAD, HALF_WIDTH } from './scores.js';
+
+/** @typedef {import('./candidates.js').Candidate} Candidate */
+/** @typedef {import('./scores.js').Scores} Scores */
+
+/** A byte that follows this many texts, and this share of them, ends the texts of a file. */
+const LEAST_ENDED = 6;
+const LEAST_SHARE = 0.2;
+
+/** A single letter before a text may be a length or a code. Of half-width kana, too, there are two at least. */
+const LEAST_LETTERS = 2;
+
+const BEGINS = /[A-Za-z0-9([<"'`]/;
+
+/** What ends a sentence in a language that has spaces. */
+const MARKS = Array.from('.!?)"\'', mark => mark.charCodeAt(0));
+
+/**
+ * By encodings the byte, of those that are not a character, that ends most texts without a 00; -1 if there is none.
+ * @param {Uint8Array} bytes
+ * @param {Candidate[]} texts
+ */
+function endsOf(bytes, texts) {
+    /** @type {Map<Scores, { all: number, after: Uint32Array }>} */
+    const counts = new Map();
+    for (const { end, to, scores } of texts) {
+        const count = counts.get(scores) || { all: 0, after: new Uint32Array(256) };
+        counts.set(scores, count);
+        count.all += 1;
+        const read = scores.wide ? end : readTo(scores, bytes, to, Math.min(bytes.length, to + MOST_EXTENSION));
+        if (!scores.wide && read < bytes.length) count.after[bytes[read]] += 1;
+    }
+    return new Map(Array.from(counts, ([scores, { all, after }]) => {
+        after.fill(0, 0, 0x80);
+        const most = after.indexOf(Math.max(...after));
+        const isEnd = after[most] >= Math.max(LEAST_ENDED, LEAST_SHARE * all) && scores.one[most] === BAD && !isLead(scores, most);
+        return [scores, isEnd ? most : -1];
+    }));
+}
+
+/**
+ * Whether a byte begins a character of several bytes.
+ * @param {Scores} scores
+ * @param {number} byte
+ */
+function isLead({ size, pair }, byte) {
+    return size === 3 ? byte < 0xF8 : pair.subarray(byte << 8, (byte + 1) << 8).some(score => score !== BAD);
+}
+
+/**
+ * Texts with all that belongs to them at both ends.
+ * @param {Uint8Array} bytes
+ * @param {Candidate[]} texts in order
+ */
+export function withEdges(bytes, texts) {
+    const ends = endsOf(bytes, texts);
+    return texts.map((it, i) => {
+        const low = i > 0 ? texts[i - 1].end : 0;
+        const high = i + 1 < texts.length ? texts[i + 1].start : bytes.length;
+        const last = ends.get(it.scores) ?? -1;
+        const [start, end] = [startOf(bytes, it, low, last), endOf(bytes, it, high, last)];
+        return start === it.start && end === it.end ? it : { ...it, start, end, text: '' };
+    });
+}
+
+/**
+ * @param {Uint8Array} bytes
+ * @param {Candidate} text
+ * @param {number} high where the next one begins
+ * @param {number} last what ends texts
+ */
+function endOf(bytes, { end, scores }, high, last) {
+    if (scores.own || isZero(scores, bytes, end)) return end;
+    const limit = Math.min(high, end + MOST_EXTENSION);
+    const read = readTo(scores, bytes, end, limit);
+    if (read < bytes.length && bytes[read] === last) return read;
+    let at = end;
+    while (scores.encoding.usual && at < limit && MARKS.includes(bytes[at])) at += 1;
+    return at;
+}
+
+/**
+ * @param {Uint8Array} bytes
+ * @param {Candidate} text
+ * @param {number} low where the text before it ends
+ * @param {number} last what ends texts
+ */
+function startOf(bytes, { start, from, scores }, low, last) {
+    if (scores.own || scores.wide) return start;
+    const least = Math.max(low, from - MOST_EXTENSION);
+    let begin = from;
+    while (begin > least && bytes[begin - 1] !== 0 && bytes[begin - 1] !== last) begin -= 1;
+    const isBound = begin === 0 || (begin > 0 && (bytes[begin - 1] === 0 || bytes[begin - 1] === last)) || begin === low;
+    let code = from;
+    while (code > begin && isPrinted(scores, bytes[code - 1])) code -= 1;
+    if (isBound && code === begin && readTo(scores, bytes, begin, from) === from) return begin;
+    return Math.max(begin, from - lettersBefore(scores, bytes, from, begin));
+}
+
+/**
+ * Whether a byte is not a control code.
+ * @param {Scores} scores
+ * @param {number} byte
+ */
+function isPrinted({ oneKind }, byte) {
+    return oneKind[byte] <= ASCII + 1 || oneKind[byte] === HALF_WIDTH;
+}
+
+/**
+ * How many bytes right before a text are letters and signs of one byte that belong to it, or half-width kana.
+ * @param {Scores} scores
+ * @param {Uint8Array} bytes
+ * @param {number} from
+ * @param {number} low
+ */
+function lettersBefore({ oneKind }, bytes, from, low) {
+    let at = from;
+    while (at > low && oneKind[bytes[at - 1]] === ASCII) at -= 1;
+    while (at < from && !BEGINS.test(String.fromCharCode(bytes[at]))) at += 1;
+    if (at === from) while (at > low && oneKind[bytes[at - 1]] === HALF_WIDTH) at -= 1;
+    return from - at < LEAST_LETTERS ? 0 : from - at;
+}

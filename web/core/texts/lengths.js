@@ -1,0 +1,209 @@
+// Texts with a length before each, which is a number of 1, 2 or 4 bytes.
+
+import { readTo } from './candidates.js';
+import { plainTo } from './plain.js';
+
+/** @typedef {import('./candidates.js').Candidate} Candidate */
+/** @typedef {import('./scores.js').Scores} Scores */
+/** @typedef {(bytes: Uint8Array, at: number) => number} ReadLength */
+
+/**
+ * So many texts, each right after the one before it, show that there are lengths before them: if these are control codes or have several
+ * bytes; if the last one ends where all ends; or else. Letters, too, may look like lengths.
+ */
+const LEAST_TEXTS = 3;
+const LEAST_TO_END = 6;
+const LEAST_OF_LETTERS = 24;
+const CONTROL_SHARE = 0.1;
+
+/** How long texts with a length are. */
+const LEAST_LENGTH = 2;
+const MOST_LENGTH = 1024;
+
+/** The first length is at most so many bytes before the first character that is counted, or after the beginning of a long text. */
+const MOST_BEFORE = 12;
+const MOST_AFTER = 256;
+
+/** How many bytes are read at most for a text and a form of lengths: that many times its own, and a few. */
+const READ_FOR_EACH = 8;
+const READ_FOR_ALL = 256;
+
+/** @type {[number, ReadLength][]} how many bytes a length has, and how it is written */
+const FORMS = [
+    [1, (bytes, at) => bytes[at]],
+    [2, (bytes, at) => bytes[at] | bytes[at + 1] << 8],
+    [2, (bytes, at) => bytes[at] << 8 | bytes[at + 1]],
+    [4, (bytes, at) => bytes[at + 2] === 0 && bytes[at + 3] === 0 ? bytes[at] | bytes[at + 1] << 8 : 0],
+    [4, (bytes, at) => bytes[at] === 0 && bytes[at + 1] === 0 ? bytes[at + 2] << 8 | bytes[at + 3] : 0],
+];
+
+/** The same in UTF-16, in which characters may be counted. */
+const WIDE_FORMS = FORMS.flatMap(([width, read]) => /** @type {[number, ReadLength][]} */ ([
+    [width, read], [width, (bytes, at) => 2 * read(bytes, at)],
+]));
+
+/**
+ * Texts of which those that follow their lengths end where these say.
+ * @param {Uint8Array} bytes
+ * @param {Candidate[]} texts in order
+ */
+export function withLengths(bytes, texts) {
+    /** @type {Candidate[]} */
+    const all = [];
+    let low = 0;
+    for (const it of texts) {
+        if (it.end <= low) continue;
+        let rest = it.start < low ? { ...it, start: low, from: Math.max(low, it.from), text: '' } : it;
+        for (let chain = chainOf(bytes, rest, low); chain !== null; chain = chainOf(bytes, rest, low)) {
+            const { at, texts: found } = chain;
+            const last = all[all.length - 1];
+            // Before the first length of several bytes the text before it was taken to go on.
+            if (last && last.start >= at) all.pop();
+            else if (last && last.end > at) all[all.length - 1] = { ...last, end: at, to: Math.min(last.to, at), text: '' };
+            for (const [start, end] of found) all.push({ ...it, start, end, from: start, to: end, text: '' });
+            [, low] = found[found.length - 1];
+            if (low >= it.end || !hasWide(bytes, low, it.end)) break;
+            rest = { ...it, start: low, from: Math.min(low + MOST_BEFORE, it.end), text: '' };
+        }
+        if (low > it.start && !hasWide(bytes, low, it.end)) continue;
+        all.push(rest);
+        low = rest.end;
+    }
+    return all;
+}
+
+/**
+ * The texts of a chain in which there is the length of each before it, one of which is about where a text begins; or null.
+ * @param {Uint8Array} bytes
+ * @param {Candidate} text
+ * @param {number} low where it begins at the earliest
+ */
+function chainOf(bytes, { start, end, from, scores }, low) {
+    if (scores.own) return null;
+    for (const [width, read] of scores.wide ? WIDE_FORMS : FORMS) {
+        const left = { bytes: READ_FOR_EACH * (end - start) + READ_FOR_ALL };
+        const least = Math.max(low - width + 1, 0);
+        const last = lastPlace(start, end, from - width, least);
+        // The nearest ones before the first character come first, and then those after the beginning.
+        for (let k = 0, at = from - width; at <= last; k++) {
+            if (at >= least && areLengths(bytes, at, width, read)) {
+                const chain = chainFrom(bytes, scores, at, width, read, left);
+                const isOver = chain.length > 0 && chain[chain.length - 1][1] > from;
+                if (isOver && isChain(bytes, chain, width, at, { start, end, scores })) return { at, texts: chain };
+            }
+            if (k < MOST_BEFORE) at -= 1;
+            else if (k === MOST_BEFORE) at = Math.max(least, start, from - width + 1);
+            else at += 1;
+        }
+    }
+    return null;
+}
+
+/**
+ * The last place at which the first length may be. In a long text, of which only the end may be seen, it is some bytes after its beginning.
+ * @param {number} start
+ * @param {number} end
+ * @param {number} nearest
+ * @param {number} least
+ */
+function lastPlace(start, end, nearest, least) {
+    if (end - start > 2 * MOST_AFTER) return start + MOST_AFTER;
+    return Math.max(nearest, nearest < least ? least + MOST_BEFORE : start);
+}
+
+/**
+ * Whether texts follow one another by their lengths, and not by chance.
+ * @param {Uint8Array} bytes
+ * @param {[number, number][]} chain
+ * @param {number} width
+ * @param {number} at where the first length is
+ * @param {Pick<Candidate, 'start' | 'end' | 'scores'>} text
+ */
+function isChain(bytes, chain, width, at, { start, end, scores }) {
+    const last = chain[chain.length - 1][1];
+    const toEnd = last === end || last + MOST_LENGTH > bytes.length;
+    if (width === 1 && last === end && chain.length > 1 && (at === start || at === start - 1)) return true;
+    // Of several bytes one is 00, which is in no text but in UTF-16.
+    const isByte = width === 1 || (scores.wide && width === 2);
+    const codes = isByte ? chain.filter(([from]) => isCode(bytes[from - 1] || bytes[from - 2])).length : chain.length;
+    const isSure = codes > CONTROL_SHARE * chain.length && codes > 1;
+    return chain.length >= (isSure ? LEAST_TEXTS : toEnd ? LEAST_TO_END : LEAST_OF_LETTERS);
+}
+
+/** @param {number} byte whether it is a control code, and not a tab or a line end */
+function isCode(byte) {
+    return byte < 0x20 && byte !== 0x09 && byte !== 0x0A && byte !== 0x0D;
+}
+
+/**
+ * Whether numbers from a place on may be lengths of texts.
+ * @param {Uint8Array} bytes
+ * @param {number} from
+ * @param {number} width
+ * @param {ReadLength} read
+ */
+function areLengths(bytes, from, width, read) {
+    let at = from;
+    for (let count = 0; count < LEAST_TEXTS; count++) {
+        const length = at + width <= bytes.length ? read(bytes, at) : 0;
+        if (length < LEAST_LENGTH || length > MOST_LENGTH) return count > 1 && at === bytes.length;
+        at += width + length;
+    }
+    return true;
+}
+
+/**
+ * The texts that follow one another, with a length before each.
+ * @param {Uint8Array} bytes
+ * @param {Scores} scores
+ * @param {number} from
+ * @param {number} width
+ * @param {ReadLength} read
+ * @param {{ bytes: number }} left how many bytes may be read for texts that are not in a chain
+ */
+function chainFrom(bytes, scores, from, width, read, left) {
+    /** @type {[number, number][]} */
+    const chain = [];
+    for (let at = from; at + width < bytes.length && left.bytes > 0;) {
+        const start = at + width;
+        const length = read(bytes, at);
+        const end = start + length;
+        left.bytes -= chain.length < (width > 1 ? LEAST_TEXTS : LEAST_OF_LETTERS) ? length : 0;
+        if (length < LEAST_LENGTH || length > MOST_LENGTH || end > bytes.length || !isText(bytes, scores, at, start, end)) break;
+        chain.push([start, end]);
+        at = end;
+    }
+    return chain;
+}
+
+/**
+ * Whether bytes after a length are a text, of whole characters.
+ * @param {Uint8Array} bytes
+ * @param {Scores} scores
+ * @param {number} at where the length begins
+ * @param {number} start
+ * @param {number} end
+ */
+function isText(bytes, scores, at, start, end) {
+    const { size, wide, pair } = scores;
+    if (wide) return readTo(scores, bytes, start, end) === end;
+    // A usual character is not the end of a length and the beginning of a text.
+    if (size === 2 && start === at + 1 && pair[bytes[at] << 8 | bytes[start]] > 0) return false;
+    for (let from = start; from < end;) {
+        const read = readTo(scores, bytes, from, end);
+        from = read === end ? end : plainTo(scores, bytes, read, end);
+        if (from === read && from < end) return false;
+    }
+    return hasWide(bytes, start, end) && !bytes.subarray(start, end - 1).includes(0);
+}
+
+/**
+ * Whether bytes have others than ASCII.
+ * @param {Uint8Array} bytes
+ * @param {number} start
+ * @param {number} end
+ */
+function hasWide(bytes, start, end) {
+    for (let at = start; at < end; at++) if (bytes[at] >= 0x80) return true;
+    return false;
+}

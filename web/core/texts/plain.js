@@ -1,0 +1,107 @@
+// Characters that can be read in bytes, one after the other.
+
+import { ASCII, CONTROL, HALF_WIDTH, LINE_END, codeAt } from './scores.js';
+
+/** @typedef {import('./scores.js').Scores} Scores */
+
+/** Characters that are not text: control codes but tabs and line ends, a user's own, and bytes without a character. */
+const NOT_PLAIN = /(?![\t\n\r])[\p{Cc}\uE000-\uF8FF\uFFFD]/u;
+
+/**
+ * How many bytes the character at a place has: 1, or in UTF-16 2, if there is none.
+ * @param {Scores} scores
+ * @param {Uint8Array} bytes
+ * @param {number} at
+ */
+export function sizeAt(scores, bytes, at) {
+    const { wide, size, own, encoding } = scores;
+    if (!wide && !own && bytes[at] < 0x80) return 1;
+    return !own && codeAt(scores, bytes, at, bytes.length) > 0 ? size : encoding.characterAt(bytes, at).size;
+}
+
+/**
+ * How many bytes the character at a place has if it is a character of a plain text, else 0.
+ * @param {Scores} scores
+ * @param {Uint8Array} bytes
+ * @param {number} at
+ * @param {number} end
+ */
+function plainSizeAt(scores, bytes, at, end) {
+    const { wide, size, oneKind, pairKind, encoding } = scores;
+    const kind = wide ? 0 : oneKind[bytes[at]];
+    if (!wide && bytes[at] < 0x80) return kind === ASCII || kind === LINE_END ? 1 : 0;
+    const code = codeAt(scores, bytes, at, end);
+    if (code > 0 && pairKind[code] > 0) return pairKind[code] === CONTROL ? 0 : size;
+    if (kind === HALF_WIDTH && code === 0) return 1;
+    if (at + 1 >= end || (wide && bytes[at] === 0 && bytes[at + 1] === 0)) return 0;
+    const { size: whole, text } = encoding.characterAt(bytes, at);
+    return at + whole > end || NOT_PLAIN.test(text) ? 0 : whole;
+}
+
+/**
+ * How far bytes are a plain text from a place on.
+ * @param {Scores} scores
+ * @param {Uint8Array} bytes
+ * @param {number} from
+ * @param {number} end
+ */
+export function plainTo(scores, bytes, from, end) {
+    let at = from;
+    for (let size = -1; at < end && size !== 0; at += size) size = plainSizeAt(scores, bytes, at, end);
+    return at;
+}
+
+/**
+ * How many of bytes belong to characters that are not ASCII.
+ * @param {Scores} scores
+ * @param {Uint8Array} bytes
+ */
+function countOthers({ wide, pairKind }, bytes) {
+    let count = 0;
+    for (let at = 0; at + 1 < bytes.length && wide; at += 2) count += pairKind[bytes[at] << 8 | bytes[at + 1]] < ASCII ? 2 : 0;
+    for (let at = 0; at < bytes.length && !wide; at++) count += bytes[at] >> 7;
+    return count;
+}
+
+/** Bytes that may fill up a file after its text: 00, and the end of a file as DOS has it. */
+const AFTER_TEXT = [0x00, 0x1A];
+
+/** The most bytes of a part of a character at a border of what is seen, and of a mark of the byte order. */
+const MOST_BESIDE = 3;
+
+/**
+ * Where bytes are a plain text from their beginning to their end, or null. A few of them may be a mark before it or fill up after it.
+ * @param {Scores} scores
+ * @param {Uint8Array} bytes
+ * @param {number[]} begins places at which a character may begin, the likeliest one first
+ * @param {number} covered how many bytes are known to be text
+ * @param {boolean} isFirst whether the first byte is that of a file
+ */
+export function wholeText(scores, bytes, begins, covered, isFirst) {
+    let last = bytes.length;
+    while (last > 0 && AFTER_TEXT.includes(bytes[last - 1])) last -= 1;
+    for (const from of begins) {
+        const end = Math.min(bytes.length, scores.wide ? last + (last - from & 1) : last);
+        const read = plainTo(scores, bytes, from, end);
+        if (read !== end && (end < bytes.length || read < end - MOST_BESIDE)) continue;
+        const start = firstOf(scores, bytes, from, isFirst);
+        if (start >= 0 && 2 * covered >= countOthers(scores, bytes.subarray(start, read))) return { start, end: read };
+    }
+    return null;
+}
+
+/**
+ * Where the characters begin that are before a place: at the beginning, after a mark of the byte order, or after a part of one; or -1.
+ * @param {Scores} scores
+ * @param {Uint8Array} bytes
+ * @param {number} from
+ * @param {boolean} isFirst
+ */
+function firstOf(scores, bytes, from, isFirst) {
+    const hasMark = isFirst && scores.encoding.text(bytes.subarray(0, MOST_BESIDE)).startsWith('\uFEFF');
+    const first = hasMark ? sizeAt(scores, bytes, 0) : 0;
+    for (let start = first; start <= (isFirst ? first : Math.min(MOST_BESIDE, from)); start++) {
+        if (start <= from && plainTo(scores, bytes, start, from) === from) return start;
+    }
+    return -1;
+}

@@ -1,0 +1,240 @@
+// Texts in tables whose records have equal distances: a text, what fills up its field, and often numbers after it.
+
+import { readTo } from './candidates.js';
+
+/** @typedef {import('./candidates.js').Candidate} Candidate */
+/** @typedef {import('./scores.js').Scores} Scores */
+/** @typedef {{ distance: number, column: number, members: number[] }} Table the distance of records, and where in it which texts begin */
+/** @typedef {{ filling: number[], from: number, to: number }} Filled what fills up the field of a record, and from where to where */
+
+/** Of this many texts on each side of one, so many begin at a multiple of the distance of records. */
+const BESIDE = 6;
+const LEAST_BESIDE = 3;
+
+/** Between two records there are this many bytes at least that are not of a text. */
+const LEAST_BETWEEN = 3;
+
+/** A distance of records: the least, and the most. A table has so many texts, and no more records without one between two. */
+const LEAST_DISTANCE = 6;
+const MOST_DISTANCE = 1024;
+const LEAST_TEXTS = 5;
+const MOST_MISSING = 16;
+
+/** How far from the column of a table a text may begin that begins there in truth. */
+const OFF = 6;
+
+/** So many units of a filling end the text of a field. */
+const LEAST_FILLED = 2;
+
+/** What fills up fields: in UTF-16 each is a character. Numbers are often 00 or FF themselves, but seldom spaces. */
+const SPACES = [[0x20], [0x81, 0x40], [0xA1, 0xA1]];
+const NUMBERS = [[0x00], [0xFF]];
+
+/**
+ * Texts of which those in tables begin at the column and end in the field of each record.
+ * @param {Uint8Array} bytes
+ * @param {Candidate[]} texts in order
+ */
+export function withRecords(bytes, texts) {
+    const all = [...texts];
+    for (const table of tablesOf(texts)) fitTable(bytes, all, table);
+    return all;
+}
+
+/**
+ * The distance of which most distances between neighbours around a text are a multiple; 0 if there is none.
+ * @param {Int32Array} distances
+ * @param {number} i
+ */
+function distanceAt(distances, i) {
+    const from = Math.max(i - BESIDE, 0);
+    const to = Math.min(i + BESIDE, distances.length);
+    let [best, most] = [0, LEAST_BESIDE - 1];
+    for (let k = from; k < to; k++) {
+        const distance = distances[k];
+        if (distance === 0 || distance === best) continue;
+        let count = 0;
+        for (let j = from; j < to; j++) count += Number(distances[j] > 0 && distances[j] % distance === 0);
+        if (count > most || (count === most && distance > best)) [best, most] = [distance, count];
+    }
+    return best;
+}
+
+/**
+ * The distances between texts and the next ones, 0 for those that are not of two records.
+ * @param {Candidate[]} texts
+ */
+function distancesOf(texts) {
+    return Int32Array.from({ length: Math.max(texts.length - 1, 0) }, (_, i) => {
+        const distance = texts[i + 1].from - texts[i].from;
+        const isApart = texts[i + 1].start - texts[i].end >= LEAST_BETWEEN;
+        return isApart && distance >= LEAST_DISTANCE && distance <= MOST_DISTANCE ? distance : 0;
+    });
+}
+
+/**
+ * Whether a text begins at the column of others around it.
+ * @param {Candidate[]} texts
+ * @param {number} i
+ * @param {number} distance
+ */
+function isInColumn(texts, i, distance) {
+    let count = 0;
+    for (let k = Math.max(i - BESIDE, 0); k <= Math.min(i + BESIDE, texts.length - 1); k++) {
+        count += Number(k !== i && texts[k].scores === texts[i].scores && (texts[k].from - texts[i].from) % distance === 0);
+    }
+    return count >= LEAST_BESIDE;
+}
+
+/**
+ * The tables among texts.
+ * @param {Candidate[]} texts
+ */
+function tablesOf(texts) {
+    /** @type {Table[]} */
+    const tables = [];
+    const distances = distancesOf(texts);
+    texts.forEach(({ from }, i) => {
+        const distance = distanceAt(distances, i);
+        if (distance === 0 || !isInColumn(texts, i, distance)) return;
+        const last = tables[tables.length - 1];
+        const goesOn = last && last.distance === distance && from % distance === last.column &&
+            from - texts[last.members[last.members.length - 1]].from <= MOST_MISSING * distance;
+        if (goesOn) last.members.push(i);
+        else tables.push({ distance, column: from % distance, members: [i] });
+    });
+    return tables.filter(({ members }) => members.length >= LEAST_TEXTS);
+}
+
+/**
+ * Lets the texts of a table begin and end where its fields do.
+ * @param {Uint8Array} bytes
+ * @param {Candidate[]} texts
+ * @param {Table} table
+ */
+function fitTable(bytes, texts, { distance, column, members }) {
+    const own = members.map(i => ({ ...texts[i], start: texts[i].from }));
+    const records = own.map(it => ({ it, filled: filledIn(bytes, it, distance) }));
+    const filling = usualFilling(records.flatMap(({ filled }) => filled || []));
+    if (filling === null) return;
+    const field = mostOften(records.flatMap(({ it, filled }) => filled && filled.filling === filling ? filled.to - it.start : []));
+    if (field >= distance) return;
+    const longest = own.reduce((most, { start, to }) => to - start <= field ? Math.max(most, to - start) : most, 0);
+    const unit = own[0].scores.wide ? 2 : 1;
+    const room = NUMBERS.includes(filling) ? Math.min(field, longest + unit) : field;
+    for (let i = members[0]; i <= members[members.length - 1]; i++) {
+        const low = i > 0 ? texts[i - 1].end : 0;
+        const start = columnNear(bytes, texts[i], low, distance, column);
+        if (start >= 0 && texts[i].scores === own[0].scores) texts[i] = fitted(bytes, texts[i], start, { filling, field, room });
+    }
+}
+
+/**
+ * Of numbers the one that there is most often, the least of several.
+ * @param {number[]} numbers
+ */
+function mostOften(numbers) {
+    /** @type {Map<number, number>} */
+    const counts = new Map();
+    for (const it of numbers) counts.set(it, (counts.get(it) || 0) + 1);
+    const [[number]] = [...counts].sort(([a, many], [b, more]) => more - many || a - b);
+    return number;
+}
+
+/**
+ * Where a text begins in truth by the column of its table, or -1 if it is not in it.
+ * @param {Uint8Array} bytes
+ * @param {Candidate} text
+ * @param {number} low where the text before it ends
+ * @param {number} distance
+ * @param {number} column
+ */
+function columnNear(bytes, { start, end, scores }, low, distance, column) {
+    const after = (column - start % distance + distance) % distance;
+    if (after <= OFF && start + after < end) return start + after;
+    const before = start + after - distance;
+    return start - before <= OFF && before >= low && readTo(scores, bytes, before, start) === start ? before : -1;
+}
+
+/**
+ * @param {Uint8Array} bytes
+ * @param {Candidate} text
+ * @param {number} start
+ * @param {{ filling: number[], field: number, room: number }} table
+ */
+function fitted(bytes, text, start, { filling, field, room }) {
+    const own = { ...text, start, from: Math.max(start, text.from) };
+    const filled = filledBy(bytes, own, field, filling);
+    const isFilled = filled !== null && SPACES.includes(filling) && filled.from >= Math.min(text.to, start + field);
+    const end = isFilled ? Math.min(text.end, filled.from) : text.end > start + field ? Math.min(text.to, start + field) : text.end;
+    const isSame = start === text.start && end === text.end;
+    return { ...own, end, to: Math.min(text.to, end), text: isSame ? text.text : '', limit: start + room };
+}
+
+/**
+ * What fills up the field of a record after its text, or null.
+ * @param {Uint8Array} bytes
+ * @param {Candidate} text
+ * @param {number} distance
+ */
+function filledIn(bytes, text, distance) {
+    /** @type {Filled | null} */
+    let first = null;
+    for (const filling of [...SPACES, ...NUMBERS]) {
+        const filled = filledBy(bytes, text, distance, filling);
+        if (filled !== null && (first === null || filled.from < first.from)) first = filled;
+    }
+    return first;
+}
+
+/**
+ * Where a filling stands in a record, at least so often that it ends the text, or null.
+ * @param {Uint8Array} bytes
+ * @param {Candidate} text
+ * @param {number} distance
+ * @param {number[]} filling
+ * @returns {Filled | null}
+ */
+function filledBy(bytes, { start, to, scores }, distance, filling) {
+    const unit = unitOf(scores, filling);
+    const limit = Math.min(start + distance, bytes.length);
+    const isUnit = (/** @type {number} */ at) => at + unit.length <= limit && unit.every((byte, k) => bytes[at + k] === byte);
+    let from = Math.min(to, limit);
+    const step = scores.wide ? 2 : 1;
+    while (from < limit && !isTwice(isUnit, from, unit.length)) from += step;
+    if (from >= limit) return null;
+    let end = from;
+    while (isUnit(end)) end += unit.length;
+    return { filling, from, to: end };
+}
+
+/**
+ * @param {(at: number) => boolean} isUnit
+ * @param {number} from
+ * @param {number} length
+ */
+function isTwice(isUnit, from, length) {
+    for (let k = 0; k < LEAST_FILLED; k++) if (!isUnit(from + k * length)) return false;
+    return true;
+}
+
+/**
+ * The bytes of one unit of a filling.
+ * @param {Scores} scores
+ * @param {number[]} filling
+ */
+function unitOf({ wide, encoding }, filling) {
+    if (!wide) return filling;
+    if (NUMBERS.includes(filling)) return [filling[0], filling[0]];
+    return Array.from(encoding.units(filling.length === 1 ? ' ' : '\u3000')[0][0]);
+}
+
+/**
+ * The filling of most records, or null.
+ * @param {Filled[]} all
+ */
+function usualFilling(all) {
+    const counts = [...SPACES, ...NUMBERS].map(filling => ({ filling, count: all.filter(it => it.filling === filling).length }));
+    const [{ filling, count }] = counts.sort((a, b) => b.count - a.count);
+    return count >= LEAST_TEXTS ? filling : null;
+}
