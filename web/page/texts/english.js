@@ -384,6 +384,9 @@ export const newFileIsSame = 'The new file has the same bytes.';
 export const scriptTooLongToReplace = 'The script would be longer than cdpatch takes. cdscript replace-file makes it.';
 export const linesAdded = '{n} line added to the script.|{n} lines added to the script.';
 export const earlierLinesGone = '{n} line that replaced the file before is gone.|{n} lines that replaced the file before are gone.';
+export const otherLinesWrite = 'Line {line} writes in this file too, so it will not be exactly the new one.|\
+{n} other lines write in this file too, the first is line {line}, so it will not be exactly the new one.';
+export const fileAsOnDisc = 'This is the file on the disc, without the changes of the script.';
 export const fileChangesLength = '{name} had {before} bytes, and gets {after}.';
 export const openScriptPanel = 'Open Script';
 
@@ -772,10 +775,19 @@ export const changesStandThere = 'It holds what the change of {script} writes.|I
 export const anotherRelease = 'Another release, another disc, or another base?';
 export const someChangesFit =
     '{script}: {fitting} of {all} changes fit {image}, {n} does not.|{script}: {fitting} of {all} changes fit {image}, {n} do not.';
+export const nothingShowsFit = 'Nothing shows whether the change of {script} fits {image}.|\
+Nothing shows whether the {n} changes of {script} fit {image}.';
+export const namesNone = 'It names no old bytes.|None of them names old bytes.';
+export const noNamedFits = 'The change of {script} that names old bytes does not fit {image}.|\
+None of the {n} changes of {script} that name old bytes fits {image}.';
+export const othersNameNone = 'The other change names no old bytes, so nothing shows whether it fits.|\
+The other {n} changes name no old bytes, so nothing shows whether they fit.';
+export const saveWithOthers = 'Save with the other change…|Save with the other {n} changes…';
 export const repairOrCarry = 'Repair the image first, or tick “Patch damaged sectors too”.';
 export const anotherTrack = 'Only Mode 1 sectors are patched. Another track, or another disc?';
 export const anotherTrackOrBase = 'Another track, or another base?';
 export const savedWithout = 'A new image can be saved without that change.|A new image can be saved without those changes.';
+export const countCanBeApplied = '{n} can be applied';
 export const countFits = '{n} fits|{n} fit';
 export const countDoesNotFit = '{n} does not fit|{n} do not fit';
 
@@ -883,7 +895,8 @@ export const saveRepaired = 'Save repaired image…';
 export const writeRepairAsScript = 'Write it as a script';
 
 // a repair that is refused
-export const secondShifted = 'The second image is shifted by {sectors} from block {block} on.';
+export const imageShifted = '{image} is shifted by {sectors} from block {block} on.';
+export const secondImageItself = 'The second image';
 export const addressesSaySo = 'Its addresses say so: {why}. Nothing is taken.';
 export const missingBefore = '{n} sector before it is missing|{n} sectors before it are missing';
 export const tooManyBefore = '{n} sector before it is too many|{n} sectors before it are too many';
@@ -903,6 +916,7 @@ export const notThere = 'not there';
 export const notOfMode1 = 'not of Mode 1';
 export const moreHaveNoRow = '{n} more has no row here.|{n} more have no row here.';
 export const differInEach = 'The images differ in each block.';
+export const noSoundCopyThere = 'The second image has a sound copy of none of these blocks.';
 export const sameBytesIn = 'In {blocks} both images hold the same bytes: perhaps the damage is on the disc itself, or on purpose.';
 export const thirdDump = 'A third dump would show it.';
 export const theBlock = 'block {blocks}';
