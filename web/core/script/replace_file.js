@@ -16,6 +16,7 @@ import { ScriptParts } from './script_writer.js';
 /** @typedef {import('../iso/files.js').WholeFile} WholeFile */
 /** @typedef {import('../jobs.js').Sharer} Sharer */
 /** @typedef {import('../jobs.js').Sharing} Sharing */
+/** @typedef {import('./model.js').UserRange} UserRange */
 /** @typedef {import('./sector_lines.js').Left} Left */
 /** @typedef {import('./script_writer.js').Script} Script */
 /** @typedef {Pick<VolumeFiles, 'entries' | 'udf'>} VolumeNames what names the files of a volume */
@@ -33,6 +34,17 @@ function extentRoom({ size }) {
  */
 function entriesOf({ entries }, { block, size }) {
     return entries.filter(it => it.block === block && it.size === size);
+}
+
+/**
+ * Where the lines that replace a file write: in its sectors, and in the lengths that its records have.
+ * @param {Pick<WholeFile, 'extents'> & { names: VolumeNames }} file
+ * @returns {UserRange[]}
+ */
+export function placesOfFile({ extents, names }) {
+    return extents.flatMap(extent => [{ block: extent.block, offset: 0, size: extentRoom(extent) },
+        ...entriesOf(names, extent).map(({ record: { block, offset } }) =>
+            ({ block, offset: offset + SIZE_FIELD.offset, size: SIZE_FIELD.length }))]);
 }
 
 /**
