@@ -103,21 +103,37 @@ const file = (name, extent, size, flags = 0) => recordOf(name, extent, size, { f
 
 test('two names of one file both get its length, and what has some of its blocks is named', () => inDirectory(async room => {
     const records = { one: [file('A', 20, 3000), file('B', 20, 3000), file('EMPTY', 20, 0), file('C', 22, 2048)],
-        more: [file('A', 20, 3000), file('B', 21, 100)], above: [file('A', 19, 3000), file('B', 20, 9000)],
-        within: [file('A', 18, 3000)] };
+        more: [file('A', 20, 3000), file('B', 21, 100)], above: [file('A', 19, 3000), file('B', 20, 9000)] };
     const disc = name => makeRaw(room, volumeOf(30, sector => sector === ROOT ? records[name] : []));
     await disc('one');
     const made = await replaced(room, '/A', noise(4096, 1));
     const listed = async () => (await run(['files', 'new.bin'], { cwd: room })).out;
     await patched(room, made.bytes);
     assert.equal(await listed(), '20\t4096\t/A\n20\t4096\t/B\n20\t0\t/EMPTY\n22\t2048\t/C\n');
-    for (const [name, other] of [['more', '/B'], ['above', '/B'], ['within', '/A']]) {
+    for (const name of ['more', 'above']) {
         tool('rm', ['-f', 'disc.bin'], { cwd: room });
         await disc(name);
         const { status, out, errors } = await replaced(room, '/A', noise(2999, 1));
-        assert.deepEqual([status, out, errors], [2, '', `cdscript: /A can have no other length: ${other} has some of its blocks, or its record\n`]);
-        assert.equal((await replaced(room, '/A', noise(3000, 1))).status, 0);
+        assert.deepEqual([status, out, errors], [2, '', 'cdscript: /A can have no other length: /B has some of its blocks\n']);
+        const kept = await replaced(room, '/A', noise(3000, 1));
+        assert.deepEqual([kept.status, kept.errors], [0, 'cdscript: /B has blocks of /A too, and changes with it\n']);
     }
+}));
+
+test('a file that has blocks of the volume itself is not replaced, whatever its length', () => inDirectory(async room => {
+    const records = [file('VD', 16, 2048), file('ROOT', 18, 2048), file('OVER', 17, 9000), file('TABLE', 25, 100), file('A', 26, 100)];
+    const user = volumeOf(30, sector => sector === ROOT ? records : []);
+    user.set([10, 0, 0, 0, 0, 0, 0, 10, 25, 0, 0, 0], 16 * USER + 132);
+    await makeRaw(room, user);
+    const why = { '/VD': [2048, '/VD has block 16, which has a descriptor'], '/ROOT': [2048, '/ROOT has block 18, which has a directory'],
+        '/OVER': [9000, '/OVER has block 18, which has a directory'], '/TABLE': [100, '/TABLE has block 25, which has a path table'] };
+    for (const [path, [size, text]] of Object.entries(why)) {
+        for (const words of [[noise(size, 1)], [noise(size - 1, 1)], [noise(size - 1, 1), '--fill', '00']]) {
+            const { status, out, errors } = await replaced(room, path, ...words);
+            assert.deepEqual([status, out, errors], [2, '', `cdscript: ${text} of the volume: that is not replaced\n`]);
+        }
+    }
+    assert.equal((await replaced(room, '/A', noise(99, 1))).status, 0);
 }));
 
 test('a directory in a damaged sector is named, and no script is written', () => inDirectory(async room => {
@@ -173,9 +189,11 @@ test('a file of several parts gets other bytes and another length, part by part'
 }));
 
 test('parts that are no file, and a part of which the image has not all, are refused by name', () => inDirectory(async room => {
-    const records = [file('HALF', 20, 2048, 128), file('HALF', 39, 4096), file('TWICE', 21, 100), file('TWICE', 22, 100)];
+    const records = [file('HALF', 20, 2048, 128), file('HALF', 39, 4096), file('TWICE', 21, 100), file('TWICE', 22, 100),
+        file('OVER', 24, 4096, 128), file('OVER', 25, 4096)];
     await makeRaw(room, volumeOf(40, sector => sector === ROOT ? records : []));
-    const why = { '/HALF': '/HALF: the image has not all of it', '/TWICE': '/TWICE has 2 parts, which are no file' };
+    const why = { '/HALF': '/HALF: the image has not all of it', '/TWICE': '/TWICE has 2 parts, which are no file',
+        '/OVER': '/OVER: its parts lie over each other' };
     for (const [path, text] of Object.entries(why)) {
         const { status, errors } = await run(['extract', 'disc.bin', path, 'out'], { cwd: room });
         assert.deepEqual([status, errors, read(room, 'out')], [2, `cdscript: ${text}\n`, null]);

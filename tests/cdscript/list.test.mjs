@@ -29,7 +29,7 @@ test('each row of a list with a new text is replaced, in the order of places', (
     writeImage(room, ...PLACES);
     const done = await listed(room, HEAD, ['5\t0\t4\t4\tUTF-16LE\t-\t王様\tgo', '3\t2046\t4\t4\t\t-\tアイ\tok', '2\t100\t4\t4\tCP932\t-\tアイ\t',
         '4\t50\t4\t4\t\t-\tアイ\tウ', '2\t200\t8\t8\t\t-\tア{0000}アイ\t{41}{00}BC{0A}']);
-    assert.deepEqual([done.status, done.errors], [0, '']);
+    assert.deepEqual([done.status, done.errors], [0, 'cdscript: new texts leave out {00} once: row 6\n']);
     assert.equal(done.out, ['cdpatch 1', 'set 2 200 410042430A202020 was 8341000083418343', 'set 3 2046 6F6B2020 was 83418343',
         'set 4 50 A5A62020 was A5A2A5A4', 'set 5 0 67006F00 was 8B73D869', ''].join('\n'));
     const other = await listed(room, HEAD, ['4\t50\t4\t4\tCP932\t-\tアイ\tウ']);
@@ -39,12 +39,12 @@ test('each row of a list with a new text is replaced, in the order of places', (
     assert.equal(read(room, 'out').length, read(room, 'image').length);
 }));
 
-test('what stands as a code in an old text and not in the new one is named', () => inDirectory(async room => {
+test('the codes that new texts leave out are named, each once', () => inDirectory(async room => {
     writeImage(room, [2, 0, '0341424341'], [2, 100, '410D0A0342'], [2, 200, '0341'], [2, 300, '4103']);
     const rows = ['2\t0\t{03}ABCA\tx', '2\t100\tA{0D0A}{03}B\t{0A}x{0d}{41}', '2\t200\t{03}A\t{0003}', '2\t300\tA{03}\t{{03'];
     const done = await listed(room, 'block\toffset\ttext\tnew', rows, '--encoding', 'CP932', '--partial');
     assert.deepEqual(done.errors.split('\n'), ['cdscript: row 5: the new text has 4 bytes in CP932, and there is room for 2: 2 too many',
-        'cdscript: row 2: the new text leaves out {03}', 'cdscript: row 3: the new text leaves out {03}', 'cdscript: row 5: the new text leaves out {03}', '']);
+        'cdscript: new texts leave out {03} 3 times: rows 2, 3, 5', '']);
     assert.equal(done.out, 'cdpatch 1\nset 2 0 7820202020 was 0341424341\nset 2 100 0A780D4120 was 410D0A0342\nset 2 200 0003 was 0341\n');
 }));
 
@@ -105,12 +105,47 @@ test('a list is TSV or CSV, in UTF-8 or UTF-16, and has to name its columns', ()
     const said = async words => (await run(words, { cwd: room })).errors;
     write(room, { none: 'block\toffset\ttext\tnew\n2\t100\tアイ\t\n', headless: '2\t100\tアイ\tok\n' });
     assert.equal(await said(['replace', 'image', '--list', 'none']), 'cdscript: no row of the list has a new text\n');
-    assert.equal(await said(['replace', 'image', '--list', 'headless']), 'cdscript: the first row of the list names no column block, offset, text, new\n');
+    assert.equal(await said(['replace', 'image', '--list', 'headless']), 'cdscript: row 1 of the list names no column block, offset, text, new\n');
     assert.match(await said(['replace', 'image', '--list', 'none', 'アイ', 'ok']), /^cdscript: replace needs IMAGE; /);
     assert.match(await said(['replace', 'image', '--list', 'none', '--all']), /exclude each other/);
     assert.match(await said(['replace', 'image', 'a', 'b', '--partial']), /--partial needs --list/);
     const fill = await run(['replace', 'image', '--list', 'list', '--fill', '00'], { cwd: room });
     assert.equal(fill.out, wanted.replace('2020', '0000'));
+}));
+
+test('a row may name less room than its old text has, and what lies after that room stays', () => inDirectory(async room => {
+    writeImage(room, [2, 0, '41424320202B01']);
+    const row = (size, fresh) => listed(room, 'block\toffset\troom\ttext\tnew', [`2\t0\t${size}\tABC  +{01}\t${fresh}`], '--encoding', 'CP932', '--partial');
+    assert.equal((await row(5, 'Herb')).out, 'cdpatch 1\nset 2 0 4865726220 was 4142432020\n');
+    assert.match((await row(5, 'Herbs!')).errors, /row 2: the new text has 6 bytes in CP932, and there is room for 5: 1 too many/);
+    assert.match((await row(0, 'H')).errors, /there is room for 0: 1 too many/);
+    assert.equal((await row(7, 'Herb')).out, 'cdpatch 1\nset 2 0 48657262202020 was 41424320202B01\n');
+}));
+
+test('--fill end fills up with the byte that ends texts, which a table may name', () => inDirectory(async room => {
+    writeImage(room, [2, 0, '414141FF'], [2, 100, '414141']);
+    write(room, { table: '41=A\n8140= \n/FF=[end]\n' });
+    const rows = head => listed(room, 'block\toffset\ttext\tnew', ['2\t0\tAAA\tAA'], ...head);
+    assert.equal((await rows(['--table', 'table', '--fill', 'end'])).out, 'cdpatch 1\nset 2 0 4141FF was 414141\n');
+    const odd = 'cannot pad 1 byte with the 2-byte filler 81 40; use --fill with one byte';
+    assert.equal((await rows(['--table', 'table'])).errors.split('\n')[0], `cdscript: row 2: ${odd}`);
+    assert.equal((await rows(['--encoding', 'CP932', '--fill', 'end'])).out, 'cdpatch 1\nset 2 0 414100 was 414141\n');
+    const placed = await run(['replace', 'image', '2', '100', 'AAA', 'A', '--encoding', 'CP932', '--fill', 'end'], { cwd: room });
+    assert.equal(placed.out, 'cdpatch 1\nset 2 100 410000 was 414141\n');
+    assert.match((await run(['replace', 'image', '2', '100', 'AAA', 'A', '--fill', 'ends'], { cwd: room })).errors, /^cdscript: --fill is two hexadecimal digits/);
+}));
+
+test('what a spreadsheet wrote for a formula, and a mistyped code, are rows that do not fit', () => inDirectory(async room => {
+    writeImage(room, [2, 0, '3D41'], [2, 100, '4141'], [2, 200, '41414141'], [3, 0, `3D${'42'.repeat(23)}484954`]);
+    const rows = ['2\t0\t{3D}A\t{3D}B', '2\t100\tAA\t#REF!', '2\t200\tAAAA\t{O1}'];
+    const done = await listed(room, 'block\toffset\ttext\tnew', rows, '--encoding', 'CP932', '--partial');
+    assert.deepEqual(done.errors.split('\n').slice(0, -1), ['cdscript: row 3: a spreadsheet wrote #REF! in place of a formula: write the text, with {3D} for =',
+        'cdscript: row 4: {O1} is not a code, which is two digits 0 to F for each byte; a brace is {7B}']);
+    assert.equal(done.out, 'cdpatch 1\nset 2 0 3D42 was 3D41\n');
+    const plain = await listed(room, 'block\toffset\ttext\tnew', ['2\t0\t=A\t=B'], '--encoding', 'CP932');
+    assert.deepEqual([plain.errors, plain.out], ['', done.out]);
+    const found = await run(['find', 'image', 'HIT', '--encoding', 'CP932'], { cwd: room });
+    assert.match(found.out, /^3\t24\t3\t-\t\{3D\}B{23}HIT\.+\n$/);
 }));
 
 test('as many rows as a script has lines are replaced', () => inDirectory(async room => {

@@ -4,12 +4,19 @@ import assert from 'node:assert/strict';
 import { test } from 'node:test';
 import { calls, core, readerOf } from './common.mjs';
 
-const { rowText, rowsOf } = await core('texts/cells.js');
-const { cellOf, unitsOfCell } = await core('texts/codes.js');
+const { MARKS, Table, rowText } = await core('texts/cells.js');
+const { assertMeant, cellOf, codesLeftOut, leftCodeText, shownCell, unitsOfCell } = await core('texts/codes.js');
 const { encodingOf, tableOf, textOfFile } = await core('texts/encodings.js');
 const { fillingAfter, listRows, replaceList } = await core('texts/list.js');
 
-const cells = text => [...rowsOf(text)].map(row => row.cells);
+const rowsOf = (text, mark = MARKS.find(it => text.includes(it)) ?? '\t') => [...new Table(text, mark).rows()];
+const cells = (text, mark) => rowsOf(text, mark).map(row => row.cells);
+const numbered = text => rowsOf(text).flatMap(row => row.cells.length === 0 ? [] : [[row.number, ...row.cells]]);
+const listed = async (list, ...more) => {
+    const rows = [];
+    for await (const row of listRows(list, ...more)) rows.push(row);
+    return rows;
+};
 const hex = bytes => Buffer.from(bytes).toString('hex').toUpperCase();
 const bytesOf = (name, cell) => unitsOfCell(encodingOf(name), cell).map(([usual]) => hex(usual)).join('');
 
@@ -24,7 +31,31 @@ test('tables with tabs, commas and semicolons have the same cells', () => {
 test('a cell in quotes may have line ends, what stands between cells, and quotes', () => {
     assert.deepEqual(cells('a,b\n"x\r\ny, ""z""",2\n'), [['a', 'b'], ['x\r\ny, "z"', '2']]);
     assert.deepEqual(cells('a,b\n"x" y,"""\n"q"",1\n'), [['a', 'b'], ['"x" y', '"""'], ['"q""', '1']]);
-    assert.deepEqual([...rowsOf('a,b\n"1\n2",3\n4,5\n')].map(row => row.number), [1, 2, 3]);
+    assert.deepEqual(rowsOf('a,b\n"1\n2",3\n4,5\n').map(row => row.number), [1, 2, 3]);
+});
+
+test('between tabs, quotes that are not needed are kept, unless the cells of the first row are all in quotes', async () => {
+    assert.deepEqual(cells('a\tb\n"A herb!"\t"x ""y"" z"\n""\t"1\n2"\n'), [['a', 'b'], ['"A herb!"', 'x "y" z'], ['""', '1\n2']]);
+    const plain = 'block\toffset\ttext\tnew\n1\t2\tx\t"A herb!"\n';
+    const texts = async list => (await listed(list)).map(({ text, fresh }) => [text, fresh]);
+    assert.deepEqual(await texts(plain), [['x', '"A herb!"']]);
+    assert.deepEqual(await texts('"block"\t"offset"\t"text"\t"new"\n"1"\t"2"\t"x"\t"A herb!"\n'), [['x', 'A herb!']]);
+    assert.deepEqual(await texts('"block"\toffset\ttext\tnew\n1\t2\tx\t"A herb!"\n'), [['x', '"A herb!"']]);
+    assert.deepEqual(await texts('block,offset,text,new\n1,2,x,"A herb!"\n'), [['x', 'A herb!']]);
+});
+
+test('a cell in quotes between tabs that runs on to a row with a place names both rows', async () => {
+    const list = 'block\toffset\ttext\tnew\n1\t0\told\t"Halt!\n1\t75\tother\tGo."\n2\t0\tx\t"two\nlines"\n3\t0\ty\t"\n\n3\t9\tz\t."\n';
+    const rows = (await listed(list)).map(({ number, fresh, fault }) => [number, fresh, fault]);
+    assert.deepEqual(rows, [[2, '"Halt!', 'a cell in quotes runs on to row 3, which has a place of its own'], [3, 'Go."', ''], [4, 'two\nlines', ''],
+        [5, '"', 'a cell in quotes runs on to row 7, which has a place of its own'], [7, '."', '']]);
+    const other = 'text\tblock\toffset\tnew\n"x\na\t1\t2\tq"\n';
+    assert.deepEqual((await listed(other)).map(({ fault }) => fault), ['a cell in quotes runs on to row 3, which has a place of its own', '']);
+});
+
+test('a carriage return within a row is part of its cell, and ends rows only of a table without other line ends', () => {
+    assert.deepEqual(cells('a,b\r\n1,A\rB\r\r\n"x"\r,2\r'), [['a', 'b'], ['1', 'A\rB'], ['"x"\r', '2']]);
+    assert.deepEqual(cells('a,b\r1,2\r\r3,4'), [['a', 'b'], ['1', '2'], [], ['3', '4']]);
 });
 
 test('of a cell that is too long to be taken two quotes stay two', () => {
@@ -33,10 +64,10 @@ test('of a cell that is too long to be taken two quotes stay two', () => {
     assert.deepEqual(cells(`a,b\n"x${long}""",1\n`)[1].map(({ length }) => length), [long.length + 3, 1]);
 });
 
-test('empty rows are counted and passed over', () => {
-    assert.deepEqual([...rowsOf('a,b\r\n1,2\r\n\r\n3,4\r\n')].map(row => row.number), [1, 2, 4]);
-    assert.deepEqual([...rowsOf('\n\r\na,b\n\n\r\r\n1,\n\n')], [{ number: 3, cells: ['a', 'b'] }, { number: 7, cells: ['1', ''] }]);
-    assert.deepEqual([...rowsOf(`a\tb\n${'\n'.repeat(1 << 20)}1\t2`)].map(row => row.number), [1, 2 + (1 << 20)]);
+test('empty rows are counted, and have no cells', () => {
+    assert.deepEqual(numbered('a,b\r\n1,2\r\n\r\n3,4\r\n'), [[1, 'a', 'b'], [2, '1', '2'], [4, '3', '4']]);
+    assert.deepEqual(numbered('\n\r\na,b\n\n\r\r\n1,\n\n'), [[3, 'a', 'b'], [6, '1', '']]);
+    assert.deepEqual(numbered(`a\tb\n${'\n'.repeat(1 << 20)}1\t2`), [[1, 'a', 'b'], [2 + (1 << 20), '1', '2']]);
 });
 
 test('hostile tables take no longer than others', () => {
@@ -44,7 +75,7 @@ test('hostile tables take no longer than others', () => {
     const long = 'x'.repeat(1 << 24);
     assert.equal(cells(`a,b\n"${long}",1\n`)[1][0].length, long.length);
     assert.equal(cells(`a,b\n"${'""'.repeat(1 << 22)}\n`).length, 2);
-    assert.equal(cells(`a\tb\n${'"\t'.repeat(1 << 18)}\n`)[1].length, (1 << 17) + 1);
+    assert.equal(cells(`a,b\n${`${'",'.repeat(998)}\n`.repeat(1 << 9)}\n`)[1].length, 500);
     assert.equal(cells('\0\t\0\n'.repeat(1 << 16)).length, 1 << 16);
     assert.ok(Date.now() - began < 8000);
 });
@@ -68,14 +99,26 @@ test('codes in a cell are their bytes, and a cell is read as the bytes from whic
     assert.deepEqual(unitsOfCell(table, 'a\na').map(([usual]) => hex(usual)), ['01', 'FE', '01']);
 });
 
-test('a list has the rows with a new text, by the names of its columns', () => {
+test('a list has the rows with a new text, by the names of its columns', async () => {
     const list = 'New,Offset,block,text,note\nx,5,1,old,\n,6,1,other,\ny,+7,1,"a,b",z\n';
-    const rows = [...listRows(list)];
-    assert.deepEqual(rows, [{ number: 2, block: 1, offset: 5, room: -1, encoding: '', text: 'old', fresh: 'x' },
-        { number: 4, block: 1, offset: -1, room: -1, encoding: '', text: 'a,b', fresh: 'y' }]);
-    assert.deepEqual([...listRows(list, ({ offset }) => offset === 6)].map(({ number, fresh }) => [number, fresh]), [[2, 'x'], [3, ''], [4, 'y']]);
-    assert.deepEqual([...listRows(list, () => false)], rows);
-    assert.throws(() => [...listRows('1\t2\told\tnew\n')], { message: 'the first row of the list names no column block, offset, text' });
+    const rows = await listed(list);
+    assert.deepEqual(rows, [{ number: 2, block: 1, offset: 5, room: -1, encoding: '', text: 'old', fresh: 'x', fault: '' },
+        { number: 4, block: 1, offset: -1, room: -1, encoding: '', text: 'a,b', fresh: 'y', fault: '' }]);
+    const more = await listed(list, ({ offset }) => offset === 6);
+    assert.deepEqual(more.map(({ number, fresh }) => [number, fresh]), [[2, 'x'], [3, ''], [4, 'y']]);
+    assert.deepEqual(await listed(list, () => false), rows);
+    await assert.rejects(listed('1\t2\told\tnew\n'), { message: 'row 1 of the list names no column block, offset, text' });
+    await assert.rejects(listed('block,text,new,offset,New\n1,x,y,0,z\n'), { message: 'row 1 of the list names two columns new' });
+});
+
+test('rows before the one that names the columns are passed over, and tell nothing of what stands between cells', async () => {
+    const rows = 'block;offset;text;new\n1;2;x, y;z\n';
+    for (const before of [';;;\n', '"The second part, by us";;;\n', 'sep=;\n', '\n\nTitle\tand more\n;;;\n', `${'A title\n'.repeat(19)}`]) {
+        const [{ number, text, fresh }] = await listed(before + rows);
+        assert.deepEqual([number, text, fresh], [before.split('\n').length + 1, 'x, y', 'z']);
+    }
+    await assert.rejects(listed('A title\n'.repeat(20) + rows), { message: 'row 1 of the list names no column block, offset, text, new' });
+    await assert.rejects(listed(`A title\nblock;offset;text;Neu\n`), { message: 'row 2 of the list names no column new' });
 });
 
 test('of rows in one block that can not be patched each is left by its own number, and the others are replaced', async () => {
@@ -103,6 +146,41 @@ test('what fills up the room of a text is one byte over and over, in whole space
         assert.equal(fillingAfter(encodingOf(name), Buffer.from(digits, 'hex'), name === 'CP932' ? 1 : 2), due, `${name} ${digits}`);
     }
     assert.equal(fillingAfter(encodingOf('CP932'), new Uint8Array(9), 1, 5), 3);
+});
+
+test('what a spreadsheet would run stands as a code at the beginning of a cell, and comes back', () => {
+    for (const [name, text, cell] of [['CP932', '=1+1', '{3D}1+1'], ['CP932', '+A', '{2B}A'], ['CP932', '-A', '{2D}A'], ['CP932', '@A', '{40}A'],
+        ['CP932', '\tA=', '{09}A='], ['CP932', '\rA', '{0D}A'], ['UTF-16LE', '=王', '{3D00}王'], ['CP932', 'A=+-@', 'A=+-@'], ['CP932', '王-', '王-']]) {
+        const bytes = Buffer.concat(encodingOf(name).units(text).map(([usual]) => usual));
+        assert.equal(cellOf(encodingOf(name), bytes), cell);
+        for (const written of [cell, text]) assert.equal(bytesOf(name, written), hex(bytes));
+    }
+    assert.deepEqual(['=1', '\t1', '@', 'a=', '', '('].map(shownCell), ['{3D}1', '{09}1', '{40}', 'a=', '', '(']);
+});
+
+test('the error of a formula and a mistyped code are nothing that somebody meant', () => {
+    const cp932 = encodingOf('CP932');
+    for (const cell of ['Err:509', '#NAME?', '#REF!', '#VALUE!', '#DIV/0!', '#N/A']) {
+        assert.throws(() => assertMeant(cp932, cell), { message: `a spreadsheet wrote ${cell} in place of a formula: write the text, with {3D} for =` });
+    }
+    const why = code => ({ message: `${code} is not a code, which is two digits 0 to F for each byte; a brace is {7B}` });
+    for (const code of ['{zz}', '{O1}', '{0}', '{0D0}']) assert.throws(() => assertMeant(cp932, `a${code}b{0A}`), why(code));
+    for (const cell of ['Err:509 ', '# NAME?', '#WOW!', '{0D0a}', '{あ}', '{}', '{7B}zz}', '{ a}']) assertMeant(cp932, cell);
+    const table = tableOf(new TextEncoder().encode('F0={NAME}\n41=A\n'));
+    assertMeant(table, 'A{NAME}');
+    assert.throws(() => assertMeant(table, '{NAMES}'), why('{NAMES}'));
+});
+
+test('codes that new texts leave out are told by number, each once, with the first rows', async () => {
+    const left = async (rows, name = 'CP932') => (await codesLeftOut(rows.map(([text, fresh], i) => ({ number: i + 2, encoding: '', text, fresh })),
+        () => [encodingOf(name)])).map(leftCodeText);
+    assert.deepEqual(await left([['a{0D}{0A}b{0D}{0A}c{0D}{0A}', 'A{0D0A}B'], ['{03}', '{04}'], ['x', 'y'], ['{00}{00}', '{0000}']]),
+        ['new texts leave out {0D} 2 times: row 2', 'new texts leave out {0A} 2 times: row 2', 'new texts leave out {03} once: row 3']);
+    assert.deepEqual(await left(Array.from({ length: 8 }, () => ['{0A}', 'x'])), ['new texts leave out {0A} 8 times: rows 2, 3, 4, 5, 6, and 3 more']);
+    assert.deepEqual(await left([['{3D}a', 'b'], ['{22}a', 'b'], ['a{3D}', 'b'], ['{3D}', '{3D}']]), ['new texts leave out {3D} once: row 4']);
+    assert.deepEqual(await left([['{0A00}{0100}', '{0100}'], ['{3D00}a', 'b']], 'UTF-16LE'), ['new texts leave out {0A00} once: row 2']);
+    assert.deepEqual(await left([['a{0A}b', 'a\nb'], ['a{0D0A}b', 'a\nb']]), ['new texts leave out {0D} once: row 3']);
+    assert.deepEqual(await left([[`${'{00}'.repeat(20000)}`, 'a']]), []);
 });
 
 test('files in UTF-16 with a mark are read as that', () => {

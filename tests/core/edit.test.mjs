@@ -88,7 +88,7 @@ test('another length is refused with both, and fewer bytes are filled up', async
     assert.throws(() => filledUp(new Uint8Array(7), 6, Uint8Array.of(0x20)), { message: 'the new bytes are 7, the old ones 6' });
     assert.deepEqual(filledUp(Uint8Array.of(1, 2), 6, Uint8Array.of(0x81, 0x40)), Uint8Array.of(1, 2, 0x81, 0x40, 0x81, 0x40));
     assert.deepEqual(filledUp(Uint8Array.of(1, 2), 2, Uint8Array.of(0x81, 0x40)), Uint8Array.of(1, 2));
-    assert.throws(() => filledUp(new Uint8Array(3), 6, Uint8Array.of(0x81, 0x40)), { message: '3 bytes are to be filled up, 2 at a time' });
+    assert.throws(() => filledUp(new Uint8Array(3), 6, Uint8Array.of(0x81, 0x40)), { message: 'cannot pad 3 bytes with the 2-byte filler 81 40; use --fill with one byte' });
 });
 
 /** A raw image of a volume with files, and one of the files. */
@@ -96,8 +96,8 @@ async function disc(t, path) {
     const iso = isoOf({ 'GAME.DAT': 'data '.repeat(3000), 'OTHER.TXT': 'x'.repeat(2048), 'EMPTY': '' }, [], []);
     if (!iso) return t.skip('no genisoimage');
     const bytes = calls.encodeBlocks(0, iso.bytes);
-    const { files, ...names } = await filesOf(readerOf(bytes), 0);
-    const extent = files.find(it => it.path === path);
+    const names = await filesOf(readerOf(bytes), 0);
+    const extent = names.files.find(it => it.path === path);
     return { bytes, file: { ...wholeFile([extent]), block: extent.block, names }, image: imageOf(bytes, 0) };
 }
 

@@ -2,7 +2,7 @@
 
 import assert from 'node:assert/strict';
 import { test } from 'node:test';
-import { calls, core, decoded, readerOf, sameBytes } from './common.mjs';
+import { calls, core, decoded, diceOf, readerOf, sameBytes } from './common.mjs';
 
 const { fileOrder } = await core('iso/file_order.js');
 const { wholeFile } = await core('iso/files.js');
@@ -46,10 +46,39 @@ test('files whose extents follow one another, go on within a sector or share sec
     }
 });
 
+test('an order has each sector of the track once, or there is none', () => {
+    // The extents add up to as many sectors as the track has, but sector 5 is in none of them.
+    const twice = [extent('/a', 6, 4096, 0), extent('/a', 2, 6144, 4096), extent('/b', 8, 4096, 0), extent('/b', 3, 2048, 4096)];
+    const beyond = [extent('/a', 2, 2048, 0), extent('/a', 11, 4096, 2048), extent('/b', 5, 2048, 0), extent('/b', 20, 2048, 2048)];
+    for (const files of [twice, beyond]) {
+        const order = orderOf(files);
+        assert.ok(order === null || new Set(order).size === COUNT, `${order}`);
+    }
+    const dice = diceOf(5);
+    for (let i = 0; i < 3000; i++) {
+        const files = ['/a', '/b'].flatMap(path => {
+            let before = 0;
+            return Array.from({ length: 1 + dice(3) }, () => {
+                const size = 2048 * (1 + dice(3));
+                return extent(path, dice(COUNT), size, (before += size) - size);
+            });
+        });
+        const order = orderOf(files);
+        assert.ok(order === null || (new Set(order).size === COUNT && Math.max(...order) < COUNT), `${JSON.stringify(files)}: ${order}`);
+    }
+});
+
 test('the extents of a file are put together in the order of its bytes', () => {
     const parts = [extent('/a', 2, 3000, 4096), extent('/a', 6, 4096, 0)];
     assert.deepEqual(wholeFile(parts), { path: '/a', size: 7096, extents: [parts[1], parts[0]] });
     assert.throws(() => wholeFile([parts[0]]), { message: '/a has 1 parts, which are no file' });
+});
+
+test('a file whose parts lie over each other is refused', () => {
+    const over = { message: '/a: its parts lie over each other' };
+    assert.throws(() => wholeFile([extent('/a', 2, 4096, 0), extent('/a', 2, 4096, 4096)]), over);
+    assert.throws(() => wholeFile([extent('/a', 5, 2048, 0), extent('/a', 4, 4096, 2048)]), over);
+    assert.equal(wholeFile([extent('/a', 5, 2048, 0), extent('/a', 4, 2048, 2048), extent('/a', 5, 0, 4096)]).size, 4096);
 });
 
 test('what is replaced over the end of an extent goes on where the next one begins', async () => {

@@ -4,7 +4,8 @@ import assert from 'node:assert/strict';
 import { test } from 'node:test';
 import { calls, core, diceOf, encoded } from './common.mjs';
 
-const { rowsOf } = await core('texts/cells.js');
+const { Table } = await core('texts/cells.js');
+const { codesLeftOut } = await core('texts/codes.js');
 const { listRows, replaceList } = await core('texts/list.js');
 const { encodingOf, tableOf } = await core('texts/encodings.js');
 const { endOfMatch } = await core('texts/find.js');
@@ -32,7 +33,7 @@ function lookedAt(use) {
     return count;
 }
 
-const cellsIn = text => [...rowsOf(text)].reduce((sum, { cells }) => sum + cells.length, 0);
+const cellsIn = (text, mark) => [...new Table(text, mark).rows()].reduce((sum, { cells }) => sum + cells.length, 0);
 
 test('no quotes, nested or without an end, are looked at more than a few times', () => {
     const size = 1 << 16;
@@ -40,28 +41,57 @@ test('no quotes, nested or without an end, are looked at more than a few times',
     const random = Array.from({ length: size }, () => '"""\ta\n,'[dice(7)]).join('');
     const texts = ['"'.repeat(size), '"\t'.repeat(size), '""\t'.repeat(size), '"a\t'.repeat(size), '"""\t'.repeat(size), '"a""\t'.repeat(size),
         '""a\t'.repeat(size), `"${'""'.repeat(size)}`, '"\n'.repeat(size), '"a\n""b\n'.repeat(size), '\0"\0\t'.repeat(size), random];
-    for (const text of texts) {
-        const whole = `a\tb\n${text}`;
-        const count = lookedAt(() => {
-            try {
-                cellsIn(whole);
-            } catch (error) {
-                assert.match(error.message, /^row \d+ of the table has more than 262144 cells$/);
-            }
-        });
-        assert.ok(count < 4 * whole.length, `${JSON.stringify(text.slice(0, 9))}: ${count} for ${whole.length}`);
+    for (const [text, mark] of texts.flatMap(it => [[it, '\t'], [it.replaceAll('\t', ','), ',']])) {
+        // A row has fewer than 1000 cells.
+        let cells = 0;
+        const whole = text.replace(/[\t,\n]/g, it => it !== '\n' && ++cells % 999 === 0 ? '\n' : it);
+        const count = lookedAt(() => cellsIn(whole, mark));
+        assert.ok(count < 8 * whole.length, `${JSON.stringify(text.slice(0, 9))}: ${count} for ${whole.length}`);
     }
 });
 
-test('a row of too many cells, and too many rows, are refused', () => {
-    assert.throws(() => cellsIn(`a,b\n${','.repeat(50 << 20)}`), { name: 'Fault', message: 'row 2 of the table has more than 262144 cells' });
-    assert.equal(cellsIn(`a,b\n${','.repeat((1 << 18) - 1)}\n`), 2 + (1 << 18));
+test('a row of too many cells, and too many rows, are refused', async () => {
+    assert.throws(() => cellsIn(`a,b\n${','.repeat(50 << 20)}`, ','), { name: 'Fault', message: 'row 2 of the table has more than 1000 cells' });
+    assert.equal(cellsIn(`a,b\n${','.repeat(999)}\n`, ','), 1002);
     const rows = 'block\toffset\ttext\tnew\n' + '0\t0\ta\tb\n'.repeat(1000001);
-    assert.throws(() => { for (const row of listRows(rows)) assert.equal(row.text, 'a'); }, { message: 'more than 1000000 rows of the list have a new text' });
+    const read = async () => { for await (const row of listRows(rows)) assert.equal(row.text, 'a'); };
+    await assert.rejects(read(), { message: 'more than 1000000 rows of the list have a new text' });
+});
+
+test('a list of many columns is refused, and a row of many codes is looked at once', async () => {
+    const began = process.cpuUsage().user;
+    const wide = `block\toffset\ttext\tnew${'\t'.repeat(250000)}\n${'x\n'.repeat(20000)}`;
+    await assert.rejects((async () => { for await (const row of listRows(wide)) assert.fail(row); })(), { message: 'row 1 of the table has more than 1000 cells' });
+    const most = `block\toffset\ttext\tnew${'\t'.repeat(990)}\n${'x\n'.repeat(20000)}`;
+    for await (const row of listRows(most)) assert.fail(row);
+    const coded = (code, count) => ({ number: 2, encoding: '', text: code.repeat(count), fresh: '{01}'.repeat(count) });
+    const left = await codesLeftOut([coded('{00}', 220000), coded('{00}', 16000)], () => [encodingOf('CP932')]);
+    assert.deepEqual(left, [{ code: '00', count: 16000, rows: 1, first: [2] }]);
+    assert.ok(process.cpuUsage().user - began < 1e6);
+});
+
+test('others get a turn while a list is read, sorted and replaced, and its signal ends it', async () => {
+    const list = `block\toffset\ttext\tnew\n${Array.from({ length: 20000 }, (_, i) => `${i * 7919 % 60013}\t0\ta\tb\n`).join('')}${'0\t0\ta\t\n'.repeat(4e5)}`;
+    let turns = 0;
+    const timer = setInterval(() => { turns += 1; });
+    const signal = { aborted: false };
+    try {
+        const rows = [];
+        for await (const row of listRows(list, () => false, signal)) rows.push(row);
+        assert.ok(turns > 2, `${turns} while it is read`);
+        turns = 0;
+        const { whys } = await made(rows, 'CP932', { signal });
+        assert.ok(whys.length > 19990, `${whys.length}`);
+        assert.ok(turns > 1, `${turns} while rows are replaced`);
+        setTimeout(() => { signal.aborted = true; }, 60);
+        await assert.rejects(made(rows, 'CP932', { signal }), { code: 'cancelled' });
+    } finally {
+        clearInterval(timer);
+    }
 });
 
 /** What becomes of rows, and how many characters an encoding was asked for. */
-async function made(rows, name = 'CP932') {
+async function made(rows, name = 'CP932', watch = {}) {
     let asked = 0;
     const encoding = encodingOf(name);
     const counting = Object.create(encoding, { units: { value: text => {
@@ -70,7 +100,7 @@ async function made(rows, name = 'CP932') {
     } } });
     const sectors = calls.encodeBlocks(0, new Uint8Array(4 * 2048).fill(0x41));
     const image = { base: 0, sectors: 4, reader: { size: sectors.length, read: async (at, length) => sectors.slice(at, at + length) } };
-    const { parts, left } = await replaceList(calls, image, rows, () => [counting], null);
+    const { parts, left } = await replaceList(calls, image, rows, () => [counting], null, watch);
     return { patches: parts.patches, whys: left.map(({ why }) => why), asked };
 }
 

@@ -202,11 +202,11 @@ test('files that are interleaved, have several extents or belong to another are 
     if (!iso) return;
     const raw = rawOf(iso.bytes);
     raw[recordOf(raw, 'ONE.;1') + 26] = 1;
-    raw[recordOf(raw, 'THREE.;1') + 25] = 128; // the next one, TWO, goes on with it
+    raw[recordOf(raw, 'THREE.;1') + 25] = 128; // the next one, TWO, has another name
     raw[recordOf(raw, 'FOUR.;1') + 25] = 4;
     const { files } = await filesOf(readerOf(raw), 0);
     assert.deepStrictEqual(Object.fromEntries(files.map(file => [file.path, file.fault])), {
-        '/ONE': 'it is interleaved', '/THREE': 'it has several extents', '/TWO': 'it has several extents',
+        '/ONE': 'it is interleaved', '/THREE': 'it has several extents', '/TWO': '',
         '/FOUR': 'it belongs to another file of this name' });
 });
 

@@ -9,7 +9,9 @@ import { SHEETS, TABLES, continuing, crowded, harmlessVolume, nested, overlappin
 const { sheetOf } = await core('disc/cue.js');
 const { natureOf } = await core('disc/file_type.js');
 const { findIn } = await core('texts/find.js');
-const { filesOf } = await core('iso/files.js');
+const { filesOf, wholeFile } = await core('iso/files.js');
+const { Crew, localHand } = await core('jobs.js');
+const { replaceFile } = await core('script/replace_file.js');
 const { tableOf } = await core('texts/encodings.js');
 const { calls } = await import('./common.mjs');
 
@@ -116,4 +118,31 @@ test('a sector in which many records are continued is read once', async () => {
     const reader = readerOf(rawOf(continuing(200)));
     await filesOf(reader, 0);
     assert.ok(reader.reads.length < 300, `${reader.reads.length} reads`);
+});
+
+test('a record goes on with a file only if it has the same name', async () => {
+    const file = (name, extent, size, flags = 0) => recordOf(name, extent, size, { flags });
+    const records = [file('A', 20, 2048, 128), file('B.TXT', 21, 3000), file('B.TXT', 23, 100), file('C', 24, 2048, 128), file('C', 26, 10)];
+    const { files } = await listed(volumeOf(30, sector => sector === 18 ? records : []));
+    const several = 'it has several extents';
+    assert.deepStrictEqual(files.map(({ path, before, fault }) => [path, before, fault]),
+        [['/A', 0, several], ['/B.TXT', 0, ''], ['/B.TXT', 0, ''], ['/C', 0, several], ['/C', 2048, several]]);
+});
+
+test('a file of many extents takes no longer than one of few for each of them', async () => {
+    const took = async count => {
+        const entries = Array.from({ length: count }, (_, i) =>
+            ({ path: '/A', block: 20 + 2 * i, size: 2048, before: 2048 * i, fault: '', record: { block: 18, offset: 0 } }));
+        const names = { entries: [...entries].reverse(), files: entries, udf: false, own: new Map(), tables: [] };
+        const sector = calls.encode(calls.address(0), new Uint8Array(2048));
+        const reader = { size: 2352 * (2 * count + 30), read: async (at, length) => sector.slice(0, length) };
+        const made = timed(() => replaceFile(calls, new Crew([localHand(calls)]), { base: 0, reader, sectors: 2 * count + 30 },
+            { ...wholeFile(entries), names }, readerOf(new Uint8Array(2048 * count - 1)), {}));
+        const { fault, seconds } = await made;
+        assert.strictEqual(fault, '');
+        return seconds;
+    };
+    await took(100);
+    const [few, many] = [await took(2000), await took(8000)];
+    assert.ok(many < 4 * 3 * few + 0.2, `${few} s, ${many} s`);
 });

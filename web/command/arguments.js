@@ -26,7 +26,8 @@ const SHORT_WORDS = { '-h': '--help', '-V': '--version' };
 
 /** @param {string} text */
 function fillOf(text) {
-    if (!/^([0-9A-Fa-f]{2})+$/.test(text)) throw new Fault(`--fill is two hexadecimal digits for each byte, not '${text}'`);
+    if (text === 'end') return text;
+    if (!/^([0-9A-Fa-f]{2})+$/.test(text)) throw new Fault(`--fill is two hexadecimal digits for each byte, or end, not '${text}'`);
     return bytesOfHex(text);
 }
 

@@ -27,7 +27,7 @@ export const OPTION_FORMS = {
     track: { word: '--track', value: 'N', does: 'the data track of that number, not the first one' },
     encoding: { word: '--encoding', value: 'NAME', does: `how texts are written: ${ENCODINGS.map(({ name }) => name).join(', ')}` },
     table: { word: '--table', value: 'FILE', does: "a game's own table of characters (.tbl)" },
-    fill: { word: '--fill', value: 'HEX', does: 'fill up with these bytes, as 20 or 8140' },
+    fill: { word: '--fill', value: 'HEX', does: 'fill up with these bytes, such as 20 or 8140; end is the byte that ends texts' },
     all: { word: '--all', value: '', does: 'replace the text at all places, 1000000 at most' },
     inside: { word: '--inside', value: '', does: 'also where it may begin in the middle of a character' },
     loose: { word: '--loose', value: '', does: 'take half-width and full-width, and both cases, as one' },
@@ -52,7 +52,7 @@ export const OPTION_FORMS = {
 
 /**
  * The options that were given, by their names in OPTION_FORMS.
- * @typedef {{ base?: number, track?: number, limit?: number, first?: number, fill?: Uint8Array, encoding?: string, table?: string,
+ * @typedef {{ base?: number, track?: number, limit?: number, first?: number, fill?: Uint8Array | 'end', encoding?: string, table?: string,
  *     output?: string, carry?: boolean, long?: boolean, skipDamaged?: boolean, partial?: boolean, all?: boolean, inside?: boolean,
  *     loose?: boolean, list?: string, csv?: boolean, in?: string[], min?: number, fields?: boolean, help?: boolean, version?: boolean,
  *     notices?: boolean, dat?: string[], resume?: string }} Options

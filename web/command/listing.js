@@ -1,7 +1,7 @@
 // The job `replace --list`: the script of a table with the new texts of a disc.
 
 import { Fault } from '../core/faults.js';
-import { codesLeftOut } from '../core/texts/codes.js';
+import { codesLeftOut, leftCodeText } from '../core/texts/codes.js';
 import { encodingsOfRows, leftRowText, replaceList, rowsOfList } from '../core/texts/list.js';
 import { openTexts } from './looking.js';
 import { sayOfRuns } from './printed.js';
@@ -22,8 +22,7 @@ export async function replaceListJob(run, list) {
     const rows = await rowsOfList((await run.files.image(list)).reader, list);
     const { parts, left } = await replaceList(run.calls, part, rows, encodingsFor, fill);
     sayOfRuns(run, left, leftRowText);
-    const without = rows.map(row => ({ text: row, codes: codesLeftOut(row.text, row.fresh) })).filter(({ codes }) => codes.length > 0);
-    sayOfRuns(run, without, ({ text, codes }) => leftRowText({ text, why: `the new text leaves out ${codes.join(' ')}` }));
+    sayOfRuns(run, await codesLeftOut(rows, encodingsFor), leftCodeText);
     if (left.length > 0 && !partial) {
         throw new Fault(`rows that do not fit: ${left.length}, so no script is written; --partial leaves them out`);
     }

@@ -9,6 +9,7 @@ import { sectorsOfRange } from '../core/script/replace_bytes.js';
 import { FIELDS, USER_SIZE, addressIn, addressText } from '../core/sectors/sector.js';
 import { findingOf } from '../core/sectors/survey.js';
 import { LONGEST_CHARACTER, LOOKED_BACK, bytesInside, charactersFrom } from '../core/texts/boundaries.js';
+import { shownCell } from '../core/texts/codes.js';
 import { FilesAlong, bytesAround, contextsOf } from '../core/texts/context.js';
 import { hexText } from '../core/texts/hex.js';
 import { placeGiven } from './numbers.js';
@@ -38,7 +39,8 @@ const BYTES_SHOWN = 128;
  * @param {string} path
  */
 export async function fileAtPath(part, path) {
-    const { files, ...names } = await filesOf(part.reader, part.base);
+    const names = await filesOf(part.reader, part.base);
+    const { files } = names;
     const rooted = (/** @type {string} */ name) => `/${name}`.replace(/^\/+/, '/');
     const named = files.filter(file => [file.path, visible(file.path)].map(rooted).includes(rooted(path)));
     if (named.length > 0) return { ...wholeFile(named), names };
@@ -93,7 +95,7 @@ function printedFiles(files) {
  * @param {Context} context
  */
 function hitLine(files, hit, { before, hit: text, after, doubt }) {
-    const around = visible(`${before.join('')}${text}${after.join('')}`);
+    const around = shownCell(visible(`${before.join('')}${text}${after.join('')}`));
     return [hit.block, hit.offset, hit.size, filesText(files, hit), around, ...doubt === '' ? [] : [doubt]].join('\t');
 }
 

@@ -2,11 +2,11 @@
 
 import { Fault } from '../core/faults.js';
 import { filledUp, replaceBytes } from '../core/script/replace_bytes.js';
-import { replaceFile } from '../core/script/replace_file.js';
+import { replaceFile, sharingText } from '../core/script/replace_file.js';
 import { leftText } from '../core/script/sector_lines.js';
 import { unitsAlike } from '../core/texts/alike.js';
 import { bytesAround, contextOf } from '../core/texts/context.js';
-import { spaceIn, usualBytes } from '../core/texts/encoding.js';
+import { fillerOf, usualBytes } from '../core/texts/encoding.js';
 import { endOfMatch, longestOf } from '../core/texts/find.js';
 import { hexText } from '../core/texts/hex.js';
 import { assertHasRoom, leftHitText, replacedHits } from '../core/texts/replace.js';
@@ -97,7 +97,7 @@ async function assertBegins(image, encoding, hit) {
  */
 function freshBytes(run, { encoding, hits }, text) {
     const bytes = usualBytes(unitsAlike(encoding, text));
-    const fill = run.options.fill || spaceIn(encoding);
+    const fill = fillerOf(encoding, run.options.fill || null);
     /** @type {Map<number, Uint8Array>} */
     const known = new Map();
     for (const size of new Set(hits.map(hit => hit.size))) {
@@ -151,13 +151,14 @@ export async function replaceJob(run) {
 /** @param {Run} run */
 export async function replaceFileJob(run) {
     const { fill } = run.options;
-    if (fill && fill.length !== 1) throw new Fault('--fill is one byte here');
+    if (fill === 'end' || (fill && fill.length !== 1)) throw new Fault('--fill is one byte here');
     const target = await run.target();
     const { image, part } = await openTrack(run, run.names[0]);
     const file = await fileAtPath(part, run.names[1]);
     const { reader } = await run.files.image(run.names[2]);
     const made = await replaceFile(run.calls, run.crew, part, file, reader, fill && { fill: fill[0] });
     sayOfRuns(run, made.left, left => leftText([left], part.name));
+    sayOfRuns(run, made.sharing, other => sharingText(file.path, other));
     if (made.script === null) throw new Fault('these blocks of the file can not be patched, so no script is written');
     if (fill && reader.size < file.size) run.say(`bytes filled up with ${hexText(fill)}: ${file.size - reader.size}`);
     else if (reader.size !== file.size) run.say(`${file.path} had ${file.size} bytes, and gets ${reader.size}`);

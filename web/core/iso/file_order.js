@@ -97,6 +97,19 @@ export function fileOrder(track, files) {
             end = next.from + next.count;
         }
     }
-    const isWhole = runs.reduce((sum, { count }) => sum + count, 0) === track.sectors;
-    return moved.size > 0 && isWhole ? new FileOrder(track, runs) : undefined;
+    return moved.size > 0 && areTiles(runs, track.sectors) ? new FileOrder(track, runs) : undefined;
+}
+
+/**
+ * Whether each of so many sectors is in just one of several runs.
+ * @param {Sectors[]} runs
+ * @param {number} sectors
+ */
+function areTiles(runs, sectors) {
+    let end = 0;
+    for (const { from, count } of [...runs].sort((a, b) => a.from - b.from)) {
+        if (from !== end) return false;
+        end += count;
+    }
+    return end === sectors;
 }

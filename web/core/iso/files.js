@@ -3,11 +3,13 @@
 import { readBytes } from '../bytes.js';
 import { FAULT, Fault, failedBy } from '../faults.js';
 import { SECTOR_SIZE, USER_SIZE, joinedUser, sectorCount } from '../sectors/sector.js';
+import { FIRST_DESCRIPTOR, ownBlocks, tableBlocks } from './own_blocks.js';
 import { SEVERAL_EXTENTS, isSelf, recordAt, sharingSkip } from './records.js';
 import { walked } from './walk.js';
 
 /** @typedef {import('../bytes.js').Reader} Reader */
 /** @typedef {import('../script/replace_bytes.js').Place} Place */
+/** @typedef {import('./own_blocks.js').OwnBlock} OwnBlock */
 /**
  * A file, or one extent of a file that has several, and how many bytes it has before that. `fault` says why its bytes are not just those
  * from its block on, '' if they are; `record` is where its directory names it.
@@ -15,15 +17,13 @@ import { walked } from './walk.js';
  */
 /**
  * The files by their blocks, with the best names that there are; what could not be read, in lines for a person; all that the trees of
- * names have, some of it several times; whether UDF names the files too; which blocks are the volume's own, each with what it is; and the
- * number that the volume gives the first sector of its track.
- * @typedef {{ files: FileEntry[], faults: string[], entries: FileEntry[], udf: boolean, own: Map<number, OwnBlock>, first: number }}
- *     VolumeFiles
+ * names have, some of it several times; whether UDF names the files too; which blocks are the volume's own, each with what it is; those of
+ * its path tables; and the number that the volume gives the first sector of its track.
+ * @typedef {{ files: FileEntry[], faults: string[], entries: FileEntry[], udf: boolean, own: Map<number, OwnBlock>, tables: number[],
+ *     first: number }} VolumeFiles
  */
-/** @typedef {'descriptor' | 'directory'} OwnBlock */
 /** @typedef {{ path: string, size: number, extents: FileEntry[] }} WholeFile a file, with its extents in the order of its bytes */
 
-const FIRST_DESCRIPTOR = 16;
 const MOST_DESCRIPTORS = 64;
 const PRIMARY = 1;
 const SUPPLEMENTARY = 2;
@@ -128,18 +128,8 @@ export async function filesOf(reader, base) {
     const faults = new Set(found.flatMap(it => it.faults));
     if (joliet && !other) faults.add("Joliet's volume descriptor has no root directory");
     const own = ownBlocks(volume, count, found.flatMap(it => [...it.met]));
-    return { files, faults: [...faults], entries: found.flatMap(it => it.files), udf, own, first };
-}
-
-/**
- * @param {VolumeReader} volume
- * @param {number} descriptors how many there are
- * @param {number[]} directories their sectors, as the volume counts
- */
-function ownBlocks(volume, descriptors, directories) {
-    const own = new Map(directories.map(extent => [volume.blockOf(extent), /** @type {OwnBlock} */ ('directory')]));
-    for (let i = 0; i < descriptors; i++) own.set(volume.base + FIRST_DESCRIPTOR + i, 'descriptor');
-    return own;
+    const tables = tableBlocks(volume, joliet === null ? [primary] : [primary, joliet]);
+    return { files, faults: [...faults], entries: found.flatMap(it => it.files), udf, own, tables, first };
 }
 
 /**
@@ -171,7 +161,18 @@ export function wholeFile(entries) {
         if (before !== size) throw new Fault(`${path} has ${extents.length} parts, which are no file`);
         size += own;
     }
+    const ranges = extents.filter(it => it.size > 0).sort((a, b) => a.block - b.block);
+    const isOver = ranges.some((it, i) => i > 0 && it.block < endOfExtent(ranges[i - 1]));
+    if (isOver) throw new Fault(`${path}: its parts lie over each other`);
     return { path, size, extents };
+}
+
+/**
+ * The block after an extent.
+ * @param {FileEntry} extent
+ */
+export function endOfExtent({ block, size }) {
+    return block + Math.ceil(size / USER_SIZE);
 }
 
 /**

@@ -1,6 +1,6 @@
 // The records of a directory of ISO 9660, and what Rock Ridge adds to them.
 
-import { joinedBytes } from '../bytes.js';
+import { joinedBytes, sameBytes } from '../bytes.js';
 import { USER_SIZE } from '../sectors/sector.js';
 import { textOfFile } from '../texts/encodings.js';
 
@@ -180,21 +180,24 @@ async function rockRidge(blocks, area) {
 }
 
 /**
- * The files and directories that the records of a directory name, in their order.
+ * The files and directories that the records of a directory name, in their order. A record whose file has more extents goes on in the next
+ * one, if that has the same name.
  * @param {Selves} blocks
  * @param {Uint8Array} user of the whole directory
  * @param {Reading} reading
  * @returns {AsyncGenerator<RecordPlace>}
  */
 export async function* entriesOfDirectory(blocks, user, reading) {
-    let [more, before] = [false, 0];
+    let [before, name] = [0, /** @type {Uint8Array | null} */ (null)];
     for (const record of recordsOf(user, reading.fault)) {
         if (isSelf(record) || isParent(record)) continue;
+        const goesOn = name !== null && name.length === record.name.length && sameBytes(name, record.name);
+        if (!goesOn) before = 0;
         const entry = await entryOf(blocks, record, reading);
-        if (entry && more && entry.fault === '') entry.fault = SEVERAL_EXTENTS;
+        if (entry && goesOn && entry.fault === '') entry.fault = SEVERAL_EXTENTS;
         if (entry) yield { entry, at: record.at, before };
-        more = (record.flags & MORE_EXTENTS) !== 0;
-        before = more ? before + record.size : 0;
+        name = record.flags & MORE_EXTENTS ? record.name : null;
+        before += record.size;
     }
 }
 

@@ -2,8 +2,8 @@
 
 import { sliceOf } from '../bytes.js';
 import { FAULT, failedBy } from '../faults.js';
-import { LAST_BASE, SECTOR_SIZE, USER_SIZE } from '../sectors/sector.js';
-import { VolumeReader, descriptorsOf, filesOf } from './files.js';
+import { LAST_BASE, SECTOR_SIZE } from '../sectors/sector.js';
+import { VolumeReader, descriptorsOf, endOfExtent, filesOf } from './files.js';
 import { numberInBoth } from './records.js';
 import { NOT_ALL } from './walk.js';
 
@@ -36,14 +36,6 @@ async function ifVolume(asked) {
 }
 
 /**
- * The block after an extent.
- * @param {import('./files.js').FileEntry} file
- */
-function endOf({ block, size }) {
-    return block + Math.ceil(size / USER_SIZE);
-}
-
-/**
  * What an image lacks of the volume of a track, null if it has all of it or the track has no volume.
  * @param {DiscImage} image
  * @param {DiscImage} part the track in it
@@ -59,9 +51,9 @@ export async function lackOf(image, part, isAlone) {
     const found = await ifVolume(filesOf(reader, part.base));
     const [first, files] = found === null ? [part.base, []] : [found.first, found.files];
     const [from, most] = [volume.sectors, said].map(count => part.base + count);
-    const cut = files.find(it => it.fault === NOT_ALL && it.block < from && endOf(it) <= most);
+    const cut = files.find(it => it.fault === NOT_ALL && it.block < from && endOfExtent(it) <= most);
     // A volume that counts from the disc's start has so many blocks, or up to that one: it is taken for the shorter one that has the file.
-    const isUpTo = said > first && (cut === undefined || endOf(cut) <= most - first);
+    const isUpTo = said > first && (cut === undefined || endOfExtent(cut) <= most - first);
     const blocks = isUpTo ? said - first : said;
     if (blocks <= volume.sectors) return null;
     const last = part.base + blocks - 1;

@@ -1,6 +1,7 @@
 // What the directories of a volume have. A volume may lie: its sectors are read once, and what is kept is bounded by its image.
 
 import { USER_SIZE } from '../sectors/sector.js';
+import { isTurnDue, letOthersIn } from '../turns.js';
 import { SEVERAL_EXTENTS, entriesOfDirectory } from './records.js';
 
 /** @typedef {import('./files.js').FileEntry} FileEntry */
@@ -92,6 +93,7 @@ class Walk {
         let isDeep = false;
         for await (const part of entriesOfDirectory(this.volume, user, { path, ...this.tree, fault })) {
             const { entry } = part;
+            if (isTurnDue()) await letOthersIn();
             this.entries += 1;
             this.characters += entry.path.length;
             if (this.excess() !== '') break;

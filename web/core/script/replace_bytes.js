@@ -6,6 +6,7 @@ import { PATCH_SIZE, RECORD, RECORD_SIZE, SECTOR_KIND } from '../module/records.
 import { addToRuns, runOf } from '../sectors/runs.js';
 import { SECTOR_SIZE, USER_SIZE, addressIn, joinedUser, sectorCount, sectorsAt, userOf } from '../sectors/sector.js';
 import { isSound } from '../sectors/survey.js';
+import { hexText } from '../texts/hex.js';
 import { LineList } from './line_list.js';
 import { assertLeads, linesBetween } from './sector_lines.js';
 
@@ -26,7 +27,10 @@ export function filledUp(bytes, size, fill) {
     const missing = size - bytes.length;
     if (missing === 0) return bytes;
     if (missing < 0 || fill === null) throw new Fault(`the new bytes are ${bytes.length}, the old ones ${size}`);
-    if (missing % fill.length !== 0) throw new Fault(`${missing} bytes are to be filled up, ${fill.length} at a time`);
+    if (missing % fill.length !== 0) {
+        const filler = `${fill.length}-byte filler ${hexText(fill, ' ')}`;
+        throw new Fault(`cannot pad ${missing} ${missing === 1 ? 'byte' : 'bytes'} with the ${filler}; use --fill with one byte`);
+    }
     const filled = new Uint8Array(size);
     filled.set(bytes);
     for (let at = bytes.length; at < size; at += fill.length) filled.set(fill, at);

@@ -1,7 +1,8 @@
 // The script that replaces a file of a disc.
 
-import { sliceOf } from '../bytes.js';
+import { firstAfter, sliceOf } from '../bytes.js';
 import { Fault } from '../faults.js';
+import { endOfExtent } from '../iso/files.js';
 import { SIZE_FIELD } from '../iso/records.js';
 import { SECTOR_SIZE, USER_SIZE } from '../sectors/sector.js';
 import { bytesAround } from '../texts/context.js';
@@ -19,21 +20,20 @@ import { ScriptParts } from './script_writer.js';
 /** @typedef {import('./model.js').UserRange} UserRange */
 /** @typedef {import('./sector_lines.js').Left} Left */
 /** @typedef {import('./script_writer.js').Script} Script */
-/** @typedef {Pick<VolumeFiles, 'entries' | 'udf'>} VolumeNames what names the files of a volume */
-/** @typedef {{ script: Script | null, left: Left[] }} Replacement without a script if a sector is left, which is not consistent */
+/** @typedef {Pick<VolumeFiles, 'entries' | 'udf' | 'own' | 'tables' | 'files'>} VolumeNames what a volume names, and its own blocks */
+/**
+ * A script, none if a sector is left, which is not consistent; and the paths of other files that have some of the blocks, and change too.
+ * @typedef {{ script: Script | null, left: Left[], sharing: string[] }} Replacement
+ */
 
 /** @param {{ size: number }} extent how many bytes its sectors have */
 function extentRoom({ size }) {
     return Math.ceil(size / USER_SIZE) * USER_SIZE;
 }
 
-/**
- * The entries of an extent, in all trees of names.
- * @param {VolumeNames} names
- * @param {FileEntry} extent
- */
-function entriesOf({ entries }, { block, size }) {
-    return entries.filter(it => it.block === block && it.size === size);
+/** @param {FileEntry} extent */
+function keyOf({ block, size }) {
+    return `${block} ${size}`;
 }
 
 /**
@@ -42,26 +42,52 @@ function entriesOf({ entries }, { block, size }) {
  * @returns {UserRange[]}
  */
 export function placesOfFile({ extents, names }) {
-    return extents.flatMap(extent => [{ block: extent.block, offset: 0, size: extentRoom(extent) },
-        ...entriesOf(names, extent).map(({ record: { block, offset } }) =>
-            ({ block, offset: offset + SIZE_FIELD.offset, size: SIZE_FIELD.length }))]);
+    const records = [...recordsOf(names.entries, extents).values()].flat();
+    return [...extents.map(extent => ({ block: extent.block, offset: 0, size: extentRoom(extent) })),
+        ...records.map(({ record: { block, offset } }) => ({ block, offset: offset + SIZE_FIELD.offset, size: SIZE_FIELD.length }))];
 }
 
 /**
- * Throws a Fault if a file can have no other length: something else names it, or has its blocks too.
+ * Says whether blocks are some of a file's.
+ * @param {FileEntry[]} extents of the file
+ */
+function meetingOf(extents) {
+    const inOrder = extents.filter(({ size }) => size > 0).sort((a, b) => a.block - b.block);
+    const begins = inOrder.map(({ block }) => block);
+    return (/** @type {number} */ first, /** @type {number} */ end) => {
+        const i = firstAfter(begins, end - 1) - 1;
+        return i >= 0 && endOfExtent(inOrder[i]) > first;
+    };
+}
+
+/**
+ * The other files that have some of a file's blocks. Throws a Fault if some are the volume's own, or if the file can have no other length
+ * and gets one: something else names it, or has its blocks too.
  * @param {WholeFile} file
  * @param {VolumeNames} names
+ * @param {boolean} keeps its length
  */
-function assertOwn({ path, extents }, names) {
-    if (names.udf) throw new Fault(`${path} would have its old length in the UDF that the disc has too: --fill keeps the length`);
-    const endOf = (/** @type {FileEntry} */ it) => it.block + extentRoom(it) / USER_SIZE;
-    for (const extent of extents) {
-        const [end, own] = [endOf(extent), new Set(entriesOf(names, extent))];
-        const isIn = (/** @type {number} */ block) => block >= extent.block && block < end;
-        const meets = (/** @type {FileEntry} */ it) => it.size > 0 && it.block < end && endOf(it) > extent.block;
-        const other = names.entries.find(it => isIn(it.record.block) || (!own.has(it) && meets(it)));
-        if (other) throw new Fault(`${path} can have no other length: ${other.path} has some of its blocks, or its record`);
+function sharingWith({ path, extents }, { udf, own, tables, entries, files }, keeps) {
+    const meets = meetingOf(extents);
+    const mine = [...own.keys(), ...tables].find(block => meets(block, block + 1));
+    if (mine !== undefined) {
+        throw new Fault(`${path} has block ${mine}, which has a ${own.get(mine) || 'path table'} of the volume: that is not replaced`);
     }
+    if (!keeps && udf) throw new Fault(`${path} would have its old length in the UDF that the disc has too: --fill keeps the length`);
+    const same = new Set(extents.map(keyOf));
+    const isIn = (/** @type {FileEntry} */ it) => it.size > 0 && meets(it.block, endOfExtent(it));
+    const other = keeps ? undefined : entries.find(it => !same.has(keyOf(it)) && isIn(it));
+    if (other) throw new Fault(`${path} can have no other length: ${other.path} has some of its blocks`);
+    return [...new Set(files.filter(it => it.path !== path && isIn(it)).map(it => it.path))];
+}
+
+/**
+ * What is said of a file that shares blocks with one that is replaced.
+ * @param {string} path
+ * @param {string} other
+ */
+export function sharingText(path, other) {
+    return `${other} has blocks of ${path} too, and changes with it`;
 }
 
 /**
@@ -82,9 +108,16 @@ async function pushSize(calls, image, parts, records, size) {
     }
 }
 
-/** @param {number[]} numbers */
-function sumOf(numbers) {
-    return numbers.reduce((sum, number) => sum + number, 0);
+/**
+ * The entries of extents in all trees of names, by what keyOf says.
+ * @param {FileEntry[]} entries
+ * @param {FileEntry[]} extents
+ */
+function recordsOf(entries, extents) {
+    /** @type {Map<string, FileEntry[]>} */
+    const records = new Map(extents.map(it => [keyOf(it), []]));
+    for (const it of entries) records.get(keyOf(it))?.push(it);
+    return records;
 }
 
 /**
@@ -101,23 +134,26 @@ function sumOf(numbers) {
 export async function replaceFile(calls, crew, image, { path, size, extents, names }, wanted, { fill, ...how } = {}) {
     const keeps = fill !== undefined || wanted.size === size;
     const lengths = extents.map(extent => keeps ? extent.size : extentRoom(extent));
-    const room = sumOf(lengths);
+    const room = lengths.reduce((sum, length) => sum + length, 0);
     const had = `${size} bytes${keeps ? '' : ` and room for ${room}`}`;
     if (wanted.size > room) throw new Fault(`${path} has ${had}, the new file ${wanted.size}`);
-    if (!keeps) assertOwn({ path, size, extents }, names);
+    const sharing = sharingWith({ path, size, extents }, names, keeps);
+    const records = recordsOf(names.entries, extents);
     const parts = new ScriptParts();
     const filled = filledReader(wanted, room + USER_SIZE, fill);
+    let before = 0;
     for (const [i, extent] of extents.entries()) {
-        const [before, count] = [sumOf(lengths.slice(0, i)), extentRoom(extent) / USER_SIZE];
+        const count = extentRoom(extent) / USER_SIZE;
         const fresh = Math.max(Math.min(wanted.size - before, lengths[i]), 0);
-        if (!keeps && fresh !== extent.size) await pushSize(calls, image, parts, entriesOf(names, extent), fresh);
+        if (!keeps && fresh !== extent.size) await pushSize(calls, image, parts, records.get(keyOf(extent)) || [], fresh);
         const first = extent.block - image.base;
         const old = sliceOf(image.reader, first * SECTOR_SIZE, (first + count) * SECTOR_SIZE);
         const readers = [old, sliceOf(filled, before, before + count * USER_SIZE)];
-        const sharing = { ...how, base: extent.block, units: [SECTOR_SIZE, USER_SIZE] };
-        await crew.share('replace', readers, { end: extent.block * USER_SIZE + lengths[i] }, sharing, lines => parts.push(lines));
+        const shared = { ...how, base: extent.block, units: [SECTOR_SIZE, USER_SIZE] };
+        await crew.share('replace', readers, { end: extent.block * USER_SIZE + lengths[i] }, shared, lines => parts.push(lines));
+        before += lengths[i];
     }
-    return { script: parts.left.length > 0 ? null : parts.script(calls), left: parts.left };
+    return { script: parts.left.length > 0 ? null : parts.script(calls), left: parts.left, sharing };
 }
 
 /**

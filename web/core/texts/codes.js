@@ -1,18 +1,46 @@
 // Texts in the cells of a table, in which bytes that are no plain character stand as codes, as {00}.
 
+import { FAULT, Fault, failedBy } from '../faults.js';
+import { isTurnDue, letOthersIn } from '../turns.js';
 import { unitsAlike } from './alike.js';
 import { charactersFrom } from './boundaries.js';
+import { usualBytes } from './encoding.js';
 import { bytesOfHex, hexText } from './hex.js';
 
 /** @typedef {import('./encoding.js').Encoding} Encoding */
+/** @typedef {{ number: number, encoding: string, text: string, fresh: string }} CodedRow a row with an old text and a new one */
+/**
+ * A code that new texts leave out, as its digits; how often they do so in all, in how many rows, and the numbers of the first of these.
+ * @typedef {{ code: string, count: number, rows: number, first: number[] }} LeftCode
+ */
 
 /** What stands as a code: what no character is, or one that can't be seen; and a brace. */
 const CODED = /[\p{C}\u2028\u2029\uFFFD{}]/u;
 
+/** What stands as a code at the beginning of a cell: a spreadsheet would take a quote away, and run the others as a formula. */
+const CODED_FIRST = /^["=+\-@]/;
+
+/** The most bytes of one of these, in UTF-16. */
+const LONGEST_SIGN = 2;
+
 /** Texts that are seen to have none of these in a tenth of the time. */
-const PLAIN = /^[\x20!\x23-\x7A|~\u3001-\u3003\u300C-\u300F\u3041-\u3096\u30A1-\u30FC\u4E00-\u9FA5\uFF01-\uFF5E]*$/;
+const PLAIN = /^(?![=+@-])[\x20!\x23-\x7A|~\u3001-\u3003\u300C-\u300F\u3041-\u3096\u30A1-\u30FC\u4E00-\u9FA5\uFF01-\uFF5E]*$/;
 
 const CODE = /\{((?:[0-9A-Fa-f]{2})+)\}/;
+
+/** What may have been meant as a code: it is one only if its digits come in pairs. */
+const LIKE_CODE = /\{[0-9A-Za-z]{1,16}\}/g;
+
+/** What spreadsheets write for a formula that they cannot work out. */
+const FORMULA_ERROR = /^(Err:\d{3}|#(NAME\?|(REF|VALUE|DIV\/0|NUM|NULL|ERROR|SPILL|CALC|FIELD|BLOCKED|CONNECT|UNKNOWN|BUSY)!|N\/A))$/;
+
+const CONTROLS = /\p{Cc}/gu;
+
+/** A cell of more characters is not read as a text, and its codes are not counted. */
+export const LONGEST_TEXT = 1 << 16;
+
+/** How many rows are named that leave out a code. */
+const FIRST_ROWS = 5;
 
 /**
  * The parts of a cell, as `Encoding.units` gives them; a code is its bytes. Throws a Fault, TEXT, that names a character without bytes.
@@ -23,34 +51,125 @@ export function unitsOfCell(encoding, cell) {
     return cell.split(CODE).flatMap((part, i) => i % 2 === 1 ? [[bytesOfHex(part)]] : unitsAlike(encoding, part));
 }
 
-/** @param {string} cell */
-function codedBytes(cell) {
-    return cell.split(CODE).flatMap((part, i) => i % 2 === 1 ? [...bytesOfHex(part)] : []);
-}
-
 /**
- * The bytes that stand as codes in a cell and not in another one, as codes.
+ * Throws a Fault if nobody can have meant a new text: the error of a formula, or braces that look like a mistyped code and are not a sign
+ * of the game's own table.
+ * @param {Encoding} encoding
  * @param {string} cell
- * @param {string} other
  */
-export function codesLeftOut(cell, other) {
-    const kept = codedBytes(other);
-    return codedBytes(cell).filter(byte => !kept.includes(byte)).map(byte => `{${hexText(Uint8Array.of(byte))}}`);
+export function assertMeant(encoding, cell) {
+    if (FORMULA_ERROR.test(cell)) throw new Fault(`a spreadsheet wrote ${cell} in place of a formula: write the text, with {3D} for =`);
+    for (const [code] of cell.matchAll(LIKE_CODE)) {
+        if (CODE.test(code) || bytesOfSign(encoding, code, 1) !== null) continue;
+        throw new Fault(`${code} is not a code, which is two digits 0 to F for each byte; a brace is {7B}`);
+    }
 }
 
 /**
- * The cell of bytes. A brace is a code too, and a quote at the beginning, which a spreadsheet would take away.
+ * The bytes of a sign of an encoding, null if it has none, or needs more parts than so many.
+ * @param {Encoding} encoding
+ * @param {string} sign
+ * @param {number} most
+ */
+function bytesOfSign(encoding, sign, most) {
+    try {
+        const units = encoding.units(sign);
+        return units.length > most ? null : usualBytes(units);
+    } catch (error) {
+        if (!failedBy(error, FAULT.TEXT)) throw error;
+        return null;
+    }
+}
+
+/**
+ * The codes of a cell, and its control characters, which have been typed or pasted in place of codes. The code at its beginning is none if
+ * it stands for a character that is written so only there.
+ * @param {Encoding[]} encodings that it may be in: the first one says how many bytes a code has
+ * @param {string} cell
+ * @returns {string[]}
+ */
+function codesOf(encodings, cell) {
+    const [encoding] = encodings;
+    return cell.split(CODE).flatMap((part, i, parts) => {
+        if (i % 2 === 0) return (part.match(CONTROLS) || []).map(it => hexText(bytesOfSign(encoding, it, 1) || new Uint8Array(0)));
+        const bytes = bytesOfHex(part);
+        const isFirst = i === 1 && parts[0] === '' && bytes.length <= LONGEST_SIGN;
+        if (isFirst && encodings.some(it => CODED_FIRST.test(it.text(bytes)))) return [];
+        return Array.from(charactersFrom(encoding, bytes), ({ at, size }) => hexText(bytes.subarray(at, at + size)));
+    });
+}
+
+/**
+ * How often each code of a row's old text is left out in its new one.
+ * @param {Encoding[]} encodings
+ * @param {CodedRow} row
+ */
+function codesMissing(encodings, { text, fresh }) {
+    /** @type {Map<string, number>} */
+    const missing = new Map();
+    if (Math.max(text.length, fresh.length) > LONGEST_TEXT) return missing;
+    const old = codesOf(encodings, text);
+    for (const code of old) missing.set(code, (missing.get(code) || 0) + 1);
+    for (const code of old.length === 0 ? [] : codesOf(encodings, fresh)) missing.set(code, (missing.get(code) || 0) - 1);
+    return missing;
+}
+
+/**
+ * The codes that the new texts of rows leave out, each once, in the order in which they are met. Call it with the rows that `replaceList`
+ * was given, and show `leftCodeText` of each: so the page and cdscript say the same.
+ * @param {CodedRow[]} rows
+ * @param {(name: string) => Encoding[]} encodingsFor the encodings that a row may be in, by the name that it has, or ''
+ * @param {import('../turns.js').Signal} [signal]
+ * @returns {Promise<LeftCode[]>}
+ */
+export async function codesLeftOut(rows, encodingsFor, signal) {
+    /** @type {Map<string, LeftCode>} */
+    const left = new Map();
+    for (const row of rows) {
+        if (isTurnDue()) await letOthersIn(signal);
+        for (const [code, count] of codesMissing(encodingsFor(row.encoding), row)) {
+            if (count <= 0) continue;
+            const known = left.get(code) || { code, count: 0, rows: 0, first: [] };
+            left.set(code, known);
+            known.count += count;
+            known.rows += 1;
+            if (known.rows <= FIRST_ROWS) known.first.push(row.number);
+        }
+    }
+    return [...left.values()];
+}
+
+/**
+ * What is said of a code that new texts leave out.
+ * @param {LeftCode} left
+ */
+export function leftCodeText({ code, count, rows, first }) {
+    const often = count === 1 ? 'once' : `${count} times`;
+    const named = [...first, ...rows > first.length ? [`and ${rows - first.length} more`] : []];
+    return `new texts leave out {${code}} ${often}: ${rows === 1 ? 'row' : 'rows'} ${named.join(', ')}`;
+}
+
+/**
+ * The cell of bytes. A brace is a code too, and at the beginning what a spreadsheet would take away or run.
  * @param {Encoding} encoding
  * @param {Uint8Array} bytes
  * @param {string} [known] their text, if it is known
  */
 export function cellOf(encoding, bytes, known) {
     const whole = known || encoding.text(bytes);
-    if (PLAIN.test(whole) || (!CODED.test(whole) && !whole.startsWith('"'))) return whole;
+    if (PLAIN.test(whole) || (!CODED.test(whole) && !CODED_FIRST.test(whole))) return whole;
     const parts = [];
     for (const { at, size, text } of charactersFrom(encoding, bytes)) {
-        const plain = !CODED.test(text) && !(at === 0 && text === '"');
+        const plain = !CODED.test(text) && !(at === 0 && CODED_FIRST.test(text));
         parts.push(plain ? text : `{${hexText(bytes.subarray(at, at + size))}}`);
     }
     return parts.join('');
+}
+
+/**
+ * The cell of a text that is only looked at, as that of a hit: its first character is a code if a spreadsheet would run it.
+ * @param {string} text
+ */
+export function shownCell(text) {
+    return /^[=+\-@\t\r]/.test(text) ? `{${hexText(Uint8Array.of(text.charCodeAt(0)))}}${text.slice(1)}` : text;
 }

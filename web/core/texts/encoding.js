@@ -18,6 +18,7 @@ import { CharacterTable } from './characters.js';
  */
 /** @typedef {{ size: number, text: string }} Character how many bytes it has, and what they mean */
 /** @typedef {{ first: number, last: number, score: number }} Usual pairs of bytes that stand often in texts, and what each scores */
+/** @typedef {Uint8Array | 'end' | null} Filler what fills up a shorter text: bytes, the byte that ends texts, or the encoding's space */
 /** @typedef {{ name: string, label?: string, aliases?: string[], searched?: boolean, usual?: Usual }} Names what an encoding is called */
 
 export const SPACES = { space: ' ', wideSpace: '\u3000' };
@@ -118,6 +119,15 @@ export function spaceIn(encoding) {
     const space = bytesIfAny(encoding, encoding.space);
     spaces.set(encoding, space);
     return space;
+}
+
+/**
+ * The bytes that fill up a shorter text, or null if the encoding has no space.
+ * @param {Encoding} encoding
+ * @param {Filler} filler
+ */
+export function fillerOf(encoding, filler) {
+    return filler === 'end' ? Uint8Array.of(encoding.end || 0) : filler || spaceIn(encoding);
 }
 
 /**

@@ -4,10 +4,11 @@ import { wholeOf } from '../bytes.js';
 import { FAULT, Fault, failedBy } from '../faults.js';
 import { ReadAhead } from '../read_ahead.js';
 import { filledUp, replaceBytes } from '../script/replace_bytes.js';
-import { rowsOf } from './cells.js';
-import { unitsOfCell } from './codes.js';
+import { isTurnDue, letOthersIn, sortedInTurns } from '../turns.js';
+import { MARKS, Table } from './cells.js';
+import { LONGEST_TEXT, assertMeant, unitsOfCell } from './codes.js';
 import { bytesAround, bytesBefore } from './context.js';
-import { spaceIn, usualBytes } from './encoding.js';
+import { fillerOf, spaceIn, usualBytes } from './encoding.js';
 import { encodingOf, textOfFile } from './encodings.js';
 import { endOfMatch } from './find.js';
 import { assertHasRoom, replacedEach } from './replace.js';
@@ -15,19 +16,26 @@ import { assertHasRoom, replacedEach } from './replace.js';
 /** @typedef {import('../bytes.js').Reader} Reader */
 /** @typedef {import('../module/calls.js').Calls} Calls */
 /** @typedef {import('../disc/disc.js').DiscImage} DiscImage */
+/** @typedef {import('../turns.js').Signal} Signal */
 /** @typedef {import('./encoding.js').Encoding} Encoding */
+/** @typedef {import('./encoding.js').Filler} Filler */
 /** @typedef {import('./replace.js').Watch} Watch */
-/** A row with a new text: its number, where the old one stands, the room there that it names, or -1, and the encoding, or ''. */
 /**
- * @typedef {{ number: number, block: number, offset: number, room: number, encoding: string, text: string, fresh: string }} ListRow
+ * A row with a new text: its number, where the old one stands, the room there that it names, or -1, and the encoding, or ''; and why the
+ * row is not read as it is meant, '' if it is.
+ * @typedef {{ number: number, block: number, offset: number, room: number, encoding: string, text: string, fresh: string, fault: string }}
+ *     ListRow
  */
 /** @typedef {{ text: ListRow, why: string }} LeftRow a row that does not fit, and why */
 
-const NEEDED = ['block', 'offset', 'text', 'new'];
+const COLUMNS = ['block', 'offset', 'text', 'new', 'room', 'encoding'];
+const NEEDED = COLUMNS.slice(0, 4);
 
-/** The most bytes of a text that is read at its place, and characters of a cell; and how many rows have new texts. */
-const LONGEST_TEXT = 1 << 16;
+/** How many rows have new texts at most. */
 const MOST_ROWS = 1000000;
+
+/** The row that names the columns is one of the first: others, such as a title, may come before it. */
+const MOST_HEADS = 20;
 
 /** What may stand after a text to fill up its room. */
 const FILLING = [0x00, 0x20, 0xFF];
@@ -40,10 +48,12 @@ const MOST_LISTED = 1 << 28;
  * @param {Reader} reader
  * @param {string} name
  * @param {(row: ListRow) => boolean} [isAlso] which rows without one are wanted too
+ * @param {Signal} [signal]
  */
-export async function rowsOfList(reader, name, isAlso) {
+export async function rowsOfList(reader, name, isAlso, signal) {
     if (reader.size > MOST_LISTED) throw new Fault(`${name} has ${reader.size} bytes, and a list at most ${MOST_LISTED}`);
-    const rows = [...listRows(textOfFile(await wholeOf(reader)), isAlso)];
+    const rows = [];
+    for await (const row of listRows(textOfFile(await wholeOf(reader)), isAlso, signal)) rows.push(row);
     if (rows.length === 0) throw new Fault('no row of the list has a new text');
     return rows;
 }
@@ -61,26 +71,59 @@ export function encodingsOfRows(given, isAsked) {
 }
 
 /**
- * The rows of a list that have a new text. Throws a Fault if its first row does not name the columns.
+ * What stands between the cells of a list, and the row that names the columns, which may be in quotes. Null if the list has no row. Throws
+ * a Fault if none of the first rows names the columns, or if it has a name twice.
+ * @param {string} list
+ */
+function headOf(list) {
+    /** @type {{ number: number, missing: string[] } | null} */
+    let nearest = null;
+    for (const mark of MARKS) {
+        for (const { number, cells, isQuoted } of new Table(list, mark).rows()) {
+            if (number > MOST_HEADS) break;
+            const names = cells.map(name => name.trim().replace(/^"(.*)"$/, '$1').toLowerCase());
+            const missing = NEEDED.filter(name => !names.includes(name));
+            const twice = COLUMNS.find(name => names.indexOf(name) !== names.lastIndexOf(name));
+            if (missing.length === 0 && twice) throw new Fault(`row ${number} of the list names two columns ${twice}`);
+            if (missing.length === 0) return { mark, number, names, isQuoted };
+            if (nearest === null || missing.length < nearest.missing.length) nearest = { number, missing };
+        }
+    }
+    if (nearest === null) return null;
+    throw new Fault(`row ${nearest.number} of the list names no column ${nearest.missing.join(', ')}`);
+}
+
+/** @param {string | undefined} cell */
+function wholeIn(cell) {
+    return cell !== undefined && /^\d{1,9}$/.test(cell) ? Number(cell) : -1;
+}
+
+/**
+ * The rows of a list that have a new text. Throws a Fault if none of its first rows names the columns.
  * @param {string} list
  * @param {(row: ListRow) => boolean} [isAlso] which rows without one are wanted too
- * @returns {Generator<ListRow>}
+ * @param {Signal} [signal]
+ * @returns {AsyncGenerator<ListRow>}
  */
-export function* listRows(list, isAlso = () => false) {
-    const rows = rowsOf(list);
-    const first = rows.next();
-    if (first.done) return;
-    const names = first.value.cells.map(name => name.trim().toLowerCase());
-    const missing = NEEDED.filter(name => !names.includes(name));
-    if (missing.length > 0) throw new Fault(`the first row of the list names no column ${missing.join(', ')}`);
+export async function* listRows(list, isAlso = () => false, signal) {
+    const head = headOf(list);
+    if (head === null) return;
+    const table = new Table(list, head.mark);
+    const [block, offset, text, fresh, room, encoding] = COLUMNS.map(name => head.names.indexOf(name));
+    const isPlace = (/** @type {string[]} */ cells) => [block, offset].every(column => wholeIn(cells[column]) >= 0);
+    table.isQuoted = table.isQuoted || head.isQuoted;
+    table.isRow = line => isPlace(line.split(head.mark, Math.max(block, offset) + 1));
     let count = 0;
-    for (const { number, cells } of rows) {
-        const cell = (/** @type {string} */ name) => cells[names.lastIndexOf(name)] || '';
-        const whole = (/** @type {string} */ name) => /^\d{1,9}$/.test(cell(name)) ? Number(cell(name)) : -1;
-        const [encoding, text, fresh] = ['encoding', 'text', 'new'].map(cell);
-        const row = { number, block: whole('block'), offset: whole('offset'), room: whole('room'), encoding, text, fresh };
-        if (fresh === '' && !isAlso(row)) continue;
-        count += Number(fresh !== '');
+    for (const { number, cells, overrun } of table.rows()) {
+        if (isTurnDue()) await letOthersIn(signal);
+        if (number <= head.number) continue;
+        const row = {
+            number, block: wholeIn(cells[block]), offset: wholeIn(cells[offset]), room: wholeIn(cells[room]),
+            encoding: cells[encoding] || '', text: cells[text] || '', fresh: cells[fresh] || '',
+            fault: overrun === 0 ? '' : `a cell in quotes runs on to row ${number + overrun}, which has a place of its own`,
+        };
+        if (row.fresh === '' && row.fault === '' && !isAlso(row)) continue;
+        count += Number(row.fresh !== '');
         if (count > MOST_ROWS) throw new Fault(`more than ${MOST_ROWS} rows of the list have a new text`);
         yield row;
     }
@@ -110,7 +153,7 @@ export function fillingAfter(encoding, bytes, from, to = bytes.length) {
  * @param {DiscImage} image
  * @param {ListRow[]} rows
  * @param {(name: string) => Encoding[]} encodingsFor the encodings that a row may be in, by the name that it has, or ''
- * @param {Uint8Array | null} fill what fills up shorter texts, if not the encoding's space
+ * @param {Filler} fill
  * @param {Watch} [watch]
  */
 export async function replaceList(calls, image, rows, encodingsFor, fill, watch = {}) {
@@ -118,14 +161,15 @@ export async function replaceList(calls, image, rows, encodingsFor, fill, watch 
     const ahead = new ReadAhead(reader);
     const read = (/** @type {number} */ at, /** @type {number} */ length) => ahead.bytesAt(at, Math.min(length, reader.size - at));
     const near = { ...image, reader: { size: reader.size, read } };
-    const inOrder = [...rows].sort((a, b) => bytesBefore(image, a) - bytesBefore(image, b));
+    const inOrder = await sortedInTurns(rows, row => bytesBefore(image, row), watch.signal);
     const { parts, left } = await replacedEach(image, inOrder, watch, async (row, met) => {
+        if (row.fault) throw new Fault(row.fault);
         if (row.block < 0 || row.offset < 0) throw new Fault('block and offset are no numbers');
         if (met !== null) throw new Fault(`it overlaps the text of row ${met.number}`);
         const { old, fresh } = await fittedRow(near, row, encodingsFor(row.encoding), fill);
         return { lines: await replaceBytes(calls, near, row, old, fresh, true), size: old.length };
     });
-    return { parts, left: left.sort((a, b) => a.text.number - b.text.number) };
+    return { parts, left: await sortedInTurns(left, ({ text }) => text.number, watch.signal) };
 }
 
 /**
@@ -142,7 +186,7 @@ export function leftRowText({ text: { number }, why }) {
  * @param {DiscImage} image
  * @param {ListRow} row
  * @param {Encoding[]} encodings
- * @param {Uint8Array | null} fill
+ * @param {Filler} fill
  */
 async function fittedRow(image, row, encodings, fill) {
     const first = row.block - image.base;
@@ -150,14 +194,17 @@ async function fittedRow(image, row, encodings, fill) {
     if (first < 0 || first >= image.sectors) throw new Fault(`the image has the blocks ${image.base} to ${image.base + image.sectors - 1}`);
     const longest = 4 * Math.max(row.text.length, row.fresh.length) + Math.max(row.room, 0) + 4;
     const { bytes, at } = await bytesAround(image, row, 0, Math.min(longest, LONGEST_TEXT));
-    const { encoding, size } = encodingAt(encodings, row, bytes, at);
+    const { encoding, size: known } = encodingAt(encodings, row, bytes, at);
+    assertMeant(encoding, row.fresh);
     const fresh = usualBytes(unitsOfCell(encoding, row.fresh));
-    const room = Math.max(Math.min(size + fillingAfter(encoding, bytes, at + size), row.room), size);
+    // A row may name less room than its old text has, if that has been read on into other data.
+    const size = row.room < 0 ? known : Math.min(known, row.room);
+    const room = Math.max(Math.min(known + fillingAfter(encoding, bytes, at + known), row.room), size);
     assertHasRoom(encoding, fresh, room);
-    const filling = fill || spaceIn(encoding);
-    if (fresh.length < size && filling === null) throw new Fault(`${encoding.name} has no space to fill up with`);
+    const filler = fillerOf(encoding, fill);
+    if (fresh.length < size && filler === null) throw new Fault(`${encoding.name} has no space to fill up with`);
     const old = bytes.slice(at, at + Math.max(size, fresh.length));
-    return { old, fresh: filledUp(fresh, old.length, filling) };
+    return { old, fresh: filledUp(fresh, old.length, filler) };
 }
 
 /**

@@ -1,8 +1,9 @@
 // A text replaced by another one at the places at which it stands.
 
-import { Fault, cancelled } from '../faults.js';
+import { Fault } from '../faults.js';
 import { replaceBytes } from '../script/replace_bytes.js';
 import { ScriptParts } from '../script/script_writer.js';
+import { letOthersIn } from '../turns.js';
 import { bytesBefore, contextOf } from './context.js';
 
 /** @typedef {import('../module/calls.js').Calls} Calls */
@@ -46,7 +47,7 @@ export async function replacedEach(image, texts, { signal, progress }, replace) 
     const left = [];
     let [last, end] = [/** @type {T | null} */ (null), 0];
     for (const [i, text] of texts.entries()) {
-        if (signal && signal.aborted) throw cancelled();
+        await letOthersIn(signal);
         if (progress) progress(i, texts.length);
         const at = bytesBefore(image, text);
         try {

@@ -3,7 +3,7 @@
 import { Fault } from '../../core/faults.js';
 import { passFile } from '../../core/images/convert.js';
 import { filesLines, wholeFile } from '../../core/iso/files.js';
-import { placesOfFile, replaceFile } from '../../core/script/replace_file.js';
+import { placesOfFile, replaceFile, sharingText } from '../../core/script/replace_file.js';
 import { linesMade } from '../../core/script/script_writer.js';
 import { leftText } from '../../core/script/sector_lines.js';
 import { blocksIn } from '../../core/sectors/runs.js';
@@ -233,7 +233,7 @@ export class FilesList {
             const earlier = await linesReplacing(script, { reader, base: image.base }, places);
             const come = linesMade(made.script);
             const gone = this.app.changeScript(lines => this.replaced.replace(lines, image.reader, chosen.path, come, earlier));
-            return this.addedWords(chosen, fresh.size, come, gone, places);
+            return this.addedWords(chosen, fresh.size, come, { gone, places, sharing: made.sharing });
         });
     }
 
@@ -242,15 +242,16 @@ export class FilesList {
      * @param {Listed} file
      * @param {number} size the new one
      * @param {string[]} come the lines
-     * @param {number} gone how many earlier ones made way
-     * @param {UserRange[]} places in which they write
+     * @param {{ gone: number, places: UserRange[], sharing: string[] }} found how many earlier lines made way, where these write, and
+     *     the other files that have some of its blocks
      */
-    addedWords({ path, size: before }, size, come, gone, places) {
+    addedWords({ path, size: before }, size, come, { gone, places, sharing }) {
         const { app } = this;
         const fresh = new Set(come);
         const others = linesIn(app.script, places).filter(({ text }) => !fresh.has(text));
         const words = [gone > 0 && told(texts.earlierLinesGone, { n: gone }), others.length > 0 && told(texts.otherLinesWrite,
-            { n: others.length, line: String(others[0].number) })].flatMap(it => it || []);
+            { n: others.length, line: String(others[0].number) }),
+        ...sharing.slice(0, MOST_RUNS).map(other => `${sharingText(seen(path), seen(other))}.`)].flatMap(it => it || []);
         const rest = words.map(text => element('p', {}, text));
         if (come.length === 0) return notice('plain', texts.newFileIsSame, ...gone > 0 ? rest : [texts.nothingAdded, ...rest]);
         const head = told(texts.linesAdded, { n: come.length });
@@ -258,7 +259,7 @@ export class FilesList {
         const length = size === before ? [] : say(texts.fileChangesLength, { name: nameOf(path), before, after: size });
         const go = others.length > 0 && button('slim', () => app.goToLine(others[0].number - 1),
             told(texts.goToLine, { line: String(others[0].number) }));
-        return notice(others.length > 0 ? 'warn' : 'good', head, ...length, ...rest,
+        return notice(others.length + sharing.length > 0 ? 'warn' : 'good', head, ...length, ...rest,
             element('div', { class: 'row' }, go, button('slim', () => app.showPanel('script'), texts.openScriptPanel)));
     }
 }

@@ -1,6 +1,7 @@
 // The table of hits, with the file and what stands round each.
 
 import { USER_SIZE } from '../../core/module/numbers.js';
+import { shownCell } from '../../core/texts/codes.js';
 import { contextOf, contextsOf, filesWith } from '../../core/texts/context.js';
 import * as texts from '../texts/index.js';
 import { told } from '../texts/index.js';
@@ -168,7 +169,8 @@ export class HitsCard {
         for await (const group of contextsOf(image, chosenEncoding(this.app), search.hits)) {
             for (const { hit, context: { before, hit: text, after } } of group) {
                 const paths = files ? filesWith(files.files, hit).map(({ path }) => seen(path)) : [];
-                rows.push(`${hit.block}\t${hit.offset}\t${paths.join(' ')}\t${shownCharacters([...before, ...text, ...after])}\n`);
+                const shown = shownCell(shownCharacters([...before, ...text, ...after]));
+                rows.push(`${hit.block}\t${hit.offset}\t${paths.join(' ')}\t${shown}\n`);
             }
         }
         return rows.join('');

@@ -1,0 +1,73 @@
+// Long work in parts: signals, Cancel, and what the page shows get their turn in between.
+
+import { cancelled } from './faults.js';
+
+/** @typedef {{ aborted: boolean }} Signal what ends a job */
+
+/** After so many milliseconds of work the others get a turn. */
+const WORK_TIME = 50;
+
+/** How many items are sorted in one piece. */
+const SORTED_AT_ONCE = 1 << 13;
+
+let lastTurn = 0;
+
+/** Whether the last turn of the others was a while ago. A loop of millions of short steps asks this first: it only looks at the clock. */
+export function isTurnDue() {
+    return Date.now() - lastTurn >= WORK_TIME;
+}
+
+/**
+ * Gives the others their turn if it is due. A loop over a stranger's input awaits this in each step. Throws a Fault, CANCELLED, if the
+ * signal ends the job.
+ * @param {Signal} [signal]
+ */
+export async function letOthersIn(signal) {
+    if (signal && signal.aborted) throw cancelled();
+    if (!isTurnDue()) return;
+    await new Promise(resolve => { setTimeout(() => resolve(undefined)); });
+    lastTurn = Date.now();
+    if (signal && signal.aborted) throw cancelled();
+}
+
+/**
+ * Items in the order of their keys, those of equal keys in the order in which they were. The others get turns in between.
+ * @template T
+ * @param {T[]} items
+ * @param {(item: T) => number} keyOf
+ * @param {Signal} [signal]
+ * @returns {Promise<T[]>}
+ */
+export async function sortedInTurns(items, keyOf, signal) {
+    /** @type {{ key: number, item: T }[][]} */
+    let runs = [];
+    for (let at = 0; at < items.length; at += SORTED_AT_ONCE) {
+        const keyed = items.slice(at, at + SORTED_AT_ONCE).map(item => ({ key: keyOf(item), item }));
+        runs.push(keyed.sort((a, b) => a.key - b.key));
+        await letOthersIn(signal);
+    }
+    while (runs.length > 1) {
+        const merged = [];
+        for (let i = 0; i < runs.length; i += 2) merged.push(await mergedRuns(runs[i], runs[i + 1] || [], signal));
+        runs = merged;
+    }
+    return runs.length === 0 ? [] : runs[0].map(({ item }) => item);
+}
+
+/**
+ * Two sorted runs as one.
+ * @template T
+ * @param {{ key: number, item: T }[]} first
+ * @param {{ key: number, item: T }[]} second
+ * @param {Signal} [signal]
+ */
+async function mergedRuns(first, second, signal) {
+    const all = new Array(first.length + second.length);
+    let [i, k] = [0, 0];
+    for (let at = 0; at < all.length; at++) {
+        const isFirst = k === second.length || (i < first.length && first[i].key <= second[k].key);
+        all[at] = isFirst ? first[i++] : second[k++];
+        if (at % SORTED_AT_ONCE === 0) await letOthersIn(signal);
+    }
+    return all;
+}
