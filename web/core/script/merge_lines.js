@@ -1,8 +1,11 @@
 // Lines that come into a script, each in the place of those that write the same bytes.
 
 import { VERB } from '../module/records.js';
-import { ScriptModel, byNumber, userPlace } from './model.js';
+import { isTurnDue, letOthersIn } from '../turns.js';
+import { byNumber, modelInParts, userPlace } from './model.js';
 
+/** @typedef {import('./model.js').ScriptModel} ScriptModel */
+/** @typedef {import('../turns.js').Signal} Signal */
 /** @typedef {import('./model.js').ScriptLine} ScriptLine */
 /** @typedef {import('./model.js').UserRange} UserRange */
 /** How many lines are new, how many took the place of others, and how many stand there already. */
@@ -26,9 +29,11 @@ function givesWay(line, range, isMade) {
  * Lines that set bytes, as they are read.
  * @param {ScriptModel} script
  * @param {string[]} texts
+ * @param {Signal} [signal]
  */
-function linesRead({ calls }, texts) {
-    return /** @type {{ text: string, patch: UserRange }[]} */ (new ScriptModel(calls, ['cdpatch 1', ...texts].join('\n')).lines.slice(1));
+async function linesRead({ calls }, texts, signal) {
+    const { lines } = await modelInParts(calls, ['cdpatch 1', ...texts].join('\n'), () => letOthersIn(signal));
+    return /** @type {{ text: string, patch: UserRange }[]} */ (lines.slice(1));
 }
 
 /**
@@ -36,10 +41,16 @@ function linesRead({ calls }, texts) {
  * @param {ScriptModel} script
  * @param {string[]} come
  * @param {(line: ScriptLine) => boolean} isMade whether a line was made as these, and not typed
+ * @param {Signal} [signal]
  */
-export function linesGivingWay(script, come, isMade) {
-    const gone = linesRead(script, come).flatMap(({ patch }) => script.linesWriting(patch).filter(line => givesWay(line, patch, isMade)));
-    return [...new Set(gone)].sort(byNumber);
+export async function linesGivingWay(script, come, isMade, signal) {
+    /** @type {Set<ScriptLine>} */
+    const gone = new Set();
+    for (const { patch } of await linesRead(script, come, signal)) {
+        if (isTurnDue()) await letOthersIn(signal);
+        script.linesWriting(patch).filter(line => givesWay(line, patch, isMade)).forEach(line => gone.add(line));
+    }
+    return [...gone].sort(byNumber);
 }
 
 /**
@@ -48,14 +59,16 @@ export function linesGivingWay(script, come, isMade) {
  * @param {ScriptModel} script
  * @param {string[]} come
  * @param {(line: ScriptLine) => boolean} isMade whether a line was made as these, and not typed
+ * @param {Signal} [signal]
  */
-export function mergedLines(script, come, isMade) {
+export async function mergedLines(script, come, isMade, signal) {
     /** @type {Map<number, string>} by the numbers of lines that give way: what stands there now, '' for nothing */
     const put = new Map();
     /** @type {string[]} */
     const end = [];
     const counts = { added: 0, replaced: 0, same: 0 };
-    for (const { text, patch } of linesRead(script, come)) {
+    for (const { text, patch } of await linesRead(script, come, signal)) {
+        if (isTurnDue()) await letOthersIn(signal);
         const gone = script.linesWriting(patch).filter(line => givesWay(line, patch, isMade)).sort(byNumber);
         const first = gone.find(({ number }) => !put.has(number));
         if (gone.length === 0) counts.added += 1;

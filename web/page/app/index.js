@@ -4,6 +4,7 @@ export { OWN, bytesOfBase64, inflatedText, packedParts } from './bundle.js';
 export { crewOf } from './crew.js';
 export { RunningHash, Summing, sha1Of, sumsOf } from './hashing.js';
 export { MARK, SURVEY_LOOKS, SurveyMarks, lookOf, lookOfKind, loudMarks, nextFinding, nextRun } from './marks.js';
+export { mergeOf } from './merging.js';
 export { ReplacedFiles, linesIn, linesReplacing } from './replaced_files.js';
 export { releaseOf, sha256Of } from './releases.js';
 export { LONG, isLong } from './script_long.js';

@@ -51,6 +51,12 @@ import { Store } from './store.js';
  *     takeBackBytes: () => boolean, saveScript: () => void }} Services
  */
 
+/**
+ * A file that was taken: `use` is called when the images that were opened with it are open, and if it needs an image when there is one.
+ * @typedef {{ needsImage: boolean, use: () => unknown }} Taken
+ */
+/** @typedef {(file: File) => Promise<boolean | Taken>} Taker what is asked of each file that is opened: whether it takes the file */
+
 /** @typedef {'disc' | 'text' | 'script' | 'publish'} PanelName */
 
 /** What is done with two images. */

@@ -201,6 +201,8 @@ export const tooManySectors = 'An image has at most {most} sectors, and this one
 export const compressedImage = 'A compressed image (CHD), which cdpatch cannot read: {name}';
 export const makeRawImage = 'Make a raw image of it first, in a terminal. Then open the new .cue and .bin here.';
 export const renameToDisc = 'Rename it to disc.chd before that: a terminal may read a part of its name as a command.';
+export const waitForImage = '{names}: open the disc image that it is for.|{names}: open the disc image that they are for.';
+export const thenTheyAreUsed = 'It is used as soon as the image is open.|They are used as soon as the image is open.';
 export const notOpenedYet = 'Not opened.';
 
 // what a second image is for
@@ -628,6 +630,7 @@ export const linesRemoved = 'Lines removed: {n}. Ctrl+Z in the script brings the
 export const newTextsFit = 'The new text fits.|All {n} new texts fit.';
 export const someTextsFit = '{n} new text fits, {others}.|{n} new texts fit, {others}.';
 export const othersDoNot = '{n} does not|{n} do not';
+export const moreCodesLeftOut = 'New texts leave out {n} more code.|New texts leave out {n} more codes.';
 export const rowsDoNotFit = '{n} row does not fit|{n} rows do not fit';
 export const columnRow = 'Row';
 export const columnPlace = 'Block, offset';
