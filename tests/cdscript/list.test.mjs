@@ -135,6 +135,17 @@ test('--fill end fills up with the byte that ends texts, which a table may name'
     assert.match((await run(['replace', 'image', '2', '100', 'AAA', 'A', '--fill', 'ends'], { cwd: room })).errors, /^cdscript: --fill is two hexadecimal digits/);
 }));
 
+test('a table of another tool is read, and the lines that mean nothing here are named once', () => inDirectory(async room => {
+    writeImage(room, [2, 0, '41FE0141FF']);
+    write(room, { table: '@JP\n41=A\n42=B\n20= \n$FE=[WAIT],1\n/FF\n!FD=KANJI,1\n' });
+    const note = 'cdscript: lines 1, 7 of the table mean nothing here, and are left out\n';
+    const done = await listed(room, 'block\toffset\ttext\tnew', ['2\t0\tA[WAIT]{01}A\tB[WAIT]{02}'], '--table', 'table');
+    assert.deepEqual([done.out, done.errors], ['cdpatch 1\nset 2 0 42FE0220 was 41FE0141\n', `${note}cdscript: new texts leave out {01} once: row 2\n`]);
+    const found = await run(['find', 'image', 'A[WAIT]', '--table', 'table'], { cwd: room });
+    assert.match(found.errors, /^cdscript: lines 1, 7 of the table mean nothing here, and are left out\n/);
+    assert.ok((await run(['texts', 'image', '--table', 'table'], { cwd: room })).errors.includes(note));
+}));
+
 test('what a spreadsheet wrote for a formula, and a mistyped code, are rows that do not fit', () => inDirectory(async room => {
     writeImage(room, [2, 0, '3D41'], [2, 100, '4141'], [2, 200, '41414141'], [3, 0, `3D${'42'.repeat(23)}484954`]);
     const rows = ['2\t0\t{3D}A\t{3D}B', '2\t100\tAA\t#REF!', '2\t200\tAAAA\t{O1}'];

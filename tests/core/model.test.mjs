@@ -7,6 +7,7 @@ import { calls, core, decoded, diceOf, newCalls } from './common.mjs';
 const { ScriptModel, lastBlockOf, writersIn } = await core('script/model.js');
 const { firstLinesOf } = await core('script/block_lines.js');
 const { faultyWord, lacksDigit, wordsOf } = await core('script/line_words.js');
+const { linesGivingWay, linesGivingWayInTurns, mergedInTurns, mergedLines } = await core('script/merge_lines.js');
 const { isMeantAsScript, isScript } = await core('script/script_start.js');
 const { CONTENT, VERB } = await core('module/records.js');
 
@@ -168,4 +169,26 @@ test('the first lines that rebuild a block, and that write in it otherwise', () 
     const model = modelOf('cdpatch 2\nset 4 2047 4142\nfill 5 0 1 00\nrebuild 5\nrebuild 5\naddress 6 00:02:06\nrebuild 7\nset 6 9 41');
     const found = [4, 5, 6, 7, 8].map(block => Object.values(firstLinesOf(model, block)));
     assert.deepEqual(found, [[0, 2], [4, 2], [0, 6], [7, 0], [0, 0]]);
+});
+
+test('lines that are merged in turns are those that are merged at once, and a signal ends it', async () => {
+    const dice = diceOf(6);
+    const set = (bytes, size) => `set ${dice(40)} ${8 * dice(200)} ${bytes.repeat(size)} was ${'00'.repeat(size)}`;
+    for (let i = 0; i < 20; i++) {
+        const texts = Array.from({ length: 300 }, () => set('41', 1 + dice(12)));
+        const script = new ScriptModel(calls, ['cdpatch 1', ...texts, ''].join('\n'));
+        const incoming = Array.from({ length: 100 }, () => set('42', 1 + dice(8)));
+        const isMade = ({ number }) => number % 3 === 0;
+        assert.deepEqual(await mergedInTurns(script, incoming, isMade), mergedLines(script, incoming, isMade));
+        assert.deepEqual(await linesGivingWayInTurns(script, incoming, isMade), linesGivingWay(script, incoming, isMade));
+    }
+    const script = new ScriptModel(calls, 'cdpatch 1\nset 1 0 4141 was 0000\n');
+    for (const merge of [mergedInTurns, linesGivingWayInTurns]) {
+        const signal = { aborted: false };
+        const endLater = () => {
+            for (const began = Date.now(); Date.now() < began + 60;);
+            signal.aborted = true;
+        };
+        await assert.rejects(merge(script, ['set 1 1 4242 was 4100', 'set 2 0 42 was 00'], endLater, signal), { code: 'cancelled' });
+    }
 });

@@ -6,7 +6,9 @@ import { test } from 'node:test';
 import { ENCODINGS_KNOWN, core } from './common.mjs';
 
 const { ENCODINGS, encodingOf, tableOf, textOfFile } = await core('texts/encodings.js');
-const { encodeText, fillsOf, spaceIn } = await core('texts/encoding.js');
+const { encodeText, fillsOf, spaceIn, usualBytes } = await core('texts/encoding.js');
+const { cellOf, unitsOfCell } = await core('texts/codes.js');
+const { leftOutText } = await core('texts/table.js');
 const { unitsAlike } = await core('texts/alike.js');
 
 /** @param {Uint8Array} bytes */
@@ -303,9 +305,25 @@ test('a table takes the longest match, both ways', () => {
 
 test('a table that can\'t be read names its line', () => {
     assert.throws(() => table('01=a\nxx=b'), { message: 'line 2 of the table is not HEX=TEXT' });
-    assert.throws(() => table('01=a\n02='), { message: /^line 2 / });
     assert.throws(() => table('01=a\n123=b'), { message: /^line 2 / });
     assert.throws(() => table('01=a\n02=b\n01=c'), { message: 'line 3 of the table: 01 stands twice' });
+});
+
+test('tables of other tools are read, and the lines that mean nothing here are numbered', () => {
+    const own = table('@JP\n//a comment\n   \n01=a\n!FD=KANJI,1\n$FE=[WAIT],1\n$FB=[END]\n(0h)start\n[0h-100h]Script\nFE=\n$F0=[X],%D\n/FF\n*FC\n$F101=[C],2\n');
+    assert.deepStrictEqual(own.leftOut, [1, 5, 8, 9, 10, 11]);
+    assert.strictEqual(leftOutText(own), 'lines 1, 5, 8, 9, 10, 11 of the table mean nothing here, and are left out');
+    assert.strictEqual(leftOutText(table('01=a\n@JP')), 'line 2 of the table means nothing here, and is left out');
+    assert.strictEqual(leftOutText(table('01=a')), '');
+    assert.match(leftOutText(table(`01=a\n${'@JP\n'.repeat(25)}`)), /20, 21, and 5 more of the table/);
+    assert.strictEqual(own.end, 0xFF);
+    for (const [bytes, cell] of [['01FE0101', 'a[WAIT]{01}a'], ['FE', '[WAIT]'], ['F10101FB01', '[C]{01FB}a'], ['F101FE', '[C]{FE}'], ['FBFCFF', '[END]{FC}{FF}']]) {
+        assert.strictEqual(cellOf(own, Buffer.from(bytes, 'hex')), cell);
+        assert.strictEqual(hex(usualBytes(unitsOfCell(own, cell))), bytes);
+    }
+    assert.throws(() => table('$FE=a,9'), { message: 'line 1 of the table has more than 8 parameters' });
+    assert.throws(() => table('[\n{"a": 1}\n]'), { message: /^line 3 of the table is not HEX=TEXT$|^the table has no line HEX=TEXT$/ });
+    assert.throws(() => table('@JP\n!FD=KANJI,1'), { message: 'the table has no line HEX=TEXT' });
 });
 
 test('files of a person are UTF-8, or else CP932', () => {

@@ -2,8 +2,9 @@
 
 import { wholeOf } from '../core/bytes.js';
 import { Fault } from '../core/faults.js';
-import { SEARCHED, encodingOf, tableOf } from '../core/texts/encodings.js';
+import { SEARCHED, encodingOf, tableTextOf } from '../core/texts/encodings.js';
 import { encodingsWith, searchText } from '../core/texts/search.js';
+import { leftOutText, tableEncoding } from '../core/texts/table.js';
 
 /** @typedef {import('../core/texts/encoding.js').Encoding} Encoding */
 /** @typedef {import('../core/texts/search.js').Hits} Hits */
@@ -11,12 +12,25 @@ import { encodingsWith, searchText } from '../core/texts/search.js';
 /** @typedef {import('./run.js').Run} Run */
 
 /**
+ * The encoding of a table. Says which of its lines mean nothing here.
+ * @param {Run} run
+ * @param {string} text
+ */
+export function tableSaid(run, text) {
+    const own = tableEncoding(text);
+    const note = leftOutText(own);
+    if (note !== '') run.sayOnce(note);
+    return own;
+}
+
+/**
  * The encodings that a text may be in: the one that the options name, or the table; else those that are searched.
  * @param {Run} run
  * @returns {Promise<Encoding[]>}
  */
-export async function encodingsOf({ options: { encoding, table }, files }) {
-    if (table !== undefined) return [tableOf(await wholeOf((await files.image(table)).reader))];
+export async function encodingsOf(run) {
+    const { options: { encoding, table }, files } = run;
+    if (table !== undefined) return [tableSaid(run, tableTextOf(await wholeOf((await files.image(table)).reader)))];
     return encoding === undefined ? SEARCHED : [/** @type {Encoding} */ (encodingOf(encoding))];
 }
 

@@ -5,6 +5,7 @@ import { Fault } from '../core/faults.js';
 import { stretchesOf, tableOfTexts } from '../core/texts/all_texts.js';
 import { encodingOf, tableTextOf } from '../core/texts/encodings.js';
 import { openTexts } from './looking.js';
+import { tableSaid } from './searching.js';
 
 /** @typedef {import('../core/texts/all_texts.js').Stretch} Stretch */
 /** @typedef {import('./run.js').Run} Run */
@@ -32,6 +33,7 @@ export async function textsJob(run) {
     const target = await run.target();
     const { part, files, why } = await openTexts(run, run.names[0]);
     why.forEach(text => run.say(text));
+    if (asked.table) tableSaid(run, asked.table);
     const stretches = stretchesIn(stretchesOf(part, files), paths);
     const crew = run.crew.crew(part.sectors);
     let texts = 0;

@@ -2,10 +2,8 @@
 
 import { VERB } from '../module/records.js';
 import { isTurnDue, letOthersIn } from '../turns.js';
-import { byNumber, modelInParts, userPlace } from './model.js';
+import { ScriptModel, byNumber, modelInParts, userPlace } from './model.js';
 
-/** @typedef {import('./model.js').ScriptModel} ScriptModel */
-/** @typedef {import('../turns.js').Signal} Signal */
 /** @typedef {import('./model.js').ScriptLine} ScriptLine */
 /** @typedef {import('./model.js').UserRange} UserRange */
 /** How many lines are new, how many took the place of others, and how many stand there already. */
@@ -25,15 +23,62 @@ function givesWay(line, range, isMade) {
     return from === 0 || (from > 0 && from + patch.size <= range.size) || isMade(line);
 }
 
+/** @param {string[]} texts of lines that set bytes */
+const scriptOf = texts => ['cdpatch 1', ...texts].join('\n');
+
 /**
  * Lines that set bytes, as they are read.
- * @param {ScriptModel} script
- * @param {string[]} texts
- * @param {Signal} [signal]
+ * @param {ScriptModel} model of what scriptOf gives
  */
-async function linesRead({ calls }, texts, signal) {
-    const { lines } = await modelInParts(calls, ['cdpatch 1', ...texts].join('\n'), () => letOthersIn(signal));
+function linesRead({ lines }) {
     return /** @type {{ text: string, patch: UserRange }[]} */ (lines.slice(1));
+}
+
+/**
+ * The lines of a script that give way to one that sets a range.
+ * @param {ScriptModel} script
+ * @param {UserRange} range
+ * @param {(line: ScriptLine) => boolean} isMade
+ */
+function linesFor(script, range, isMade) {
+    return script.linesWriting(range).filter(line => givesWay(line, range, isMade)).sort(byNumber);
+}
+
+/** Lines that come into a script that stays as it is, one after the other. */
+class Merging {
+    /**
+     * @param {ScriptModel} script
+     * @param {(line: ScriptLine) => boolean} isMade
+     */
+    constructor(script, isMade) {
+        this.script = script;
+        this.isMade = isMade;
+        /** @type {Map<number, string>} by the numbers of lines that give way: what stands there now, '' for nothing */
+        this.put = new Map();
+        /** @type {string[]} */
+        this.end = [];
+        this.counts = { added: 0, replaced: 0, same: 0 };
+    }
+
+    /** @param {{ text: string, patch: UserRange }} line */
+    add({ text, patch }) {
+        const { put, counts } = this;
+        const gone = linesFor(this.script, patch, this.isMade);
+        const first = gone.find(({ number }) => !put.has(number));
+        if (gone.length === 0) counts.added += 1;
+        else if (gone.length === 1 && gone[0].text === text) counts.same += 1;
+        else counts.replaced += 1;
+        for (const { number } of gone) if (!put.has(number)) put.set(number, '');
+        if (first) put.set(first.number, text);
+        else this.end.push(text);
+    }
+
+    merged() {
+        const { put, end, counts } = this;
+        const lines = this.script.lines.flatMap(({ number, text }) => put.get(number) === '' ? [] : [put.get(number) || text]);
+        const last = lines.length - Number(lines[lines.length - 1] === '');
+        return { lines: end.length === 0 ? lines : [...lines.slice(0, last), ...end, ''], counts };
+    }
 }
 
 /**
@@ -41,16 +86,10 @@ async function linesRead({ calls }, texts, signal) {
  * @param {ScriptModel} script
  * @param {string[]} come
  * @param {(line: ScriptLine) => boolean} isMade whether a line was made as these, and not typed
- * @param {Signal} [signal]
  */
-export async function linesGivingWay(script, come, isMade, signal) {
-    /** @type {Set<ScriptLine>} */
-    const gone = new Set();
-    for (const { patch } of await linesRead(script, come, signal)) {
-        if (isTurnDue()) await letOthersIn(signal);
-        script.linesWriting(patch).filter(line => givesWay(line, patch, isMade)).forEach(line => gone.add(line));
-    }
-    return [...gone].sort(byNumber);
+export function linesGivingWay(script, come, isMade) {
+    const read = linesRead(new ScriptModel(script.calls, scriptOf(come)));
+    return [...new Set(read.flatMap(({ patch }) => linesFor(script, patch, isMade)))].sort(byNumber);
 }
 
 /**
@@ -59,26 +98,43 @@ export async function linesGivingWay(script, come, isMade, signal) {
  * @param {ScriptModel} script
  * @param {string[]} come
  * @param {(line: ScriptLine) => boolean} isMade whether a line was made as these, and not typed
- * @param {Signal} [signal]
  */
-export async function mergedLines(script, come, isMade, signal) {
-    /** @type {Map<number, string>} by the numbers of lines that give way: what stands there now, '' for nothing */
-    const put = new Map();
-    /** @type {string[]} */
-    const end = [];
-    const counts = { added: 0, replaced: 0, same: 0 };
-    for (const { text, patch } of await linesRead(script, come, signal)) {
+export function mergedLines(script, come, isMade) {
+    const merging = new Merging(script, isMade);
+    for (const line of linesRead(new ScriptModel(script.calls, scriptOf(come)))) merging.add(line);
+    return merging.merged();
+}
+
+/**
+ * What mergedLines gives, of tens of thousands of lines: others get turns in between, in which the script must stay as it is. Then make the
+ * script of the lines by `modelInParts`, which gives turns too.
+ * @param {ScriptModel} script
+ * @param {string[]} come
+ * @param {(line: ScriptLine) => boolean} isMade
+ * @param {import('../turns.js').Signal} [signal]
+ */
+export async function mergedInTurns(script, come, isMade, signal) {
+    const merging = new Merging(script, isMade);
+    for (const line of linesRead(await modelInParts(script.calls, scriptOf(come), () => letOthersIn(signal)))) {
         if (isTurnDue()) await letOthersIn(signal);
-        const gone = script.linesWriting(patch).filter(line => givesWay(line, patch, isMade)).sort(byNumber);
-        const first = gone.find(({ number }) => !put.has(number));
-        if (gone.length === 0) counts.added += 1;
-        else if (gone.length === 1 && gone[0].text === text) counts.same += 1;
-        else counts.replaced += 1;
-        for (const { number } of gone) if (!put.has(number)) put.set(number, '');
-        if (first) put.set(first.number, text);
-        else end.push(text);
+        merging.add(line);
     }
-    const lines = script.lines.flatMap(({ number, text }) => put.get(number) === '' ? [] : [put.get(number) || text]);
-    const last = lines.length - Number(lines[lines.length - 1] === '');
-    return { lines: end.length === 0 ? lines : [...lines.slice(0, last), ...end, ''], counts };
+    return merging.merged();
+}
+
+/**
+ * What linesGivingWay gives, in the same way.
+ * @param {ScriptModel} script
+ * @param {string[]} come
+ * @param {(line: ScriptLine) => boolean} isMade
+ * @param {import('../turns.js').Signal} [signal]
+ */
+export async function linesGivingWayInTurns(script, come, isMade, signal) {
+    /** @type {Set<ScriptLine>} */
+    const gone = new Set();
+    for (const { patch } of linesRead(await modelInParts(script.calls, scriptOf(come), () => letOthersIn(signal)))) {
+        if (isTurnDue()) await letOthersIn(signal);
+        for (const line of linesFor(script, patch, isMade)) gone.add(line);
+    }
+    return [...gone].sort(byNumber);
 }

@@ -31,8 +31,8 @@ export function bytesInside(encoding, bytes, at) {
  */
 export function* charactersFrom(encoding, bytes, from = 0) {
     for (let at = from; at < bytes.length;) {
-        const { size, text } = encoding.characterAt(bytes, at);
-        yield { at, size, text };
-        at += size;
+        const found = encoding.characterAt(bytes, at);
+        yield { at, ...found };
+        at += found.size;
     }
 }

@@ -1,6 +1,7 @@
 // Tables of characters and their bytes, and what they are filled with.
 
 import { FAULT, Fault } from '../faults.js';
+import { hexText } from './digits.js';
 
 const NO_CHARACTER = '\uFFFD';
 
@@ -37,12 +38,13 @@ export function lacks(name, text, at) {
 }
 
 /**
- * What is known of some bytes: the text that they mean, '' if they mean none, and what is known of them and one more.
- * @typedef {{ text: string, next: Map<number, Branch> | null }} Branch
+ * What is known of some bytes: the text that they mean, '' if they mean none; how many bytes after them are its parameters; and what is
+ * known of them and one more.
+ * @typedef {{ text: string, parameters: number, next: Map<number, Branch> | null }} Branch
  */
 
 /** @returns {Branch} */
-const newBranch = () => ({ text: '', next: null });
+const newBranch = () => ({ text: '', parameters: 0, next: null });
 
 /** Characters and their bytes, as a character set or a game's table has them. The longest match is taken, both ways. */
 export class CharacterTable {
@@ -64,12 +66,14 @@ export class CharacterTable {
      * Adds bytes and what they mean. What was added first is the usual spelling. Returns whether the bytes were new.
      * @param {Uint8Array} bytes
      * @param {string} text
+     * @param {number} [parameters] how many bytes after them belong to them
      */
-    add(bytes, text) {
+    add(bytes, text, parameters = 0) {
         const branch = this.branchOf(bytes);
         if (branch.text !== '') return false;
-        branch.text = text;
+        Object.assign(branch, { text, parameters });
         bytes.subarray(0, -1).forEach(byte => { this.inner[byte] = 1; });
+        if (parameters > 0) this.inner[bytes[bytes.length - 1]] = 1;
         const spellings = this.spellings.get(text);
         if (spellings) spellings.push(bytes);
         else this.spellings.set(text, [bytes]);
@@ -126,23 +130,28 @@ export class CharacterTable {
     }
 
     /**
-     * The character at a place, of the longest bytes that are one; of one byte if none begins there.
+     * The character at a place, of the longest bytes that are one; of one byte if none begins there. Its parameters are codes after its
+     * text, which is the cell of the bytes then.
      * @param {Uint8Array} bytes
      * @param {number} at
+     * @returns {{ size: number, text: string, isCell?: boolean }}
      */
     characterAt(bytes, at) {
         const code = bytes[at] << 8 | bytes[at + 1];
         const known = at + 1 < bytes.length ? this.known[code] : undefined;
         if (known !== undefined) return known;
-        let [size, text] = [1, NO_CHARACTER];
+        let [size, text, parameters] = [1, NO_CHARACTER, 0];
         let branch = this.root;
         let end = at;
         for (; end < bytes.length && branch.next !== null; end++) {
             const next = branch.next.get(bytes[end]);
             if (next === undefined) break;
             branch = next;
-            if (branch.text !== '') [size, text] = [end + 1 - at, branch.text];
+            if (branch.text !== '') [size, text, parameters] = [end + 1 - at, branch.text, branch.parameters];
         }
+        const given = bytes.subarray(at + size, at + size + parameters);
+        if (given.length > 0) return { size: size + given.length, text: `${text}{${hexText(given)}}`, isCell: true };
+        if (parameters > 0) return { size, text };
         const found = { size, text };
         if (at + 1 < bytes.length && (end < at + 2 || (end === at + 2 && branch.next === null))) this.known[code] = found;
         return found;

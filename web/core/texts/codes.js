@@ -159,8 +159,8 @@ export function cellOf(encoding, bytes, known) {
     const whole = known || encoding.text(bytes);
     if (PLAIN.test(whole) || (!CODED.test(whole) && !CODED_FIRST.test(whole))) return whole;
     const parts = [];
-    for (const { at, size, text } of charactersFrom(encoding, bytes)) {
-        const plain = !CODED.test(text) && !(at === 0 && CODED_FIRST.test(text));
+    for (const { at, size, text, isCell } of charactersFrom(encoding, bytes)) {
+        const plain = (isCell || !CODED.test(text)) && !(at === 0 && CODED_FIRST.test(text));
         parts.push(plain ? text : `{${hexText(bytes.subarray(at, at + size))}}`);
     }
     return parts.join('');

@@ -14,9 +14,12 @@ import { CharacterTable } from './characters.js';
  * @typedef {{ name: string, label: string, aliases: string[], searched: boolean, hasCharacters: boolean, space: string, wideSpace: string,
  *     units: (text: string) => Uint8Array[][], text: (bytes: Uint8Array) => string,
  *     characterAt: (bytes: Uint8Array, at: number) => Character, goesOn: (byte: number) => boolean, end?: number,
- *     usual?: Usual }} Encoding
+ *     usual?: Usual, leftOut?: number[] }} Encoding
  */
-/** @typedef {{ size: number, text: string }} Character how many bytes it has, and what they mean */
+/**
+ * How many bytes a character has, and what they mean; `isCell` if parameters stand as codes in that already.
+ * @typedef {{ size: number, text: string, isCell?: boolean }} Character
+ */
 /** @typedef {{ first: number, last: number, score: number }} Usual pairs of bytes that stand often in texts, and what each scores */
 /** @typedef {Uint8Array | 'end' | null} Filler what fills up a shorter text: bytes, the byte that ends texts, or the encoding's space */
 /** @typedef {{ name: string, label?: string, aliases?: string[], searched?: boolean, usual?: Usual }} Names what an encoding is called */
@@ -40,6 +43,8 @@ export class TableEncoding {
         this.wideSpace = SPACES.wideSpace;
         this.fill = fill;
         this.end = 0;
+        /** @type {number[]} the lines of a game's own table that mean nothing here */
+        this.leftOut = [];
         this.made = /** @type {CharacterTable | null} */ (null);
     }
 

@@ -1,27 +1,11 @@
-// Bytes as hexadecimal digits.
+// The encoding of bytes as hexadecimal digits.
 
 import { lacks, textFault } from './characters.js';
+import { PAIRS_OF_DIGITS, bytesOfHex, hexText } from './digits.js';
+
+export { bytesOfHex, hexText };
 
 /** @typedef {import('./encoding.js').Encoding} Encoding */
-
-const PAIRS_OF_DIGITS = Array.from({ length: 256 }, (_, byte) => byte.toString(16).toUpperCase().padStart(2, '0'));
-
-/**
- * Bytes as hexadecimal digits.
- * @param {Uint8Array} bytes
- * @param {string} [between] what stands between the digits of two bytes
- */
-export function hexText(bytes, between = '') {
-    return Array.from(bytes, byte => PAIRS_OF_DIGITS[byte]).join(between);
-}
-
-/**
- * The bytes of hexadecimal digits, of which there are two for each.
- * @param {string} digits
- */
-export function bytesOfHex(digits) {
-    return Uint8Array.from(digits.match(/../g) || [], pair => parseInt(pair, 16));
-}
 
 /**
  * @param {string} text

@@ -1,10 +1,10 @@
 // The encodings that can be chosen.
 
 import { ENCODINGS, USUAL_ENCODING, encodingOf, tableTextOf } from '../../core/texts/encodings.js';
-import { tableEncoding } from '../../core/texts/table.js';
+import { leftOutText, tableEncoding } from '../../core/texts/table.js';
 import * as texts from '../texts/index.js';
 import { say } from '../texts/index.js';
-import { element, fill, messageOf, nameOf, notice, showNotice, shownName } from '../ui/index.js';
+import { capital, element, fill, messageOf, nameOf, notice, showNotice, shownName } from '../ui/index.js';
 
 /** @typedef {import('../app/state.js').App} App */
 /** @typedef {import('../../core/texts/encoding.js').Encoding} Encoding */
@@ -87,7 +87,8 @@ export async function takeTable(app, file) {
         const table = tableEncoding(text);
         sources.set(table, text);
         app.addTable(file.name, table);
-        return ['good', say(texts.fileLoaded, { name: nameOf(file.name) }), texts.isEncodingNow];
+        const leftOut = leftOutText(table);
+        return ['good', say(texts.fileLoaded, { name: nameOf(file.name) }), [texts.isEncodingNow, leftOut === '' ? '' : `${capital(leftOut)}.`].join(' ').trim()];
     } catch (error) {
         return ['bad', say(texts.noReadableTable, { name: nameOf(file.name) }), messageOf(error)];
     }

@@ -1,6 +1,6 @@
 // The lines of the script that write where a table has no new text: those of an earlier table, of which it was taken out since.
 
-import { linesGivingWay } from '../../core/script/merge_lines.js';
+import { linesGivingWayInTurns } from '../../core/script/merge_lines.js';
 import { linesMade } from '../../core/script/script_writer.js';
 import { replaceList } from '../../core/texts/list.js';
 
@@ -41,6 +41,6 @@ export async function linesOfOld({ calls }, part, rows, encodingsFor, signal) {
  */
 export async function withdrawnLines({ script }, old, come, signal) {
     const fresh = new Set(come);
-    const gone = await linesGivingWay(script, old, ({ text }) => script.made.has(text), signal);
+    const gone = await linesGivingWayInTurns(script, old, ({ text }) => script.made.has(text), signal);
     return gone.filter(({ text }) => !fresh.has(text));
 }
