@@ -202,6 +202,14 @@ test('lines that come a second time take the place of those that set the same by
     assert.equal(lines.text(), before);
 });
 
+test('what is typed while lines come in stays', async () => {
+    const lines = linesOf('cdpatch 1\nset 5 0 41 was 20\n');
+    const coming = mergeOf(lines, ['set 5 0 42 was 20']);
+    lines.add(['rebuild 7'], 'bytes');
+    assert.deepEqual((await coming)(), { added: 0, replaced: 1, same: 0 });
+    assert.equal(lines.text(), 'cdpatch 1\nset 5 0 42 was 20\nrebuild 7\n');
+});
+
 test('a file that is replaced once more leaves no line of its earlier replacement', () => {
     const [lines, files, disc] = [linesOf('cdpatch 1\n# mine\n'), new ReplacedFiles(), {}];
     assert.equal(files.replace(lines, disc, '/A', ['set 5 0 4141 was 2020', 'set 6 0 41 was 20']), 0);

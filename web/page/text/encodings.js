@@ -88,7 +88,8 @@ export async function takeTable(app, file) {
         sources.set(table, text);
         app.addTable(file.name, table);
         const leftOut = leftOutText(table);
-        return ['good', say(texts.fileLoaded, { name: nameOf(file.name) }), [texts.isEncodingNow, leftOut === '' ? '' : `${capital(leftOut)}.`].join(' ').trim()];
+        const rest = leftOut === '' ? texts.isEncodingNow : `${texts.isEncodingNow} ${capital(leftOut)}.`;
+        return ['good', say(texts.fileLoaded, { name: nameOf(file.name) }), rest];
     } catch (error) {
         return ['bad', say(texts.noReadableTable, { name: nameOf(file.name) }), messageOf(error)];
     }
