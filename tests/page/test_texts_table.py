@@ -209,7 +209,7 @@ class TextsTable(PageTest):
         files = discs.written(game=game, hurt=hurt, other=common.image_of([b'other'] * 20))
         self.open_list(dat_of(('Starlit Detective (Japan).bin', game, ''), ('Hurt.bin', hurt, 'status="baddump"')))
         self.browser.wait('#start-message .say.good', 'It lists 2 known dumps.')
-        for name, said in (('game', 'verified: Starlit Detective (Japan).bin'), ('hurt', 'known as a bad dump: Hurt.bin'), ('other', 'in none of the lists')):
+        for name, said in (('game', 'known dump: Starlit Detective (Japan).bin'), ('hurt', 'known as a bad dump: Hurt.bin'), ('other', 'in none of the lists')):
             self.open_image(files[name])
             self.browser.wait('#disc-line .tag', said)
             for panel in ('text', 'disc'):
@@ -224,7 +224,7 @@ class TextsTable(PageTest):
         self.open_image(discs.written(game=discs.game())['game'])
         self.assertFalse(self.browser.run("return document.querySelector('#disc-line .tag') !== null"))
         self.open_list(dat_of(('Starlit.bin', discs.game(), '')), 'games.xml')
-        self.browser.wait('#disc-line .tag.good', 'verified: Starlit.bin')
+        self.browser.wait('#disc-line .tag.good', 'known dump: Starlit.bin')
 
     def test_a_list_that_is_cut_is_not_taken(self) -> None:
         self.open_image(discs.written(game=discs.game())['game'])

@@ -31,6 +31,7 @@ export const endIt = 'End it';
 // what was not done, and why
 export const notOpened = 'Not opened: {names}.';
 export const imageBeingSaved = 'An image is being saved.';
+export const anotherJobRuns = 'Another job runs here. Do it again when that has ended, or press Cancel first.';
 export const againWhenEnded = 'Do it again when that has ended, or press Cancel there first.';
 export const alsoNeeds = '{sheet} also needs {names}.';
 export const openAllTogether = 'Open them all together.';
@@ -414,7 +415,7 @@ export const imageIsLookedUp = 'The open image is looked up in it.';
 export const notAListOfDumps = 'Not a list of known dumps that can be read: {name}';
 export const inNoListOfDumps = 'in none of the lists of known dumps';
 export const knownBadDump = 'known as a bad dump: {name}';
-export const verifiedDump = 'verified: {name}';
+export const verifiedDump = 'known dump: {name}';
 
 // ---- end of disc
 
@@ -875,7 +876,7 @@ export const nothingToDo = 'no repair needed';
 export const canBeRepaired = 'can be repaired';
 export const cannotBeRepaired = 'cannot be repaired';
 export const sameInBoth = 'same in both';
-export const differInSecond = 'differ';
+export const differInSecond = 'differ, sound in the second';
 export const damagedInSecond = 'damaged in the second';
 export const differNotMode1 = 'differ, and not of Mode 1';
 
