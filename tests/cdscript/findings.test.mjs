@@ -40,9 +40,10 @@ test('a track of audio between tracks of data is no hole', () => inDirectory(asy
         ' TRACK 03 MODE1/2352\n INDEX 01 00:08:00\n';
     write(room, { image, 'image.cue': sheet });
     const alone = await run(['info', 'image'], { cwd: room });
-    assert.deepEqual([alone.status, alone.errors], [0, 'cdscript: blocks 200 to 599 are not mode1, as in a track of audio: the cue sheet would say it\n']);
+    const untested = 'not tested 400: blocks 200 to 599 are not mode1';
+    assert.deepEqual([alone.status, alone.out.split('\n').at(-2)], [0, `${untested}; a cue sheet would say whether they are audio`]);
     const info = await run(['info', 'image.cue'], { cwd: room });
-    assert.deepEqual([info.status, info.errors], [0, '']);
+    assert.deepEqual([info.status, info.out.split('\n').at(-2), info.errors], [0, untested, '']);
     assert.equal((await run(['merge', 'image.cue', 'image', 'out'], { cwd: room })).status, 0);
 }));
 

@@ -49,7 +49,7 @@ function writeCollection(room) {
         write(join(room, directory), { [name]: dumped });
         if (i % 2 === 0) write(join(room, directory), { [name.replace('.bin', '.cue')]: sheet(name) });
         const [damage, elsewhere] = i % 4 === 1 ? [2, 0] : i % 4 === 2 ? [1, 1] : [0, 0];
-        rows.push([`${directory}/${name}`, `mode1 ${20 + i}`, damage, damage + elsewhere, elsewhere, shaOf(dumped), places.length > 0 ? 'not in the DAT' : `verified ${name}`].join('\t'));
+        rows.push([`${directory}/${name}`, `mode1 ${20 + i}`, damage, damage, elsewhere, shaOf(dumped), places.length > 0 ? 'not in the DAT' : `verified ${name}`].join('\t'));
     }
     write(room, { 'all.dat': datOf(whole), 'two/notes.txt': 'no image' });
     return [...rows, otherRow('two/notes.txt', 'not recognised', 'no image', 'not in the DAT')];

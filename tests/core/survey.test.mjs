@@ -36,7 +36,7 @@ test('counts and runs', () => {
     const image = Buffer.concat([5, 6, 9, 8].map(block => calls.encode(calls.address(block), user)).concat(new Uint8Array(2352)));
     image[100] ^= 1;
     const survey = surveyed(image, 5, 2);
-    assert.deepEqual(surveyCounts(survey), { sectors: 5, mode1: 4, damaged: 1, elsewhere: 1 });
+    assert.deepEqual(surveyCounts(survey), { sectors: 5, mode1: 4, damaged: 1, elsewhere: 1, wrong: 2 });
     assert.deepEqual([...kindRuns(survey)], [{ first: 5, last: 8, kind: 2 }, { first: 9, last: 9, kind: 0 }]);
     const places = [0, 6, 12, 18, 24];
     assert.deepEqual(places.map(at => isDamaged(survey.records, at)), [true, false, false, false, false]);

@@ -1,6 +1,7 @@
 """What the page says is so: counts, names and places; and it shows what it was asked for."""
 
 import random
+import subprocess
 from pathlib import Path
 
 import common
@@ -66,6 +67,26 @@ class Sayings(PageTest):
         self.assertEqual(self.tally(), ['0', '3', '0'])
         self.browser.wait('[aria-label="Cannot be repaired: 3"]', '90')
         self.assertEqual(self.browser.text('#count-disc').split()[0], '3')
+
+    def test_sectors_of_files_are_lost_at_an_edge_too_as_scan_counts_them(self) -> None:
+        image = discs.game()
+        first = discs.first_block() + 1
+        file = discs.written(cut=image[:first * 2352] + bytes(len(image) - first * 2352))['cut']
+        ran = subprocess.run([common.cdscript(), 'scan', file], check=False, stdout=subprocess.PIPE, stderr=subprocess.DEVNULL)
+        findings = int(ran.stdout.split(b'\t')[3])
+        self.assertGreater(findings, 1)
+        self.open_image(file)
+        self.assertEqual(self.browser.text('#count-disc').split()[0], str(findings))
+        self.browser.wait('#findings tbody', f'{findings} × sync or mode lost')
+
+    def test_sectors_that_are_not_tested_and_differ_are_counted(self) -> None:
+        audio = bytes(range(1, 50)) * 48 * 400
+        files = discs.written(first=discs.game() + audio, second=discs.game() + audio[:2352 * 9] + bytes(7) + audio[2352 * 9 + 7:])
+        self.open_image(files['first'])
+        self.open_files(files['second'])
+        self.browser.answer('Repair first.bin from it')
+        self.assertEqual(self.tally(), ['0', '0', '0'])
+        self.browser.wait('#second-body .say.warn', '1 sector is not Mode 1, and differs.')
 
     def test_the_open_image_is_known_as_its_own_second_one(self) -> None:
         file = discs.written(game=common.damaged(discs.game(), 40))['game']

@@ -165,8 +165,8 @@ export const FORMS = {
     'merge': {
         job: mergeJob, takes: ['OLD', 'OTHER..', 'OUT'], options: ['dat', 'track', 'base'],
         says: 'Repair an image by other dumps of the same disc',
-        does: 'OUT is OLD with sound sectors of the OTHERs for those that are damaged in OLD. Status: 0 all is sound, 1 some sectors ' +
-            'are damaged in all, or taken with another EDC than OLD has, 2 failed',
+        does: 'OUT is OLD with sound sectors of the OTHERs for those that are damaged in OLD. Status: 0 all that was tested is sound, ' +
+            '1 some sectors are damaged or lost in all, differ and were not tested, or are taken with another EDC than OLD has, 2 failed',
         example: 'cdscript merge first.bin second.bin third.bin repaired.bin',
     },
     'rebuilds': {

@@ -9,12 +9,12 @@ import { blocksBeyond, shiftOf, shiftText } from '../core/images/common_part.js'
 import { mergeImages } from '../core/images/merge.js';
 import { LAST_BASE } from '../core/module/numbers.js';
 import { kindName } from '../core/module/records.js';
-import { holesOf, mode1Tracks } from '../core/sectors/holes.js';
-import { blocksIn, blocksText } from '../core/sectors/runs.js';
+import { lostSectors, mode1Tracks } from '../core/sectors/lost.js';
+import { blocksIn, blocksText, commonRuns, joinedRuns } from '../core/sectors/runs.js';
 import { USER_SIZE } from '../core/sectors/sector.js';
 import { fileAtPath } from './looking.js';
 import { openTrack } from './opening.js';
-import { linesOfRuns, sayLong, sayOfRuns, visible } from './printed.js';
+import { MOST_UNTESTED, linesOfRuns, sayOfRuns, untestedText, visible } from './printed.js';
 
 /** @typedef {import('../core/images/merge.js').Repair} Repair */
 /** @typedef {import('../core/disc/disc.js').DiscImage} DiscImage */
@@ -33,9 +33,10 @@ const MOST_ALIKE = 10;
  * What was taken, and what could not be repaired, in lines.
  * @param {Repair} repair
  * @param {DiscImage[]} others
- * @param {BlockRun[]} holes
+ * @param {BlockRun[]} lost
+ * @param {BlockRun[]} unlike sectors that were not tested and are not the same in all dumps
  */
-function repairLines({ taken, damaged, alike, disputed, differing, different }, others, holes) {
+function repairLines({ taken, damaged, alike, disputed, differing, different }, others, lost, unlike) {
     const numbers = [taken, damaged, disputed].map(blocksIn).concat(different.reduce((sum, count) => sum + count, 0));
     const inBoth = differing.flatMap((runs, other) => runs.map(run => ({ ...run, other })));
     const sameDamage = `alike ${blocksIn(alike)}, damaged with the same bytes in all dumps:`;
@@ -43,12 +44,23 @@ function repairLines({ taken, damaged, alike, disputed, differing, different }, 
     return [
         ...linesOfRuns(taken, ({ first, last, other }) => `${first}-${last} from ${others[other].name}`),
         ...linesOfRuns(damaged, ({ first, last, elsewhere }) => `${first}-${last} ${notTaken[`${elsewhere}`]}`),
-        ...linesOfRuns(holes, ({ first, last }) => `${first}-${last} not mode1 in any`),
+        ...linesOfRuns(lost, ({ first, last }) => `${first}-${last} not mode1 in any`),
+        ...unlikeLines(unlike),
         ...linesOfRuns(disputed, ({ first, last }) => `${first}-${last} sound in several, but different there`),
         ...linesOfRuns(inBoth, ({ first, last, other }) => `${first}-${last} sound in ${others[other].name} too, but different there`),
         ...alike.length > 0 ? [`${sameDamage} ${blocksText(alike, MOST_ALIKE)}`] : [],
         `taken ${numbers[0]} damaged ${numbers[1]} disputed ${numbers[2]} different ${numbers[3]}`,
     ];
+}
+
+/**
+ * @param {BlockRun[]} unlike sectors that were not tested and are not the same in all dumps
+ */
+function unlikeLines(unlike) {
+    if (unlike.length === 0) return [];
+    const lines = unlike.slice(0, MOST_UNTESTED).map(({ first, last }) => `${first}-${last} not tested, and not the same in all dumps`);
+    const left = unlike.length - lines.length;
+    return [...lines, ...left > 0 ? [`and ${left} others`] : [], `untested ${blocksIn(unlike)}, not mode1 and not the same in all dumps`];
 }
 
 /**
@@ -75,10 +87,10 @@ export async function mergeJob(run) {
     const known = await run.knownDumps();
     const out = await run.files.make(more.pop() || '');
     const hash = known && createHash('sha1');
-    const { image, disc, track } = await openTrack(run, name, true);
-    /** @type {DiscImage[]} */
-    const others = [];
-    for (const other of more) others.push((await openTrack(run, other, true)).image);
+    const { image, part, disc, track } = await openTrack(run, name, true);
+    const opened = [];
+    for (const other of more) opened.push(await openTrack(run, other, true));
+    const others = opened.map(it => it.image);
     const seen = (/** @type {Uint8Array} */ bytes) => void (hash && hash.update(bytes));
     const repair = await mergeImages(run.crew, image, others, {}, piece => out.writePiece(image.reader, piece, seen));
     if (repair.refused) {
@@ -87,18 +99,20 @@ export async function mergeJob(run) {
         const shift = await shiftOf(run.calls, image, others[i], repair.differing[i]);
         throw new Fault(`${sound}, and differ: ${shift ? shiftText(shift) : 'one of them is patched, shifted or of another disc'}`);
     }
-    repair.parts.forEach((part, i) => sayOtherRange(run, image, others[i], part, out.name));
+    repair.parts.forEach((common, i) => sayOtherRange(run, image, others[i], common, out.name));
     others.filter((_, i) => repair.tails[i]).forEach(other => run.say(`${TAILS} in ${other.name}; those of ${name} are kept`));
-    const blocks = { first: image.base, last: image.base + image.sectors - 1 };
-    const { holes, long } = holesOf(repair.others, blocks, mode1Tracks(disc, track.file, image.base));
-    await run.output.write(bytesOfLines(repairLines(repair, others, holes).map(visible)));
-    sayLong(run, long);
+    const later = others.map((it, i) => repair.parts[i].later + image.base - it.base);
+    const dumps = [{ image, part, later: 0 }, ...opened.map((it, i) => ({ ...it, later: later[i] }))];
+    const { lost, untested } = await lostSectors(image, repair, mode1Tracks(disc, track.file, image.base), dumps);
+    const unlike = commonRuns(repair.unlike, joinedRuns(untested));
+    await run.output.write(bytesOfLines(repairLines(repair, others, lost, unlike).map(visible)));
+    if (untested.length > 0) run.say(untestedText(untested, disc.sheet !== null));
     if (known && hash) {
         const [size, sha1] = [image.reader.size, hash.digest('hex')];
         run.say(`${out.name}: ${known.said(size, sha1) || `${known.saidOfOther(size)}; its SHA-1 is ${sha1}`}`);
     }
     sayOfRuns(run, repair.doubtful, it => `${blocksText([it])}: taken from ${others[it.other].name}, but ${OTHER_EDC}`);
-    return Number(repair.damaged.length > 0 || repair.doubtful.length > 0 || holes.length > 0);
+    return Number([repair.damaged, repair.doubtful, lost, unlike].some(runs => runs.length > 0));
 }
 
 /** @param {Run} run */

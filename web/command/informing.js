@@ -3,14 +3,16 @@
 import { bytesOfLines } from '../core/bytes.js';
 import { natureOf } from '../core/disc/file_type.js';
 import { SECTOR_KIND } from '../core/module/records.js';
+import { fileIn } from '../core/sectors/lost.js';
 import { blocksIn } from '../core/sectors/runs.js';
 import { kindRuns, listText } from '../core/sectors/survey.js';
 import { openDiscOf } from './opening.js';
-import { linesOfRuns, sayLong, visible } from './printed.js';
-import { foundInFiles, unsurveyedTracks } from './surveying.js';
+import { linesOfRuns, untestedText, visible } from './printed.js';
+import { findingsIn, foundInFiles, unsurveyedTracks } from './surveying.js';
 
 /** @typedef {import('../core/disc/disc.js').Disc} Disc */
 /** @typedef {import('../core/disc/disc.js').DiscTrack} DiscTrack */
+/** @typedef {import('../core/sectors/lost.js').Lost} Lost */
 /** @typedef {import('./run.js').Run} Run */
 /** @typedef {{ found: boolean, lines: string[] }} Informed whether something is wrong, and what is printed */
 /** @typedef {import('./surveying.js').FileFound} FileFound */
@@ -42,17 +44,34 @@ function lackText({ missing: { first, last }, blocks, file, isSure }) {
 }
 
 /**
+ * What is said of lost sectors.
+ * @param {Lost['lost'][0]} run
+ * @param {Lost['used']} used
+ */
+function lostText({ first, last, why }, used) {
+    const what = `${first}-${last} not mode1`;
+    if (why === 'track') return `${what} in a track of mode1`;
+    if (why === 'filled') return `${what}, and filled with one byte, as no audio is`;
+    const file = fileIn(used, { first, last });
+    return `${what}, though ${file === '' ? 'the volume itself' : file} lies there`;
+}
+
+/**
  * The lines of what is found in an image.
  * @param {Run} run
+ * @param {Disc} disc
  * @param {FileFound['surveys'][0]} found
  * @returns {string[]}
  */
-function surveyLines(run, { image, survey, mode1, damaged, elsewhere, holes, lack }) {
+function surveyLines(run, disc, found) {
+    const { image, survey, mode1, damaged, elsewhere, lost, untested, used, lack } = found;
     const list = new TextDecoder().decode(listText(run.calls, survey, image.tail).text).trimEnd();
     const lines = [`base ${image.base}`, ...list.split('\n'), `mode1 ${mode1} damaged ${damaged} address ${elsewhere}`];
     const mode2 = blocksIn([...kindRuns(survey)].filter(({ kind }) => kind === SECTOR_KIND.MODE2));
     if (mode2 > 0) lines.push(`mode2 ${mode2}: such sectors can not be audited or patched here; discs of the PlayStation have them`);
-    lines.push(...linesOfRuns(holes, ({ first, last }) => `${first}-${last} not mode1 in a track of mode1`));
+    const others = untested.filter(({ kind }) => kind !== SECTOR_KIND.MODE2);
+    if (others.length > 0) lines.push(untestedText(others, disc.sheet !== null));
+    lines.push(...linesOfRuns(lost, it => lostText(it, used)));
     return lack === null ? lines : [...lines, lackText(lack)];
 }
 
@@ -78,15 +97,15 @@ async function discLines(run) {
     const disc = await openDiscOf(run, run.names[0]);
     const tracks = disc.tracks.map(track => trackText(disc, track));
     const found = await foundInFiles(run, disc);
-    const files = found.flatMap(({ file: { name, reader: { size } }, sha1 }) =>
-        [`file ${name} bytes ${size} sha1 ${sha1}`, ...known ? [known.said(size, sha1) || known.saidOfOther(size)] : []]);
+    const files = found.flatMap(({ file: { name, reader: { size } }, sha1, tail }) => [
+        `file ${name} bytes ${size} sha1 ${sha1}`, ...tail > 0 ? [`tail ${tail}: ${name} is cut within a sector`] : [],
+        ...known ? [known.said(size, sha1) || known.saidOfOther(size)] : []]);
     const surveys = found.flatMap(it => it.surveys);
     const lines = surveys.flatMap(it => {
-        const [first, ...more] = surveyLines(run, it);
+        const [first, ...more] = surveyLines(run, disc, it);
         return [surveys.length > 1 ? `track ${it.number} ${first}` : first, ...more];
     });
-    surveys.forEach(({ long }) => sayLong(run, long));
-    const isWrong = surveys.some(it => it.damaged + it.elsewhere + it.holes.length > 0 || (it.lack !== null && it.lack.isSure));
+    const isWrong = found.some(it => findingsIn(it) > 0);
     const isMissing = disc.tracks.some(({ file }) => file < 0);
     return { found: isWrong || isMissing || surveys.length === 0, lines: [...files, ...tracks, ...lines, ...unsurveyedLines(disc)] };
 }

@@ -1,5 +1,7 @@
 // Words that several jobs print.
 
+import { blocksIn, blocksText, joinedRuns } from '../core/sectors/runs.js';
+
 /** @typedef {import('../core/sectors/runs.js').Run} BlockRun */
 /** @typedef {import('./run.js').Run} Run */
 
@@ -30,12 +32,16 @@ export function sayOfRuns(run, runs, textOf) {
     linesOfRuns(runs, textOf).forEach(line => run.say(line));
 }
 
+/** Of sectors that were not tested so many runs are named. */
+export const MOST_UNTESTED = 20;
+
 /**
- * Says which blocks between Mode 1 sectors are so many that they may be a track of audio.
- * @param {Run} run
- * @param {BlockRun[]} runs
+ * Which sectors were not tested, in words.
+ * @param {BlockRun[]} runs of sectors that are not Mode 1, one at least
+ * @param {boolean} hasSheet whether a cue sheet says what they are
  */
-export function sayLong(run, runs) {
-    const why = 'as in a track of audio: the cue sheet would say it';
-    sayOfRuns(run, runs, ({ first, last }) => `blocks ${first} to ${last} are not mode1, ${why}`);
+export function untestedText(runs, hasSheet) {
+    const [blocks, count] = [blocksText(joinedRuns(runs), MOST_UNTESTED), blocksIn(runs)];
+    const what = `not tested ${count}: ${blocks} ${count === 1 ? 'is' : 'are'} not mode1`;
+    return hasSheet ? what : `${what}; a cue sheet would say whether they are audio`;
 }

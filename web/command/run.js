@@ -5,6 +5,7 @@ import { joinedBytes, watchedReader } from '../core/bytes.js';
 import { KnownDumps } from '../core/disc/dat.js';
 import { FAULT, Fault, failedBy } from '../core/faults.js';
 import { Calls } from '../core/module/calls.js';
+import { addToRuns } from '../core/sectors/runs.js';
 import { SECTOR_SIZE, sectorCount } from '../core/sectors/sector.js';
 import { visible } from './printed.js';
 import { Output } from './stdout.js';
@@ -108,11 +109,17 @@ export class Run {
      * @param {Reader} reader
      * @param {number} base
      * @param {'survey' | 'kinds'} [job] which of it
+     * @param {number} [shift] how many blocks later those are whose addresses the sectors have
      */
-    async survey(reader, base, job = 'survey') {
+    async survey(reader, base, job = 'survey', shift = 0) {
         /** @type {Uint8Array[]} */
         const parts = [];
-        await this.crew.share(job, [reader], {}, { base }, ({ records }) => void parts.push(records));
-        return { block: base, records: joinedBytes(parts) };
+        /** @type {import('../core/sectors/survey.js').FilledRun[]} */
+        const filled = [];
+        await this.crew.share(job, [reader], { shift }, { base }, answer => {
+            parts.push(answer.records);
+            for (const run of answer.filled || []) addToRuns(filled, run);
+        });
+        return { block: base, records: joinedBytes(parts), filled };
     }
 }

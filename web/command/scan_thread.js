@@ -5,13 +5,13 @@ import { natureOf } from '../core/disc/file_type.js';
 import { Fault } from '../core/faults.js';
 import { kindName } from '../core/module/records.js';
 import { blocksIn } from '../core/sectors/runs.js';
-import { SECTOR_SIZE } from '../core/sectors/sector.js';
 import { kindRuns } from '../core/sectors/survey.js';
 import { Files } from './files.js';
 import { openDiscOf } from './opening.js';
+import { untestedText } from './printed.js';
 import { Run, takeModule } from './run.js';
 import { NONE } from './scan_list.js';
-import { foundInFiles, sha1Of, unsurveyedTracks } from './surveying.js';
+import { findingsIn, foundInFiles, sha1Of, unsurveyedTracks } from './surveying.js';
 
 /** @typedef {import('../core/disc/disc.js').Disc} Disc */
 /** @typedef {import('../core/disc/disc.js').DiscFile} DiscFile */
@@ -22,13 +22,19 @@ import { foundInFiles, sha1Of, unsurveyedTracks } from './surveying.js';
  *     elsewhere: number }} Scanned
  */
 /**
- * What is found in the files of an image or a sheet; names that are not there; why nothing is found, '' if something is; and what the
- * file is if it is none that a disc is of, else ''.
- * @typedef {{ files: Scanned[], missing: string[], fault: string, other: string }} Answer
+ * What is found in the files of an image or a sheet; what is to be said of them; names that are not there; why nothing is found, '' if
+ * something is; and what the file is if it is none that a disc is of, else ''.
+ * @typedef {{ files: Scanned[], notes: string[], missing: string[], fault: string, other: string }} Answer
  */
 
-/** Who says and shows nothing. */
-const SILENT = /** @type {import('./stdout.js').Messages} */ (/** @type {unknown} */ ({ say() {}, progress() {}, hideProgress() {} }));
+/**
+ * Keeps what is said, and shows nothing.
+ * @param {string[]} notes
+ */
+function keptMessages(notes) {
+    const messages = { say: (/** @type {string} */ note) => void notes.push(note), progress() {}, hideProgress() {} };
+    return /** @type {import('./stdout.js').Messages} */ (/** @type {unknown} */ (messages));
+}
 
 /**
  * How many sectors of which kind there are, as 'mode1 20,nosync 3', how many bytes after the last whole one, as ',tail 100', and how many
@@ -50,28 +56,17 @@ function kindsText(surveys, unsurveyed, tail) {
 }
 
 /**
- * Whether all sectors of a file have 2352 bytes. Only then bytes after the last whole one are a tail.
- * @param {Disc} disc
- * @param {number} file
- */
-function isOfSectors({ tracks }, file) {
-    return tracks.every(it => it.file !== file || (it.sectors !== null && /^(AUDIO)?$|\/2352$/.test(it.type)));
-}
-
-/**
  * @param {Disc} disc
  * @param {FileFound} found
  * @param {number} file
  * @returns {Scanned}
  */
-function scanned(disc, { file: { name, reader }, sha1, surveys }, file) {
+function scanned(disc, found, file) {
+    const { file: { name, reader }, sha1, surveys, tail } = found;
     const sum = (/** @type {(it: FileFound['surveys'][0]) => number} */ of) => surveys.reduce((all, it) => all + of(it), 0);
     const [mode1, damaged, elsewhere] = [sum(it => it.mode1), sum(it => it.damaged), sum(it => it.elsewhere)];
-    const tail = isOfSectors(disc, file) ? reader.size % SECTOR_SIZE : 0;
-    const cut = Number(tail > 0) + sum(it => Number(it.lack !== null && it.lack.isSure));
-    const findings = damaged + elsewhere + sum(it => blocksIn(it.holes)) + cut;
     const kinds = kindsText(surveys, unsurveyedKinds(disc, file), tail);
-    return { name, size: reader.size, sha1, kinds, mode1, damaged, findings, elsewhere };
+    return { name, size: reader.size, sha1, kinds, mode1, damaged, findings: findingsIn(found), elsewhere };
 }
 
 /**
@@ -93,7 +88,20 @@ function unsurveyedKinds(disc, file) {
 async function otherFile({ name, reader }, what) {
     const sha1 = await sha1Of(reader);
     const file = { name, size: reader.size, sha1, kinds: `${NONE}${what}`, mode1: 0, damaged: 0, findings: 0, elsewhere: 0 };
-    return { files: [file], missing: [], fault: '', other: what };
+    return { files: [file], notes: [], missing: [], fault: '', other: what };
+}
+
+/**
+ * Says which sectors beside Mode 1 were not tested, if no sheet says what they are.
+ * @param {Run} run
+ * @param {Disc} disc
+ * @param {FileFound} found
+ */
+function sayUntested(run, { sheet }, { file: { name }, surveys }) {
+    if (sheet !== null) return;
+    for (const { mode1, untested } of surveys) {
+        if (mode1 > 0 && untested.length > 0) run.say(`${name}: ${untestedText(untested, false)}`);
+    }
 }
 
 /**
@@ -103,7 +111,9 @@ async function otherFile({ name, reader }, what) {
  */
 export async function scanOne(name) {
     const files = new Files(0);
-    const run = new Run({ job: 'scan', names: [name], options: {} }, { input: 0, output: 1, errors: 2 }, files, SILENT);
+    /** @type {string[]} */
+    const notes = [];
+    const run = new Run({ job: 'scan', names: [name], options: {} }, { input: 0, output: 1, errors: 2 }, files, keptMessages(notes));
     run.crew.isAlone = true;
     try {
         const opened = await files.image(name);
@@ -113,11 +123,12 @@ export async function scanOne(name) {
         const gone = disc.tracks.filter(({ file }) => file < 0);
         const missing = gone.map(({ number }) => `track ${number} of ${name} is in a file that is not there`);
         const found = await foundInFiles(run, disc);
-        return { files: found.map((it, i) => scanned(disc, it, i)), missing, fault: '', other: '' };
+        found.forEach(it => sayUntested(run, disc, it));
+        return { files: found.map((it, i) => scanned(disc, it, i)), notes, missing, fault: '', other: '' };
     } catch (error) {
         if (!(error instanceof Fault)) throw error;
         const fault = error.facts.file === name ? error.message : `${name}: ${error.message}`;
-        return { files: [], missing: [], fault, other: '' };
+        return { files: [], notes, missing: [], fault, other: '' };
     } finally {
         files.close();
     }
@@ -132,7 +143,7 @@ export function serveScan(module) {
     takeModule(module);
     const port = parentPort;
     port.on('message', name => {
-        scanOne(name).catch(error => ({ files: [], missing: [], fault: `${name}: ${error}`, other: '' }))
+        scanOne(name).catch(error => ({ files: [], notes: [], missing: [], fault: `${name}: ${error}`, other: '' }))
             .then(answer => port.postMessage(answer, []));
     });
 }

@@ -101,7 +101,7 @@ function newScanner() {
             if (thread === null || !await thread.begun || isGone) return scanOne(name);
             return new Promise(resolve => {
                 settle = resolve;
-                fail = error => resolve({ files: [], missing: [], fault: `${name}: ${error}`, other: '' });
+                fail = error => resolve({ files: [], notes: [], missing: [], fault: `${name}: ${error}`, other: '' });
                 thread.worker.postMessage(name, []);
             });
         },
@@ -139,7 +139,8 @@ class Scan {
      * @param {{ name: string, isNamed: boolean }} wanted
      * @param {Answer} answer
      */
-    async tell({ name: wanted, isNamed }, { files, missing, fault, other }) {
+    async tell({ name: wanted, isNamed }, { files, notes, missing, fault, other }) {
+        notes.forEach(note => this.run.say(note));
         if (other !== '') this.tellOther(wanted, isNamed, other);
         if (fault !== '') this.fault(fault);
         missing.forEach(text => this.fault(text));

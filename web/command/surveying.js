@@ -2,9 +2,11 @@
 
 import { createHash } from 'node:crypto';
 import { readBytes } from '../core/bytes.js';
+import { addressShift } from '../core/images/common_part.js';
 import { lackOf } from '../core/iso/volume_end.js';
-import { MODE1, holesOf, mode1Tracks, otherRuns } from '../core/sectors/holes.js';
-import { sectorCount } from '../core/sectors/sector.js';
+import { MODE1, lostSectors, mode1Tracks, otherSectors } from '../core/sectors/lost.js';
+import { blocksIn } from '../core/sectors/runs.js';
+import { SECTOR_SIZE, sectorCount } from '../core/sectors/sector.js';
 import { surveyCounts } from '../core/sectors/survey.js';
 import { openTrack, sayUnknownBase } from './opening.js';
 import { turn } from './pausing.js';
@@ -22,8 +24,12 @@ import { turn } from './pausing.js';
  * @typedef {{ number: number, file: number, image: DiscImage, part: DiscImage, isWhole: boolean,
  *     mode1Tracks: BlockRun[] | null }} Surveyed
  */
-/** @typedef {ReturnType<typeof surveyCounts> & { survey: Survey, holes: BlockRun[], long: BlockRun[], lack: Lack | null }} Counted */
-/** @typedef {{ file: DiscFile, sha1: string, surveys: (Surveyed & Counted)[] }} FileFound a file of a disc, and what is found in it */
+/** @typedef {import('../core/sectors/lost.js').Lost} Lost */
+/** @typedef {ReturnType<typeof surveyCounts> & { survey: Survey, lack: Lack | null } & Lost} Counted */
+/**
+ * A file of a disc, what is found in it, and how many bytes come after its last whole sector.
+ * @typedef {{ file: DiscFile, sha1: string, surveys: (Surveyed & Counted)[], tail: number }} FileFound
+ */
 
 /**
  * The tracks of data that are not surveyed: their sectors have another size.
@@ -79,10 +85,29 @@ export function sha1Of(reader) {
  * @returns {Promise<Counted>}
  */
 async function countedSurvey(run, { sheet, tracks: all }, { image, part, mode1Tracks: tracks }, reader) {
-    const survey = await run.survey(reader, image.base);
-    const blocks = { first: image.base, last: image.base + image.sectors - 1 };
+    const { filled, ...survey } = await run.survey(reader, image.base, 'survey', addressShift(image));
     const lack = await lackOf(image, part, sheet !== null && all.length === 1);
-    return { survey, ...surveyCounts(survey), ...holesOf(otherRuns(survey), blocks, tracks), lack };
+    const lost = await lostSectors(image, otherSectors(survey, filled), tracks, [{ image, part, later: 0 }]);
+    return { survey, ...surveyCounts(survey), ...lost, lack };
+}
+
+/**
+ * How many bytes of a file come after its last whole sector, if all of its sectors have 2352 bytes.
+ * @param {Disc} disc
+ * @param {number} file
+ */
+function tailOf({ files, tracks }, file) {
+    const isOfSectors = tracks.every(it => it.file !== file || (it.sectors !== null && /^(AUDIO)?$|\/2352$/.test(it.type)));
+    return isOfSectors ? files[file].reader.size % SECTOR_SIZE : 0;
+}
+
+/**
+ * How many findings a file has: blocks in which something is wrong, and one for each way in which it is cut.
+ * @param {FileFound} found
+ */
+export function findingsIn({ surveys, tail }) {
+    const blocks = surveys.map(({ wrong, lost, lack }) => wrong + blocksIn(lost) + Number(lack !== null && lack.isSure));
+    return blocks.reduce((sum, count) => sum + count, Number(tail > 0));
 }
 
 /**
@@ -143,7 +168,7 @@ export async function foundInFiles(run, disc) {
             const reader = it.isWhole && !isBeside ? hashed : it.image.reader;
             surveys.push({ ...it, ...await countedSurvey(run, disc, it, reader) });
         }
-        found.push({ file, sha1: await (beside || hashed.digest()), surveys });
+        found.push({ file, sha1: await (beside || hashed.digest()), surveys, tail: tailOf(disc, i) });
     }
     return found;
 }

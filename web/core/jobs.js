@@ -8,6 +8,7 @@ import { mergeRange } from './images/merge.js';
 import { replaceRange } from './script/replace_bytes.js';
 import { linesBetween } from './script/sector_lines.js';
 import { SECTOR_SIZE } from './sectors/sector.js';
+import { surveyRange } from './sectors/survey.js';
 import { findIn } from './texts/find.js';
 
 /** @typedef {import('./module/calls.js').Calls} Calls */
@@ -40,7 +41,7 @@ import { findIn } from './texts/find.js';
 
 /** @type {Record<string, Job>} */
 export const JOBS = {
-    survey: (calls, [bytes], block) => ({ block, records: calls.survey(bytes, block) }),
+    survey: (calls, [bytes], block, args) => surveyRange(calls, bytes, block, args),
     kinds: (calls, [bytes], block) => ({ block, records: calls.kinds(bytes) }),
     find: (_, [bytes], first, args) => findIn(bytes, first, args),
     diff: (calls, [old, fresh], first) => diffRange(calls, old, fresh, first),

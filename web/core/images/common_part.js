@@ -27,6 +27,15 @@ export function firstBlock({ addressed, base }) {
 }
 
 /**
+ * How many blocks later those are whose addresses the sectors of an image have: blocks of an image that begins before block 0 count from
+ * 0 all the same.
+ * @param {DiscImage} image
+ */
+export function addressShift({ base, addressed }) {
+    return addressed !== null && addressed < 0 ? addressed - base : 0;
+}
+
+/**
  * Which sectors of an image another one has too: those of the same blocks.
  * @param {DiscImage} old
  * @param {DiscImage} other

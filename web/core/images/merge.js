@@ -4,9 +4,9 @@ import { PieceCutter, joinedBytes, sameBytes, sliceOf } from '../bytes.js';
 import { Fault } from '../faults.js';
 import { RECORD, RECORD_SIZE, SECTOR_KIND } from '../module/records.js';
 import { addToRuns, runOf } from '../sectors/runs.js';
-import { FIELDS, SECTOR_SIZE, addressIn, differingSectors, sectorCount, sectorOf, sectorsAt } from '../sectors/sector.js';
-import { isSound } from '../sectors/survey.js';
-import { commonPart, firstBlock } from './common_part.js';
+import { FIELDS, SECTOR_SIZE, addressIn, asWords, differingSectors, sectorCount, sectorOf, sectorsAt } from '../sectors/sector.js';
+import { isFilled, isSound } from '../sectors/survey.js';
+import { addressShift, commonPart, firstBlock } from './common_part.js';
 import { tailsDiffer } from './compare.js';
 
 /** @typedef {import('../module/calls.js').Calls} Calls */
@@ -15,6 +15,7 @@ import { tailsDiffer } from './compare.js';
 /** @typedef {import('../jobs.js').Sharer} Sharer */
 /** @typedef {import('../jobs.js').Sharing} Sharing */
 /** @typedef {import('./common_part.js').CommonPart} CommonPart */
+/** @typedef {import('../sectors/lost.js').OtherSectors} OtherSectors */
 /** @typedef {import('../sectors/runs.js').Run} Run */
 /** @typedef {Run & { other: number }} RunOf blocks of another image */
 /**
@@ -23,9 +24,10 @@ import { tailsDiffer } from './compare.js';
  * the address of another block; of these the ones that are `alike`, the same bytes in all images that have the block; the taken ones in
  * which other images are sound too and differ; and of each other image
  * those in which it is sound and differs from a sound sector, how many these are, and how many are the `same` bytes; and the `others`,
- * which are Mode 1 in no image.
+ * which are Mode 1 in no image, with their kinds in the first one, those of them that one byte fills there, and those that are `unlike`:
+ * other bytes in some image.
  * @typedef {{ taken: RunOf[], doubtful: RunOf[], damaged: (Run & { elsewhere: boolean })[], alike: Run[], disputed: Run[],
- *     differing: Run[][], different: number[], same: number[], others: Run[] }} Found
+ *     differing: Run[][], different: number[], same: number[], unlike: Run[] } & OtherSectors} Found
  */
 /** @typedef {Found & { sectors: Uint8Array, end: number }} Merged with the sectors that are taken, and the block after the range */
 /**
@@ -50,9 +52,11 @@ export function mergeRange(calls, [old, ...others], first, { shift }) {
     const records = calls.survey(old, first);
     const places = others.map(other => differingSectors(old, other));
     const otherRecords = others.map((other, i) => recordsAt(calls, other, places[i]));
-    const numbers = others.map((_, other) => other);
+    const [numbers, words] = [others.map((_, other) => other), asWords(old)];
     const found = nothingFound(others.length);
     const [sectors, count] = [/** @type {Uint8Array[]} */ ([]), sectorCount(old.length)];
+    const unlike = new Uint8Array(count); // 1 where some image has other bytes
+    places.forEach(some => some.forEach(i => { unlike[i] = 1; }));
     found.same = places.map(({ length }) => count - length);
     for (let i = 0; i < count; i++) {
         const [block, at] = [first + i, i * RECORD_SIZE];
@@ -70,26 +74,19 @@ export function mergeRange(calls, [old, ...others], first, { shift }) {
             const { other, sector } = candidates[fits.indexOf(best)];
             sectors.push(sector);
             addToRuns(found.taken, { ...runOf(block), other });
-            if (best === 0 && !isFilled(damaged)) addToRuns(found.doubtful, { ...runOf(block), other });
+            if (best === 0 && !hasFilledUser(damaged)) addToRuns(found.doubtful, { ...runOf(block), other });
             if (candidates.some(it => differingSectors(sector, it.sector).length > 0)) addToRuns(found.disputed, runOf(block));
         } else if ([records, ...otherRecords].some(it => it[at + RECORD.KIND] === SECTOR_KIND.MODE1)) {
             addToRuns(found.damaged, { ...runOf(block), elsewhere: sound.length > 0 });
-            if (isAlike(old, others, i)) addToRuns(found.alike, runOf(block));
+            if (others.length > 0 && unlike[i] === 0) addToRuns(found.alike, runOf(block));
         } else {
-            addToRuns(found.others, runOf(block));
+            const kind = records[at + RECORD.KIND];
+            addToRuns(found.others, { ...runOf(block), kind });
+            if (kind === SECTOR_KIND.NOSYNC && isFilled(words, i)) addToRuns(found.filled, { ...runOf(block), byte: old[i * SECTOR_SIZE] });
+            if (unlike[i] !== 0) addToRuns(found.unlike, runOf(block));
         }
     }
     return { ...found, sectors: joinedBytes(sectors), end: first + count };
-}
-
-/**
- * Whether the i-th sector has the same bytes in all images, of which there are several.
- * @param {Uint8Array} old
- * @param {Uint8Array[]} others
- * @param {number} i
- */
-function isAlike(old, others, i) {
-    return others.length > 0 && others.every(other => differingSectors(sectorOf(old, i), sectorOf(other, i)).length === 0);
 }
 
 /**
@@ -113,10 +110,10 @@ function fitOf(damaged, sector) {
 }
 
 /**
- * Whether a damaged sector has nothing but one byte over and over.
+ * Whether a damaged sector has nothing but one byte over and over after its header.
  * @param {Uint8Array} damaged
  */
-function isFilled(damaged) {
+function hasFilledUser(damaged) {
     return damaged.subarray(FIELDS.user).every(byte => byte === damaged[FIELDS.user]);
 }
 
@@ -148,7 +145,8 @@ function isHome(calls, address, block) {
 function nothingFound(others) {
     const differing = Array.from({ length: others }, () => []);
     const [different, same] = [0, 0].map(none => new Array(others).fill(none));
-    return { taken: [], doubtful: [], damaged: [], alike: [], disputed: [], differing, different, same, others: [] };
+    const runs = { taken: [], doubtful: [], damaged: [], alike: [], disputed: [], others: [], filled: [], unlike: [] };
+    return { ...runs, differing, different, same };
 }
 
 /**
@@ -181,8 +179,7 @@ export async function mergeImages(crew, old, others, how, take) {
     const found = nothingFound(others.length);
     const sectors = sectorCount(old.reader.size);
     const pieces = new PieceCutter(take);
-    // Blocks of an image that begins before block 0 count from 0 all the same.
-    const shift = old.addressed !== null && old.addressed < 0 ? old.addressed - old.base : 0;
+    const shift = addressShift(old);
     const stops = [...new Set([0, ...parts.flatMap(({ from, to }) => [from, to]), sectors])].sort((a, b) => a - b);
     for (const [i, from] of stops.slice(0, -1).entries()) {
         const present = others.map((_, other) => other).filter(other => parts[other].from <= from && from < parts[other].to);
@@ -229,13 +226,13 @@ function assertCommon(old, other, { from, to }) {
  * @param {Merged} answer
  * @param {number[]} present the numbers of the other images that the range has
  */
-function addAnswer(found, { taken, doubtful, damaged, alike, disputed, differing, different, same, others }, present) {
+function addAnswer(found, { taken, doubtful, differing, different, same, ...answer }, present) {
     for (const run of taken) addToRuns(found.taken, { ...run, other: present[run.other] });
     for (const run of doubtful) addToRuns(found.doubtful, { ...run, other: present[run.other] });
-    for (const run of damaged) addToRuns(found.damaged, run);
-    for (const run of alike) addToRuns(found.alike, run);
-    for (const run of disputed) addToRuns(found.disputed, run);
-    for (const run of others) addToRuns(found.others, run);
+    for (const run of answer.damaged) addToRuns(found.damaged, run);
+    for (const name of /** @type {const} */ (['alike', 'disputed', 'others', 'filled', 'unlike'])) {
+        for (const run of answer[name]) addToRuns(/** @type {Run[]} */ (found[name]), run);
+    }
     differing.forEach((runs, i) => runs.forEach(run => addToRuns(found.differing[present[i]], run)));
     different.forEach((count, i) => { found.different[present[i]] += count; });
     same.forEach((count, i) => { found.same[present[i]] += count; });

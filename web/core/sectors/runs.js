@@ -10,13 +10,21 @@
  */
 export function addToRuns(runs, run) {
     const before = runs[runs.length - 1];
-    if (before && before.last === run.first - 1 && aboutRun(before) === aboutRun(run)) before.last = run.last;
+    if (before && before.last === run.first - 1 && saysTheSame(before, run)) before.last = run.last;
     else runs.push({ ...run });
 }
 
-/** @param {Run} run */
-function aboutRun(run) {
-    return JSON.stringify({ ...run, first: 0, last: 0 });
+/**
+ * Whether two runs differ in nothing but their blocks.
+ * @param {Record<string, any>} before
+ * @param {Record<string, any>} run with the same members
+ */
+function saysTheSame(before, run) {
+    for (const key in run) {
+        if (key === 'first' || key === 'last' || before[key] === run[key]) continue;
+        if (JSON.stringify(before[key]) !== JSON.stringify(run[key])) return false;
+    }
+    return true;
 }
 
 /**
@@ -28,11 +36,58 @@ export function runOf(block) {
 }
 
 /**
+ * The first blocks of runs.
+ * @param {Run[]} runs
+ * @param {number} most how many
+ */
+export function firstBlocks(runs, most) {
+    const blocks = [];
+    for (const { first, last } of runs) {
+        for (let block = first; block <= last && blocks.length < most; block++) blocks.push(block);
+    }
+    return blocks;
+}
+
+/**
  * How many blocks runs have.
  * @param {Run[]} runs
  */
 export function blocksIn(runs) {
     return runs.reduce((sum, { first, last }) => sum + last - first + 1, 0);
+}
+
+/**
+ * The blocks that two lists of runs have in common, as the runs of the first list have them.
+ * @template {Run} R
+ * @param {R[]} runs in order, none over another
+ * @param {Run[]} others in order, none over another
+ */
+export function commonRuns(runs, others) {
+    /** @type {R[]} */
+    const common = [];
+    let at = 0;
+    for (const run of runs) {
+        while (at < others.length && others[at].last < run.first) at += 1;
+        for (let i = at; i < others.length && others[i].first <= run.last; i++) {
+            common.push({ ...run, first: Math.max(run.first, others[i].first), last: Math.min(run.last, others[i].last) });
+        }
+    }
+    return common;
+}
+
+/**
+ * The blocks of runs in the longest runs that there are, in order.
+ * @param {Run[]} runs
+ */
+export function joinedRuns(runs) {
+    /** @type {Run[]} */
+    const joined = [];
+    for (const { first, last } of [...runs].sort((a, b) => a.first - b.first)) {
+        const before = joined[joined.length - 1];
+        if (before && first <= before.last + 1) before.last = Math.max(before.last, last);
+        else joined.push({ first, last });
+    }
+    return joined;
 }
 
 /**

@@ -1,9 +1,14 @@
 // What is found in sectors: their records, and the reports of `list` and `audit`.
 
-import { ByteList } from '../bytes.js';
+import { ByteList, joinedBytes } from '../bytes.js';
 import { RECORD, RECORD_SIZE, SECTOR_KIND, STATUS } from '../module/records.js';
+import { runOf } from './runs.js';
+import { SECTOR_SIZE, asWords, sectorCount } from './sector.js';
 
 /** @typedef {import('../module/calls.js').Calls} Calls */
+
+/** @typedef {import('./runs.js').Run} Run */
+/** @typedef {Run & { byte: number }} FilledRun sectors that have nothing but one byte over and over */
 
 /**
  * The records of neighbouring sectors, RECORD_SIZE bytes each, from a block on.
@@ -14,6 +19,67 @@ import { RECORD, RECORD_SIZE, SECTOR_KIND, STATUS } from '../module/records.js';
  * What a command prints, and its status.
  * @typedef {{ status: number, text: Uint8Array }} Report
  */
+
+/**
+ * The survey of a range of sectors, and those of them that one byte fills. A job for a worker.
+ * @param {Calls} calls
+ * @param {Uint8Array} bytes
+ * @param {number} block
+ * @param {{ shift?: number }} args how many blocks later those are whose addresses the sectors have
+ */
+export function surveyRange(calls, bytes, block, { shift = 0 } = {}) {
+    const records = shift === 0 ? calls.survey(bytes, block) : shiftedSurvey(calls, bytes, block + shift);
+    return { block, records, filled: filledRuns(bytes, records, block) };
+}
+
+/**
+ * The records of sectors from a block on that may be below 0. A block before block 0 has no address, and so no wrong one.
+ * @param {Calls} calls
+ * @param {Uint8Array} bytes
+ * @param {number} block
+ */
+function shiftedSurvey(calls, bytes, block) {
+    const at = SECTOR_SIZE * Math.min(Math.max(-block, 0), sectorCount(bytes.length));
+    const before = calls.survey(bytes.subarray(0, at), 0);
+    for (let i = RECORD.ADDRESS; i < before.length; i += RECORD_SIZE) before[i] = 0;
+    return joinedBytes([before, calls.survey(bytes.subarray(at), Math.max(block, 0))]);
+}
+
+/**
+ * The runs of sectors that one byte fills.
+ * @param {Uint8Array} bytes
+ * @param {Uint8Array} records of the same sectors
+ * @param {number} block that of the first
+ */
+function filledRuns(bytes, records, block) {
+    /** @type {FilledRun[]} */
+    const filled = [];
+    const words = asWords(bytes);
+    for (let i = 0; i < sectorCount(bytes.length); i++) {
+        if (records[i * RECORD_SIZE + RECORD.KIND] !== SECTOR_KIND.NOSYNC || !isFilled(words, i)) continue;
+        // Most sectors of silence follow another one, and to make a run of each would cost more than all else.
+        const [before, byte] = [filled[filled.length - 1], bytes[i * SECTOR_SIZE]];
+        if (before && before.last === block + i - 1 && before.byte === byte) before.last = block + i;
+        else filled.push({ ...runOf(block + i), byte });
+    }
+    return filled;
+}
+
+const WORDS = SECTOR_SIZE / 4;
+
+/**
+ * Whether the i-th sector has nothing but one byte over and over, by four words at a time.
+ * @param {Int32Array} words of sectors
+ * @param {number} i
+ */
+export function isFilled(words, i) {
+    const from = i * WORDS;
+    const wanted = Math.imul(words[from] & 0xFF, 0x01010101);
+    for (let at = from; at < from + WORDS; at += 4) {
+        if (((words[at] ^ wanted) | (words[at + 1] ^ wanted) | (words[at + 2] ^ wanted) | (words[at + 3] ^ wanted)) !== 0) return false;
+    }
+    return true;
+}
 
 /**
  * Whether the record at a place is that of a damaged Mode 1 sector.
@@ -34,17 +100,20 @@ export function isSound(records, at) {
 }
 
 /**
- * How many sectors there are, how many of Mode 1, and how many of those are damaged, or have another address than their block's.
+ * How many sectors there are; how many are Mode 1; and how many of those are damaged, have another address than their block's, or are
+ * `wrong` in one way or both.
  * @param {Survey} survey
  */
 export function surveyCounts({ records }) {
-    let [mode1, damaged, elsewhere] = [0, 0, 0];
+    let [mode1, damaged, elsewhere, wrong] = [0, 0, 0, 0];
     for (let at = 0; at < records.length; at += RECORD_SIZE) {
+        const isBroken = isDamaged(records, at);
         mode1 += Number(records[at + RECORD.KIND] === SECTOR_KIND.MODE1);
-        damaged += Number(isDamaged(records, at));
+        damaged += Number(isBroken);
         elsewhere += records[at + RECORD.ADDRESS];
+        wrong += Number(isBroken || records[at + RECORD.ADDRESS] !== 0);
     }
-    return { sectors: records.length / RECORD_SIZE, mode1, damaged, elsewhere };
+    return { sectors: records.length / RECORD_SIZE, mode1, damaged, elsewhere, wrong };
 }
 
 /**

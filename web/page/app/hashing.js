@@ -11,7 +11,8 @@ import { startedWorker } from './crew.js';
 /** @typedef {import('./state.js').App} App */
 /** @typedef {import('./state.js').Parts} Parts */
 /** @typedef {{ sha1: string, crc32: string }} Sums in digits as others print them */
-/** @typedef {{ block: number, bytes: Uint8Array, crc: number, records: Uint8Array }} Summed what a hand gives of a range */
+/** @typedef {ReturnType<import('../../core/sectors/survey.js').surveyRange>} RangeSurvey */
+/** @typedef {RangeSurvey & { bytes: Uint8Array, crc: number }} Summed what a hand gives of a range */
 
 const HASH_STEP = 1 << 22;
 /** Ranges of an image that may wait for its SHA-1, some 64 MB: so the survey is not held up by it at once. */

@@ -1,13 +1,14 @@
 // What the map shows of each sector: its kind, or what was found in it.
 
 import { RECORD, RECORD_SIZE, SECTOR_KIND } from '../../core/module/records.js';
-import { SHORTEST_TRACK } from '../../core/sectors/holes.js';
 import * as texts from '../texts/index.js';
 
 /** What a sector can be on the map. Of the sectors that share a pixel the one with the greatest number is shown. */
 export const MARK = Object.freeze({
     UNREAD: 0, MODE1: 1, NOSYNC: 2, MODE2: 3, MODE0: 4, OTHER: 5, ADDRESS: 6, PARITY: 7, LOST: 8, EDC: 9,
 });
+
+/** @typedef {import('../../core/sectors/runs.js').Run} Run */
 
 /**
  * How a mark is shown: `name` stands in legends and tables, and `words` with a single sector if it has more to say; `colour` is a property
@@ -81,8 +82,8 @@ export class SurveyMarks {
         /** How many sectors of Mode 1 have another address than their block's, whatever else was found in them. */
         this.elsewhere = 0;
         this.looks = SURVEY_LOOKS;
-        /** Where the last sectors that are not of Mode 1 begin, if Mode 1 comes before them; else -1. */
-        this.gap = -1;
+        /** @type {Run[]} the blocks that are lost, which are known when all is read */
+        this.lost = [];
     }
 
     /**
@@ -96,40 +97,20 @@ export class SurveyMarks {
             this.marks[i] = mark;
             this.counts[mark] += 1;
             this.elsewhere += records[i * RECORD_SIZE + RECORD.ADDRESS];
-            this.noteGap(i, records[i * RECORD_SIZE + RECORD.KIND] === SECTOR_KIND.MODE1);
         }
         this.known = known;
     }
 
-    /**
-     * @param {number} i
-     * @param {boolean} mode1 whether the sector is of Mode 1
-     */
-    noteGap(i, mode1) {
-        if (!mode1) {
-            if (this.gap < 0 && i > 0 && this.isMode1(i - 1)) this.gap = i;
-            return;
+    /** @param {Run[]} lost blocks that have lost their sync field or mode */
+    lose(lost) {
+        this.lost = lost;
+        for (const { first, last } of lost) {
+            for (let i = first - this.base; i <= last - this.base; i++) {
+                this.counts[this.marks[i]] -= 1;
+                this.counts[MARK.LOST] += 1;
+                this.marks[i] = MARK.LOST;
+            }
         }
-        // Fewer sectors of another kind inside Mode 1 are no track: they have lost their sync or mode.
-        if (this.gap >= 0 && i - this.gap < SHORTEST_TRACK) this.loseFrom(this.gap, i);
-        this.gap = -1;
-    }
-
-    /**
-     * @param {number} from
-     * @param {number} to
-     */
-    loseFrom(from, to) {
-        for (let i = from; i < to; i++) {
-            this.counts[this.marks[i]] -= 1;
-            this.counts[MARK.LOST] += 1;
-            this.marks[i] = MARK.LOST;
-        }
-    }
-
-    /** @param {number} i */
-    isMode1(i) {
-        return this.marks[i] === MARK.MODE1 || (this.marks[i] >= MARK.ADDRESS && this.marks[i] !== MARK.LOST);
     }
 
     /** How many sectors of Mode 1 there are so far, whatever was found in them. */

@@ -4,6 +4,7 @@ import { Store } from './store.js';
 
 /** @typedef {import('../../core/disc/disc.js').Disc} Disc */
 /** @typedef {import('../../core/disc/disc.js').DiscImage} DiscImage */
+/** @typedef {import('../../core/sectors/survey.js').FilledRun} FilledRun */
 /** @typedef {import('./marks.js').SurveyMarks} SurveyMarks */
 /** @typedef {import('../ui/fill.js').Child} Child */
 
@@ -19,9 +20,9 @@ import { Store } from './store.js';
  */
 
 /**
- * The records of an image's sectors, RECORD_SIZE bytes each, of which the first `known` were read so far; what the map shows of them;
- * and when reading began and ended, 0 if it did not come to its end. `over` says that it goes on no more.
- * @typedef {{ block: number, records: Uint8Array, known: number, marks: SurveyMarks, began: number, ended: number,
+ * The records of an image's sectors, RECORD_SIZE bytes each, of which the first `known` were read so far; those that one byte fills; what
+ * the map shows of them; and when reading began and ended, 0 if it did not come to its end. `over` says that it goes on no more.
+ * @typedef {{ block: number, records: Uint8Array, filled: FilledRun[], known: number, marks: SurveyMarks, began: number, ended: number,
  *     over: boolean }} Surveyed
  */
 

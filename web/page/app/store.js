@@ -2,6 +2,7 @@
 
 import { newBytes } from '../../core/faults.js';
 import { RECORD_SIZE } from '../../core/module/records.js';
+import { addToRuns } from '../../core/sectors/runs.js';
 import { USUAL_ENCODING } from '../../core/texts/encodings.js';
 import { SurveyMarks } from './marks.js';
 import { ScriptLines } from './script_lines.js';
@@ -11,6 +12,7 @@ import { ScriptLines } from './script_lines.js';
 /** @typedef {import('../../core/images/merge.js').Repair} Repair */
 /** @typedef {import('../../core/iso/files.js').VolumeFiles} VolumeFiles */
 /** @typedef {import('../../core/module/calls.js').Calls} Calls */
+/** @typedef {import('../../core/sectors/survey.js').FilledRun} FilledRun */
 /** @typedef {import('../../core/texts/encoding.js').Encoding} Encoding */
 /** @typedef {import('./state.js').Happening} Happening */
 /** @typedef {import('./state.js').Image} Image */
@@ -137,7 +139,7 @@ export class Store {
      */
     beginSurvey(base, sectors) {
         const [records, marks, began] = [newBytes(sectors * RECORD_SIZE), new SurveyMarks(base, sectors), performance.now()];
-        const survey = { block: base, records, known: 0, marks, began, ended: 0, over: false };
+        const survey = /** @type {Surveyed} */ ({ block: base, records, filled: [], known: 0, marks, began, ended: 0, over: false });
         [this.survey, this.told] = [survey, began];
         this.tell('survey');
         return survey;
@@ -145,10 +147,11 @@ export class Store {
 
     /**
      * @param {Surveyed} survey
-     * @param {{ block: number, records: Uint8Array }} more those of the sectors that come next
+     * @param {{ block: number, records: Uint8Array, filled?: FilledRun[] }} more those of the sectors that come next
      */
-    addToSurvey(survey, { block, records }) {
+    addToSurvey(survey, { block, records, filled = [] }) {
         survey.records.set(records, (block - survey.block) * RECORD_SIZE);
+        for (const run of filled) addToRuns(survey.filled, run);
         survey.known += records.length / RECORD_SIZE;
         survey.marks.add(survey.records, survey.known);
         const now = performance.now();

@@ -1,5 +1,6 @@
 // What a worker does with a range of an image that is hashed.
 
+import { surveyRange } from '../../core/sectors/survey.js';
 import { crc32 } from './crc32.js';
 
 /**
@@ -7,5 +8,5 @@ import { crc32 } from './crc32.js';
  * @type {import('../../core/jobs.js').Job}
  */
 export function sumsJob(calls, [bytes], block, { surveys }) {
-    return { block, bytes, crc: crc32(0, bytes), records: surveys ? calls.survey(bytes, block) : null };
+    return { block, bytes, crc: crc32(0, bytes), ...surveys ? surveyRange(calls, bytes, block) : {} };
 }

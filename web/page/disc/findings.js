@@ -202,7 +202,7 @@ export class Findings {
     }
 
     /**
-     * The kind of a run, as the map has it: a few sectors of another kind inside Mode 1 have lost their sync or mode.
+     * The kind of a run, as the map has it: sectors that are lost have no kind of their own.
      * @param {number} first block of the run
      * @param {number} kind
      */

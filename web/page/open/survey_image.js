@@ -2,11 +2,14 @@
 
 import { cancelled } from '../../core/faults.js';
 import { filesOf } from '../../core/iso/files.js';
+import { lostSectors, mode1Tracks, otherSectors } from '../../core/sectors/lost.js';
 import { Summing } from '../app/index.js';
 import { isCancelled, refuseWhileSaving, showFailure } from '../ui/index.js';
 
 /** @typedef {import('../app/state.js').App} App */
 /** @typedef {import('../app/state.js').Image} Image */
+/** @typedef {import('../app/state.js').Surveyed} Surveyed */
+/** @typedef {import('../app/hashing.js').RangeSurvey} RangeSurvey */
 
 /**
  * Makes an image the open one, or closes it, and reads it.
@@ -28,17 +31,31 @@ export async function readImage(app, image) {
  * The survey of an image, again if it was done already, which ends as its reading does.
  * @param {App} app
  * @param {Image} image
- * @param {(take: (answer: { block: number, records: Uint8Array }) => void) => Promise<void>} read
+ * @param {AbortSignal} signal
+ * @param {(take: (answer: RangeSurvey) => void) => Promise<void>} read
  */
-async function surveyBy(app, { base, sectors }, read) {
-    const survey = app.beginSurvey(base, sectors);
+async function surveyBy(app, image, signal, read) {
+    const survey = app.beginSurvey(image.base, image.sectors);
     let isWhole = false;
     try {
         await read(answer => app.addToSurvey(survey, answer));
+        survey.marks.lose(await lostIn(image, survey));
+        if (signal.aborted) throw cancelled();
         isWhole = true;
     } finally {
         app.endSurvey(survey, isWhole);
     }
+}
+
+/**
+ * The blocks of an image that are lost.
+ * @param {Image} image
+ * @param {Surveyed} survey of the whole image
+ */
+async function lostIn({ disc, number, ...image }, { filled, ...survey }) {
+    const track = disc.tracks.find(it => it.number === number);
+    const tracks = mode1Tracks(disc, track ? track.file : 0, image.base);
+    return (await lostSectors(image, otherSectors(survey, filled), tracks, [{ image, part: image.part, later: 0 }])).lost;
 }
 
 /**
@@ -49,7 +66,7 @@ async function surveyBy(app, { base, sectors }, read) {
  */
 async function surveyOnly(app, image, signal) {
     const how = { base: image.base, signal };
-    await surveyBy(app, image, take => app.crew.share('survey', [image.reader], {}, how, take));
+    await surveyBy(app, image, signal, take => app.crew.share('survey', [image.reader], {}, how, take));
     await listFiles(app, image, signal);
 }
 
@@ -62,7 +79,7 @@ async function surveyOnly(app, image, signal) {
 async function surveyAndHash(app, image, signal) {
     const sums = new Summing(app, image.reader, done => app.noteHashed(done));
     try {
-        await surveyBy(app, image, take => sums.read({ base: image.base, signal }, take));
+        await surveyBy(app, image, signal, take => sums.read({ base: image.base, signal }, take));
         const [known] = await Promise.all([sums.end(), listFiles(app, image, signal)]);
         if (signal.aborted) throw cancelled();
         app.setSums(image, known);

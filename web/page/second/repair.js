@@ -4,10 +4,10 @@ import { readBytes } from '../../core/bytes.js';
 import { shiftOf } from '../../core/images/common_part.js';
 import { mergeImages } from '../../core/images/merge.js';
 import { pieceReader } from '../../core/piece_reader.js';
-import { blocksIn, blocksText } from '../../core/sectors/runs.js';
+import { blocksIn, blocksText, commonRuns, firstBlocks, joinedRuns } from '../../core/sectors/runs.js';
 import { SECTOR_SIZE } from '../../core/sectors/sector.js';
 import { findingOf } from '../../core/sectors/survey.js';
-import { MARK, sha1Of } from '../app/index.js';
+import { sha1Of } from '../app/index.js';
 import { fileReader, readImage, swapImages } from '../open/index.js';
 import { failureOfSaving, givingAll, patchedName, saveImage } from '../save/index.js';
 import * as texts from '../texts/index.js';
@@ -16,7 +16,7 @@ import { askBeforeLeaving, button, element, fill, hashParts, jobBar, megabytes, 
 import { refuseWhileSaving, runAt, tableCard, tallyOf, term } from '../ui/index.js';
 import { repairMarks } from './marks.js';
 import { PairJob } from './pair_job.js';
-import { blocksOf, footOf, refusedWords } from './repair_words.js';
+import { footOf, refusedWords } from './repair_words.js';
 import { writeScript } from './script.js';
 import { sectorOfSecond } from './sector.js';
 import { fileSayer } from './where.js';
@@ -72,12 +72,21 @@ export class SecondRepair extends PairJob {
         });
     }
 
-    /** The blocks that are not repaired: damaged ones, and those inside Mode 1 that are it in neither image. */
+    /** The blocks that are not repaired: damaged ones, and lost ones that are Mode 1 in neither image. */
     unrepaired() {
         const { found, app: { survey } } = this;
         if (found === null || survey === null) return [];
-        const lost = found.repair.others.filter(({ first }) => survey.marks.marks[first - survey.block] === MARK.LOST);
+        const lost = commonRuns(joinedRuns(found.repair.others), survey.marks.lost);
         return [...found.repair.damaged, ...lost].sort((a, b) => a.first - b.first);
+    }
+
+    /**
+     * How many sectors are not the same, and neither Mode 1 in any of the images nor lost.
+     * @param {Repair} repair
+     */
+    unlike({ unlike }) {
+        const { survey } = this.app;
+        return blocksIn(unlike) - blocksIn(commonRuns(unlike, survey === null ? [] : survey.marks.lost));
     }
 
     /** Shows what was found, on the map too. If the repair is refused nothing was found that is of use. */
@@ -113,8 +122,11 @@ export class SecondRepair extends PairJob {
         const warning = different > 0 && notice('warn', told(texts.soundInBoth, { n: different }), texts.perhapsAnotherRelease);
         const doubt = repair.doubtful.length > 0 && notice('warn', told(texts.otherDataHere, { n: blocksIn(repair.doubtful) }),
             told(texts.lookAtThemFirst, { blocks: blocksText(repair.doubtful, MOST_RUNS_NAMED) }));
+        const unlike = this.unlike(repair);
+        const untested = unlike > 0 && notice('warn', told(texts.notTestedDiffer, { n: unlike }), texts.notTestedStay);
         const tail = repair.tails[0] && notice('warn', texts.tailsDiffer, texts.theyStay);
-        return [tally, this.partWords(repair), none, doubt, warning, tail, element('p', { class: 'small quiet' }, texts.whatRepairDoes),
+        const what = element('p', { class: 'small quiet' }, texts.whatRepairDoes);
+        return [tally, this.partWords(repair), none, doubt, warning, untested, tail, what,
             taken > 0 && element('div', { class: 'row' }, save, script), this.place];
     }
 
@@ -219,7 +231,7 @@ export class SecondRepair extends PairJob {
         if (found === null) return;
         const number = ++this.drawn;
         const damaged = found.repair.refused ? [] : this.unrepaired();
-        const rows = await this.rows(blocksOf(damaged, MOST_ROWS));
+        const rows = await this.rows(firstBlocks(damaged, MOST_ROWS));
         if (this.found !== found || number !== this.drawn) return;
         if (rows.length === 0) {
             fill(this.table);

@@ -33,19 +33,6 @@ export function refusedWords({ different: [different], same: [n], parts: [{ from
 }
 
 /**
- * The first blocks of runs.
- * @param {{ first: number, last: number }[]} runs
- * @param {number} most
- */
-export function blocksOf(runs, most) {
-    const blocks = [];
-    for (const { first, last } of runs) {
-        for (let block = first; block <= last && blocks.length < most; block++) blocks.push(block);
-    }
-    return blocks;
-}
-
-/**
  * What is said under the rows of sectors that are not repaired. Of a block that the second image does not have it says nothing.
  * @param {DamageRow[]} rows
  * @param {number} left how many blocks have no row

@@ -456,8 +456,8 @@ export const hasNoSync = 'This sector has no sync field.';
 export const isNotModeOne = 'This sector is not of Mode 1.';
 export const isAudioOrUnknown = 'It is audio, or its form is not known.';
 export const onlyLookedAt = 'It can be looked at, not patched.';
-export const hasLostSync = 'This sector has no sync field, and Mode 1 lies around it.';
-export const hasLostMode = 'This sector is not of Mode 1, and Mode 1 lies around it.';
+export const hasLostSync = 'This sector has no sync field, and its track is Mode 1.';
+export const hasLostMode = 'This sector is not of Mode 1, and its track is.';
 export const noPatchRepairsThat = 'So it has probably lost its sync field or its mode. No patch can repair that: a whole sector from ' +
     'another dump can.';
 
@@ -890,6 +890,8 @@ export const noneSoundThere = 'No sector that is damaged here is sound there, wi
 export const otherDataHere = '{n} sector has other data here, and another EDC.|{n} sectors have other data here, and another EDC.';
 export const lookAtThemFirst = 'Perhaps the second image is another release of the disc: look at {blocks} first.';
 export const soundInBoth = '{n} sector is sound in both, and differs.|{n} sectors are sound in both, and differ.';
+export const notTestedDiffer = '{n} sector is not Mode 1, and differs.|{n} sectors are not Mode 1, and differ.';
+export const notTestedStay = 'Such sectors are not tested. They stay as they are here.';
 export const perhapsAnotherRelease = 'Perhaps it is another release of the disc. They stay as they are here.';
 export const tailsDiffer = 'The bytes after the last sector differ.';
 export const theyStay = 'They stay as they are here.';
