@@ -116,6 +116,8 @@ function showNext(app, aim, script, image) {
 async function takenAs(app, file, waiting) {
     for (const take of app.takers) {
         const taken = await take(file);
+        const again = waiting.findIndex(({ name }) => name === file.name);
+        if (taken && again >= 0) waiting.splice(again, 1);
         if (taken instanceof Object) waiting.push({ ...taken, name: file.name });
         if (taken) return 'other';
     }
