@@ -246,7 +246,9 @@ test('what no repair takes', () => inDirectory(async room => {
     write(room, { other, edited: Buffer.concat([other.subarray(0, 3 * 2352), good.subarray(3 * 2352)]) });
     const { status, errors } = await run(['merge', 'old', 'other', 'out', '--base', '30'], { cwd: room });
     assert.equal(status, 2);
-    assert.match(errors, /^cdscript: 29\d of 300 sectors are sound in old and in other, and differ: one of them is patched, shifted or of another disc\n$/);
+    assert.match(errors, /^cdscript: 29\d of 300 sectors are sound in old and in other, and differ: from block 30 on other is shifted, for 8 sectors before it are missing\n$/);
+    write(room, { strange: imageOf(room, 301, 29).subarray(2352) });
+    await fails(['merge', 'old', 'strange', 'out'], '299 of 300 sectors are sound in old and in strange, and differ: one of them is patched, shifted or of another disc', room);
     assert.equal(existsSync(join(room, 'out')), false);
     assert.match((await run(['merge', 'old', 'edited', 'out'], { cwd: room })).out, /\ntaken 1 damaged 0 disputed 0 different 3\n$/);
 }));

@@ -160,6 +160,18 @@ test('no base is guessed: half of the addresses are not enough', async () => {
     for (const none of [Buffer.alloc(4 * RAW, 9), Buffer.alloc(0)]) assert.strictEqual(await baseOf(none), null);
 });
 
+test('the first sound sectors say the base of an image in which sectors are missing, or too many', async () => {
+    const disc = sectors(30, 400);
+    const cut = (from, to) => disc.subarray(RAW * from, RAW * to);
+    for (const [image, base] of [[[cut(0, 100), cut(107, 400)], 30], [[cut(0, 20), cut(0, 5), cut(20, 400)], 30], [[cut(5, 400)], 35]]) {
+        assert.strictEqual(await baseOf(Buffer.concat(image)), base);
+    }
+    const damaged = Buffer.concat([cut(0, 20), cut(40, 400)]);
+    for (let i = 0; i < 5; i++) damaged[i * RAW + 100] ^= 1;
+    assert.strictEqual(await baseOf(damaged), 50, 'most of the first sectors are not sound');
+    assert.strictEqual(await baseOf(Buffer.concat([sectors(900, 2), disc])), 28, 'the first sectors do not agree');
+});
+
 test('an image that begins before block 0 has a base below 0', async () => {
     assert.strictEqual(await baseOf(Buffer.concat([Buffer.alloc(150 * RAW), sectors(0, 10)])), -150);
 });

@@ -7,7 +7,7 @@ import { localCrew, withThreads } from './crews.mjs';
 import { CHANGES, RAW, blocksOf, changedImage, countOf, sectorAt, sound, soundImage } from './pairs.mjs';
 
 const { mergeImages } = await core('images/merge.js');
-const { commonPart, firstBlock, isSameRange, shiftOf } = await core('images/common_part.js');
+const { commonPart, firstBlock, isSameRange, shiftOf, shiftText } = await core('images/common_part.js');
 
 const BASE = 500;
 const imageOf = (bytes, base = BASE) => ({ name: 'image.bin', reader: readerOf(bytes), base, addressed: base, sectors: countOf(bytes), tail: bytes.length % RAW });
@@ -167,6 +167,23 @@ test('a shifted dump is refused', async () => {
     const { refused, taken, different } = await merged([old, image.slice(RAW)]);
     assert.deepEqual([refused, taken], [true, []]);
     assert.ok(different[0] > 200);
+});
+
+test('of a dump in which sectors are missing, or too many, it is said where, from either side', async () => {
+    const disc = soundImage(diceOf(54), 300, BASE);
+    const [missing, more] = [[disc.slice(0, 100 * RAW), disc.slice(107 * RAW)], [disc.slice(0, 60 * RAW), disc.slice(0, 5 * RAW), disc.slice(60 * RAW)]];
+    for (const [parts, by, first] of [[missing, 7, BASE + 100], [more, -5, BASE + 65]]) {
+        const [whole, cut] = [disc, new Uint8Array(Buffer.concat(parts))].map(bytes => imageOf(bytes));
+        for (const [old, other] of [[whole, cut], [cut, whole]]) {
+            const { refused, differing } = await repaired(localCrew(), old, [other]);
+            assert.ok(refused);
+            const shift = await shiftOf(calls, old, other, differing[0]);
+            assert.deepEqual([shift.by, shift.first, shift.image], [by, first, cut]);
+        }
+    }
+    const image = { name: 'cut.bin' };
+    assert.equal(shiftText({ image, by: 7, first: 600 }), 'from block 600 on cut.bin is shifted, for 7 sectors before it are missing');
+    assert.equal(shiftText({ image, by: -1, first: 60 }), 'from block 60 on cut.bin is shifted, for 1 sector before it is too many');
 });
 
 test('tails that differ are said, and the tail stays as it is', async () => {

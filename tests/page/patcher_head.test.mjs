@@ -12,7 +12,8 @@ const NO_NAMES = ['Play.html', 'a.hta', 'a.lnk', 'a.bat', 'a.js', 'a.vbs', 'a.sc
     'autorun.inf', '.bashrc', 'game', 'game.bin.html', 'game.bin.', 'game.bin ', 'game.cue', '.bin', '.game.bin', ' game.bin', 'CON.bin', 'nul.iso',
     'com1.img', 'LPT9.bin', 'COM\u00b9.bin', 'aux .bin', 'Con.x.bin', 'CONIN$.bin', 'a\u202enib.bin', 'a\u200b.bin', 'a\u2028.bin', 'a\ud800.bin', 'a\u00ad.bin',
     'a\nb.bin', 'a\u007f.bin', 'a/b.bin', 'a\\b.bin', 'a:b.bin', 'a*.bin', 'a?.bin', 'a"b.bin', '<a>.bin', 'a|b.bin', 'game.b\u0131n', 'game.i\u017fo',
-    `${'x'.repeat(121)}.bin`, '', 'a\ue000.bin', 'a\ufeff.bin'];
+    `${'x'.repeat(121)}.bin`, '', 'a\ue000.bin', 'a\ufeff.bin',
+    'a\u115f.bin', 'a\u3164.bin', 'a\u3000.bin', 'a\u2800.bin', 'a\u00a0.bin', 'a\uffa0.bin'];
 const NAMES = ['game.bin', 'Game (USA).BIN', 'Starlit (English).img', '日本語 [T+En].iso', 'contest.bin', 'Console.bin', 'com10.bin', 'a.b.c.bin',
     `${'x'.repeat(120)}.bin`, '-game-.bin', 'Game\uff0f2.bin'];
 

@@ -53,6 +53,7 @@ class Model:
         self.image = self.second = self.panel = self.title = ''
         self.edited = False
         self.saving: Saving | None = None
+        self.waits = False
         self.done: list[Edit] = []
         self.undone: list[Edit] = []
         self.typed = 9
@@ -121,6 +122,11 @@ class Model:
             self.image = name
             self.panel = 'disc' if self.text() == NEW else 'script'
         return True
+
+    def close(self) -> None:
+        """The image is closed, with all that was done with it."""
+        self.image = self.second = self.panel = self.title = ''
+        self.edited, self.done, self.undone = False, [], []
 
     def begin(self, card: str, due: bytes) -> None:
         self.saving = Saving(card, due)

@@ -7,6 +7,7 @@ import { calls, core, page } from './page.mjs';
 
 const { linesGivingWay } = await core('script/merge_lines.js');
 const { modelInParts } = await core('script/model.js');
+const { mergeOf } = await page('app/merging.js');
 const { ReplacedFiles } = await page('app/replaced_files.js');
 const { ScriptLines } = await page('app/script_lines.js');
 
@@ -185,18 +186,28 @@ test('line ends of Windows are line ends, and a text ends as it did', () => {
     assert.equal(lines.text(), 'cdpatch 1\nrebuild 2\n');
 });
 
-test('lines that come a second time take the place of those that set the same bytes, and nothing else gives way', () => {
+const merged = async (lines, come) => (await mergeOf(lines, come))();
+
+test('lines that come a second time take the place of those that set the same bytes, and nothing else gives way', async () => {
     const lines = linesOf('cdpatch 1\n# mine\nset 9 4 41 was 20\n');
     const come = ['set 5 0 414141 was 202020', 'set 5 10 4242 was 2020', 'set 7 2047 4343 was 2020'];
-    assert.deepEqual(lines.merge(come), { added: 3, replaced: 0, same: 0 });
+    assert.deepEqual(await merged(lines, come), { added: 3, replaced: 0, same: 0 });
     lines.add(['set 5 11 5A was 42'], 'bytes');
     lines.add(['fill 7 2040 20 00', 'set 5 2 5A5A was 4120'], 'bytes');
     const before = lines.text();
-    assert.deepEqual(lines.merge(['set 5 0 4445 was 2020', 'set 5 10 4646 was 2020', come[2], 'set 8 5 47 was 20']), { added: 1, replaced: 2, same: 1 });
+    assert.deepEqual(await merged(lines, ['set 5 0 4445 was 2020', 'set 5 10 4646 was 2020', come[2], 'set 8 5 47 was 20']), { added: 1, replaced: 2, same: 1 });
     assert.equal(lines.text(), ['cdpatch 1', '# mine', 'set 9 4 41 was 20', 'set 5 0 4445 was 2020', 'set 5 10 4646 was 2020', come[2],
         'fill 7 2040 20 00', 'set 5 2 5A5A was 4120', 'set 8 5 47 was 20', ''].join('\n'));
     lines.undo();
     assert.equal(lines.text(), before);
+});
+
+test('what is typed while lines come in stays', async () => {
+    const lines = linesOf('cdpatch 1\nset 5 0 41 was 20\n');
+    const coming = mergeOf(lines, ['set 5 0 42 was 20']);
+    lines.add(['rebuild 7'], 'bytes');
+    assert.deepEqual((await coming)(), { added: 0, replaced: 1, same: 0 });
+    assert.equal(lines.text(), 'cdpatch 1\nset 5 0 42 was 20\nrebuild 7\n');
 });
 
 test('a file that is replaced once more leaves no line of its earlier replacement', () => {
@@ -225,22 +236,22 @@ test('a file of another disc leaves the lines for a file of the same path', () =
     assert.equal(lines.text(), 'cdpatch 1\nset 7 0 42 was 20\nset 5 0 43 was 20\n');
 });
 
-test('what an import or a replacement made gives way where it is met in part, and what was typed does not', () => {
+test('what an import or a replacement made gives way where it is met in part, and what was typed does not', async () => {
     const lines = linesOf('cdpatch 1\n');
     lines.add(['set 5 0 414141 was 202020'], '');
     lines.add(['set 6 0 414141 was 202020'], 'bytes');
-    assert.deepEqual(lines.merge(['set 5 2 4242 was 2020', 'set 6 2 4242 was 2020']), { added: 1, replaced: 1, same: 0 });
+    assert.deepEqual(await merged(lines, ['set 5 2 4242 was 2020', 'set 6 2 4242 was 2020']), { added: 1, replaced: 1, same: 0 });
     assert.equal(lines.text(), 'cdpatch 1\nset 5 2 4242 was 2020\nset 6 0 414141 was 202020\nset 6 2 4242 was 2020\n');
     lines.noteSaved();
-    assert.deepEqual(lines.merge(['set 5 2 4242 was 2020']), { added: 0, replaced: 0, same: 1 });
+    assert.deepEqual(await merged(lines, ['set 5 2 4242 was 2020']), { added: 0, replaced: 0, same: 1 });
     assert.ok(lines.isSaved());
 });
 
-test('lines that give way to others are found in their order, and taken out by one edit', () => {
+test('lines that give way to others are found in their order, and taken out by one edit', async () => {
     const lines = linesOf('cdpatch 1\n# mine\nfill 5 0 3 00\n');
     lines.add(['set 6 1 4141 was 2020'], '');
     lines.add(['set 5 0 41 was 20', 'set 6 3 42 was 20', 'set 7 0 43 was 20'], 'bytes');
-    const found = linesGivingWay(lines, ['set 6 2 2020 was 2020', 'set 5 0 202020 was 202020'], ({ text }) => lines.made.has(text));
+    const found = await linesGivingWay(lines, ['set 6 2 2020 was 2020', 'set 5 0 202020 was 202020'], ({ text }) => lines.made.has(text));
     assert.deepEqual(found.map(({ number }) => number), [4, 5, 6]);
     const before = lines.text();
     assert.equal(lines.remove(new Set(found.map(({ text }) => text))), 3);

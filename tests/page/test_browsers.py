@@ -37,7 +37,7 @@ class Browsers(unittest.TestCase):
         browser.give('#files', [files['other']])
         browser.wait('#sheet h2', 'other.bin')
         self.press(browser, 'Cancel')
-        self.press(browser, 'Apply and save')
+        self.press(browser, 'Save with the 5 changes that fit')
         self.assertEqual(browser.downloaded('game (patched).bin').read_bytes(), out)
         self.assertEqual(decoders.differing(browser.run), [])
         self.play(browser)
@@ -73,7 +73,7 @@ class Browsers(unittest.TestCase):
         browser.wait('#panel-script .tally')
         before = browser.memory()
         for _ in range(2):
-            self.press(browser, 'Apply and save')
+            self.press(browser, 'Save with the other')
             browser.downloaded('long (patched).bin').unlink()
             self.press(browser, 'Back to Check')
         self.assertLess(browser.memory() - before, 100e6)

@@ -115,6 +115,31 @@ class Files(PageTest):
         self.browser.wait('#findings .say', 'that replaced the file before')
         self.assertIn('The new file has the same bytes.', self.browser.text('#findings .say'))
 
+    def test_a_file_that_is_replaced_in_a_later_session_has_the_lines_of_that_one_only(self) -> None:
+        image = self.begin(discs.game())
+        self.choose(MESSAGES)
+        first = self.give(discs.messages()[:1500])
+        self.browser.wait('#findings .say.good', 'gets 1,500')
+        saved = discs.written(session=self.script_of(image, first))['session']
+        self.setUp()
+        self.open_files(image, saved)
+        self.browser.wait('#panel-script .say.good', 'all fit')
+        self.browser.click('#tab-disc')
+        self.browser.click('#findings [data-tab=files]')
+        self.choose(MESSAGES)
+        self.press('Extract')
+        self.browser.wait('#findings .say.good', 'This is the file on the disc, without the changes of the script.')
+        path = self.give(discs.messages().replace(discs.START, b'Start   ')[:1400])
+        self.browser.wait('#findings .say.good', 'that replaced the file before')
+        self.press('Open Script')
+        self.assertEqual(self.script_text(), self.script_of(image, path))
+        self.open_script(discs.written(mine=f'cdpatch 1\nfill {discs.first_block()} 9 2 00\n')['mine'])
+        self.browser.click('#tab-disc')
+        self.give(discs.messages()[:1300])
+        self.browser.wait('#findings .say.warn', 'Line 2 writes in this file too, so it will not be exactly the new one.')
+        self.press('Go to line 2')
+        self.browser.wait('#panel-script')
+
     def test_what_cannot_be_replaced_is_said(self) -> None:
         self.begin(discs.scratched())
         self.choose(MESSAGES)

@@ -7,6 +7,7 @@ import discs
 from chromium import WIDTHS
 from pages import GATE, UNSEEN, PageTest, applied
 from sector import SYNC
+from states import another
 
 SAID = '#panel-script .say'
 ALL_FIT = 'english.txt: 6 changes, all fit game.bin.'
@@ -75,7 +76,7 @@ class Next(PageTest):
     def test_how_many_changes_fit_is_said(self) -> None:
         files = {**self.files(), **discs.written(one='cdpatch 1\nrebuild 1\n', none='cdpatch 1\nset 9999 0 41\n')}
         self.open_image(files['scratched'])
-        for name, said in (('refused', 'refused.txt: 5 of 8 changes fit scratched.bin, 3 do not.'), ('one', 'one.txt: 1 change, which fits scratched.bin.'),
+        for name, said in (('refused', 'refused.txt: 5 of 8 changes fit scratched.bin, 3 do not.'), ('one', 'Nothing shows whether the change of one.txt fits scratched.bin.'),
                            ('none', 'none.txt: 1 change, which does not fit scratched.bin.')):
             self.open_files(files[name])
             self.browser.wait(SAID, said)
@@ -85,7 +86,7 @@ class Next(PageTest):
         audio = SYNC[::-1] * 196
         files = discs.written(game=common.damaged(discs.game(), 60) + audio, hurt='cdpatch 1\nset 60 0 41 was 00\n', far='cdpatch 1\nset 9999 0 41\n',
                               sound=f'cdpatch 1\nset {len(discs.game()) // 2352} 0 41\n', other='cdpatch 1\nset 61 0 4141 was 9F9F\n',
-                              some='cdpatch 1\nset 60 0 41\nset 61 0 42\nset 61 1 4343 was 9F9F\n')
+                              some='cdpatch 1\nset 60 0 41\nset 61 0 42\nset 61 1 4343 was 9F9F\nset 61 9 41 was 00\n')
         self.open_image(files['game'])
         for name, why in (('hurt', '1 of 1 place is damaged. Repair the image first, or tick “Patch damaged sectors too”.'),
                           ('far', '1 of 1 place is not in this image. Another track, or another base?'),
@@ -97,9 +98,27 @@ class Next(PageTest):
             for words in ('Apply and save', 'Saves a new image', *([] if name == 'other' else ['Another release'])):
                 self.assertNotIn(words, shown)
         self.open_script(files['some'])
-        self.browser.wait(f'{SAID}.warn', '1 of 3 places holds other bytes. 1 of 3 places is damaged. Repair the image first')
+        self.browser.wait(f'{SAID}.warn', '1 of 4 places holds other bytes. 1 of 4 places is damaged. Repair the image first')
         self.browser.wait(f'{SAID}.warn', 'A new image can be saved without those changes.')
-        self.browser.wait(f'{SAID}.warn .btn', 'Apply and save')
+        self.browser.wait(f'{SAID}.warn .btn', 'Save with the 2 changes that fit…')
+
+    def test_a_script_of_which_nothing_shows_that_it_fits_is_not_presented_as_one_that_does(self) -> None:
+        files = discs.written(other=another(), game=discs.game(), english=discs.script(), refused=discs.refused(),
+                              unnamed='cdpatch 1\nfill 20 0 4 20\nrebuild 21\n', few='cdpatch 1\nfill 20 0 4 20\nset 99999 0 41\n')
+        cases = [('other', 'english', 'bad', 'None of the 4 changes of english.txt that name old bytes fits other.bin.', 'Save with the other 2 changes…', 'Go to line 4'),
+                 ('other', 'unnamed', 'warn', 'Nothing shows whether the 2 changes of unnamed.txt fit other.bin.', 'Apply and save…', 'Check again'),
+                 ('other', 'few', 'warn', 'Nothing shows whether the 2 changes of few.txt fit other.bin.', 'Save with the other change…', 'Go to line 3'),
+                 ('game', 'refused', 'warn', 'refused.txt: 6 of 8 changes fit game.bin, 2 do not.', 'Save with the 6 changes that fit…', 'Go to line 11')]
+        for image, script, tone, words, save, focused in cases:
+            with self.subTest(script):
+                self.setUp()
+                self.browser.drop('#drop', [files[image], files[script]])
+                self.browser.wait(f'{SAID}.{tone}', words)
+                self.browser.wait(f'{SAID}.{tone} .btn:not(.main)', save)
+                self.assertEqual(self.focused(), f'Check: {focused}')
+                self.assertFalse(self.browser.run("return document.querySelector('#panel-script .side .main') !== null"))
+                if image == 'other':
+                    self.assertNotIn('good-ink', self.browser.run("return document.querySelector('#panel-script .side').innerHTML"))
 
     def test_an_image_that_holds_all_that_the_script_writes_is_called_patched(self) -> None:
         files = self.files()

@@ -33,6 +33,8 @@ STATE = '''const text = css => document.querySelector(css)?.textContent ?? '';
         second: second && !second.closest('[hidden]:not(.panel)') ? second.textContent.replace('Second image: ', '') : '', unsaved: tag,
         asks: asked.defaultPrevented, bars: document.querySelectorAll('.progress').length, errors: caught.length,
         name: text('#panel-script header h2') }'''
+# Whether a script that fits in part was checked.
+SAVES = "[...document.querySelectorAll('#panel-script .side button')].some(it => it.checkVisibility() && it.innerText.startsWith('Save with'))"
 SPOTS = {'disc': ['#map', '.hex', '#findings button'], 'text': ['#find-text'], 'script': ['.editor textarea'],
          'publish': ['#patcher-title', '#patcher-note']}
 
@@ -69,9 +71,11 @@ class Random(PageTest):
         model = self.model
         if model.panel == 'player':
             return [self.back_to_publish, self.leave_player]
-        some = [self.give_image, self.give_script, self.drop_image]
+        some = [self.give_image, self.give_script, self.drop_image, self.give_table]
         if model.panel == '':
             return some
+        if model.image:
+            some += [self.close_image] + ([self.press_legend] * 2 if model.panel == 'disc' else [])
         some += [self.change_panel, self.change_panel, self.escape]
         if model.panel == 'script':
             some += [self.type_line, self.type_line, self.undo, self.redo, self.save_script]
@@ -122,12 +126,54 @@ class Random(PageTest):
         self.browser.drop('main', [self.paths[name]])
         self.after_image(name)
 
+    # A new text for the first place of スタート.
+    TABLE_LINE = f"set {discs.first_block()} 0 {'Start   '.encode().hex().upper()} was {discs.START.hex().upper()}"
+
+    def give_table(self) -> None:
+        if discs.START.hex().upper() in self.model.text():
+            return
+        path = common.folder('table') / 'new.tsv'
+        path.write_text(f'block\toffset\troom\ttext\tnew\n{discs.first_block()}\t0\t8\tスタート\tStart\n')
+        self.open_files(path)
+        if self.model.image:
+            self.after_table()
+        else:
+            self.browser.wait('#start-message .say' if self.browser.run('return document.querySelector("#start").checkVisibility()') else '#messages .say',
+                              'open the disc image that')
+            self.model.waits = True
+
+    def after_table(self) -> None:
+        self.model.panel = 'text'
+        self.browser.wait('#panel-text .say', 'added to the script.' if self.TABLE_LINE not in self.model.text() else 'in the script already')
+        if self.TABLE_LINE not in self.model.text():
+            self.model.add_line(self.TABLE_LINE)
+        self.model.waits = False
+
+    def press_legend(self) -> None:
+        self.browser.run('const all = [...document.querySelectorAll(".legend button")]; all[Math.floor(arguments[0] * all.length)]?.click()', self.dice.random())
+
+    def close_image(self) -> None:
+        lost = self.model.unsaved() or self.model.edited
+        self.browser.run('document.querySelector("#disc-line .bare.tiny:last-child, #disc-line button.tiny").click()')
+        if self.model.saving:
+            self.browser.wait('#messages .say.warn', 'An image is being saved.')
+            return
+        if lost:
+            self.browser.wait('#sheet[open]', f'Close {self.model.image}?')
+            if self.dice.random() < 0.5:
+                self.browser.answer('Cancel')
+                return
+            self.browser.answer('Close it anyway')
+        self.model.close()
+
     def after_image(self, name: str) -> None:
         fresh = self.model.image == ''
         if not self.model.open_image(name):
             self.browser.wait('#messages .say.warn', f'Not opened: {name}.')
         elif fresh:
             self.wait_for_hash()
+            if self.model.waits:
+                self.after_table()
         else:
             self.browser.answer('Repair')
             self.browser.wait('#second-body .tally, #second-body .say.good')
@@ -209,7 +255,7 @@ class Random(PageTest):
             return
         self.back_to_check()
         self.press('Check')
-        self.browser.wait('#panel-script .side :is(.tally, .say.good)', 'fit')
+        self.browser.wait('#panel-script .side :is(.tally, .say.good, .say.warn)', 'fit')
 
     def script_file(self) -> Path:
         return discs.written(script=self.model.text())['script']
@@ -243,7 +289,7 @@ class Random(PageTest):
         self.hold()
         due = applied(self.paths[self.model.image], self.script_file())[2]
         self.back_to_check()
-        self.press('Apply and save')
+        self.press('Save with' if self.browser.run(f'return {SAVES}') else 'Apply and save')
         self.begun()
         self.model.begin('script', due)
 

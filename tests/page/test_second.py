@@ -57,6 +57,28 @@ class Second(PageTest):
             .querySelector('.n').innerText'''
         return int(self.browser.run(script, name).replace(',', ''))
 
+    def pressed_entries(self) -> list[str]:
+        return list(self.browser.run("return [...document.querySelectorAll('.legend button[aria-pressed=true]')].map(it => it.innerText)"))
+
+    def test_an_entry_of_the_legend_is_pressed_only_as_long_as_its_map_is_shown(self) -> None:
+        files = discs.written(game=with_faults((40, 9)), other=with_faults((60, 9)), plain=image_of([b'%d' % block for block in range(40)]))
+        for entry, answer in (('data damaged', 'Compare'), ('Mode 1', 'Repair game.bin'), ('no sync', 'Open it instead')):
+            with self.subTest(answer):
+                self.setUp()
+                self.open_image(files['game'])
+                self.browser.run("[...document.querySelectorAll('.legend button')].find(it => it.innerText.includes(arguments[0])).click()", entry)
+                self.assertIn(entry, self.pressed_entries()[0])
+                self.open_files(files['plain' if answer == 'Open it instead' else 'other'])
+                self.browser.answer(answer)
+                if answer == 'Open it instead':
+                    self.browser.wait('#disc-line .lead', 'All 40 Mode 1 sectors are sound')
+                else:
+                    self.browser.wait('.tally')
+                waited(lambda: self.pressed_entries() == [], 'an entry is pressed')
+                self.browser.click('#tab-script')
+                self.open_files(discs.written(one='cdpatch 1\nrebuild 1\n')['one'])
+                self.browser.wait('#panel-script .side .say', 'fit')
+
     def test_a_repair_takes_what_is_damaged_here_and_sound_there_and_nothing_else(self) -> None:
         first = bytearray(with_faults((40, 9), (60, 9), (80, 9)))
         first[100 * SECTOR_SIZE:100 * SECTOR_SIZE + 12] = bytes(12)
@@ -269,6 +291,25 @@ class Second(PageTest):
         self.pair(image, missing)
         self.browser.wait('#second-body .say.bad', 'The second image is shifted by 2 sectors from block 100 on.')
         self.browser.wait('#second-body .say.bad', '2 sectors before it are missing. Nothing is taken.')
+
+    def test_a_dump_that_lacks_sectors_of_its_first_half_or_has_more_is_one_of_the_same_disc(self) -> None:
+        image, sound = with_faults((40, 9)), with_faults()
+        missing = sound[:60 * SECTOR_SIZE] + sound[67 * SECTOR_SIZE:]
+        more = sound[:60 * SECTOR_SIZE] + sound[50 * SECTOR_SIZE:]
+        for dump, words, shift, why in ((missing, 'It has 7 sectors fewer than game.bin.', 'by 7 sectors from block 60 on.', '7 sectors before it are missing.'),
+                                        (more, 'It has 10 sectors more than game.bin.', 'by 10 sectors from block 60 on.', '10 sectors before it are too many.')):
+            for names in (('game', 'other'), ('other', 'game')):
+                with self.subTest(words, names=names):
+                    self.setUp()
+                    files = discs.written(game=image, other=dump)
+                    self.open_image(files[names[0]])
+                    self.open_files(files[names[1]])
+                    if names[0] == 'game':
+                        self.browser.wait('#sheet', words)
+                    self.browser.answer('Repair game.bin' if names[0] == 'game' else 'Repair other.bin')
+                    who = 'The second image' if names[0] == 'game' else 'other.bin'
+                    self.browser.wait('#second-body .say.bad', f'{who} is shifted {shift}')
+                    self.browser.wait('#second-body .say.bad', f'Its addresses say so: {why}')
 
     def test_an_image_of_another_part_of_the_disc_can_only_be_opened_instead(self) -> None:
         users = [b'%d' % block for block in range(40)]

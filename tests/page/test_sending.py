@@ -100,8 +100,8 @@ class Sending(PageTest):
         self.assertIn(f'Made with esbuild {esbuild}, zlib {zlib.ZLIB_RUNTIME_VERSION}, {wasm_opt}.',
                       self.browser.run('return document.querySelector("#about").textContent'))
 
-    def test_the_page_has_at_most_400_kilobytes_and_ends_where_data_begin(self) -> None:
-        self.assertLessEqual(common.PAGE.stat().st_size, 440000)
+    def test_the_page_has_at_most_520_kilobytes_and_ends_where_data_begin(self) -> None:
+        self.assertLessEqual(common.PAGE.stat().st_size, 520000)
         self.assertTrue(page().endswith('</script>\n<plaintext hidden id="data">\n'))
 
 

@@ -52,6 +52,59 @@ class TextsTable(PageTest):
         self.press('Apply and save')
         self.assertEqual(self.browser.downloaded('game (patched).bin').read_bytes(), applied(image, discs.written(script=written)['script'])[2])
 
+    def test_a_table_that_is_opened_before_its_image_waits_for_it(self) -> None:
+        image = discs.written(game=told())['game']
+        table, tbl, dat = self.table(image, {2: 'The game starts.', 3: 'Save?'}), image.with_name('game.tbl'), image.with_name('redump.dat')
+        tbl.write_text('10=あ\n11=い\n')
+        dat.write_text(dat_of(('Game.bin', told(), '')))
+        self.browser.drop('#drop', [table, dat, image])
+        self.browser.wait('#panel-text .say.good', '2 lines added to the script.')
+        self.setUp()
+        self.open_files(table)
+        self.browser.wait('#start-message .say', 'mine.tsv: open the disc image that it is for.')
+        self.browser.wait('#start-message .btn', 'Open the image…')
+        self.open_files(image)
+        self.browser.wait('#panel-text .say.good', '2 lines added to the script.')
+        self.setUp()
+        self.open_files(tbl)
+        self.browser.wait('#start-message .say', 'game.tbl: open the disc image that it is for.')
+        self.open_files(image)
+        self.browser.wait('#panel-text .say.good', 'Loaded: game.tbl')
+        self.setUp()
+        self.browser.drop('#drop', [dat, image])
+        self.browser.wait('#messages .say.good', 'The open image is looked up in it.')
+
+    def test_codes_that_new_texts_leave_out_are_counted(self) -> None:
+        text = '勇者は{0D}{0A}村人と{0D}{0A}話した。長い旅がはじまる。{0A}次の朝'
+        data = b'\0'.join(text.replace('{0D}', '\r').replace('{0A}', '\n').encode('cp932') for _ in range(3)) + b'\0'
+        image = self.begin(common.image_of([b'', data]))
+        rows = [f'1\t{number * (len(data) // 3)}\t{text}\tHero{{0D0A}}talked {number}' for number in range(3)]
+        table = image.with_name('mine.tsv')
+        table.write_text('\n'.join(['block\toffset\ttext\tnew', *rows, '']))
+        self.give(table)
+        self.browser.wait('#panel-text .say.warn', 'All 3 new texts fit.')
+        said = self.browser.text('#panel-text .say.warn')
+        for words in ('New texts leave out {0D} 3 times: rows 2, 3, 4.', 'New texts leave out {0A} 6 times: rows 2, 3, 4.'):
+            self.assertIn(words, said)
+
+    def test_many_rows_leave_the_page_free(self) -> None:
+        """No task takes most of the time."""
+        texts, rows = [], ['block\toffset\troom\tencoding\ttext\tnew']
+        for number in range(6000):
+            rows.append(f'{number // 64}\t{number % 64 * 32}\t31\tCP932\tゲームを始める{number:05}\tStart {number}')
+            texts.append(f'ゲームを始める{number:05}'.encode('cp932').ljust(32, b'\0'))
+        blocks = [b''.join(texts[at:at + 64]) for at in range(0, len(texts), 64)]
+        image = self.begin(common.image_of(blocks))
+        table = image.with_name('mine.tsv')
+        table.write_text('\n'.join([*rows, '']))
+        self.browser.run("""Object.assign(globalThis, { begun: performance.now(), last: performance.now(), longest: 0 });
+            setInterval(() => {
+                [longest, last] = [Math.max(longest, performance.now() - last), performance.now()];
+            })""")
+        self.give(table)
+        self.browser.wait('#panel-text .say.good', '6,000 lines added to the script.')
+        self.assertLess(self.browser.run('return longest / (performance.now() - begun)'), 0.4)
+
     def test_a_corrected_table_takes_the_place_of_the_first_one(self) -> None:
         image = self.begin(told())
         self.give(self.table(image, {2: 'The game starts.', 3: 'Save?'}))
@@ -157,7 +210,7 @@ class TextsTable(PageTest):
         files = discs.written(game=game, hurt=hurt, other=common.image_of([b'other'] * 20))
         self.open_list(dat_of(('Starlit Detective (Japan).bin', game, ''), ('Hurt.bin', hurt, 'status="baddump"')))
         self.browser.wait('#start-message .say.good', 'It lists 2 known dumps.')
-        for name, said in (('game', 'verified: Starlit Detective (Japan).bin'), ('hurt', 'known as a bad dump: Hurt.bin'), ('other', 'in none of the lists')):
+        for name, said in (('game', 'known dump: Starlit Detective (Japan).bin'), ('hurt', 'known as a bad dump: Hurt.bin'), ('other', 'in none of the lists')):
             self.open_image(files[name])
             self.browser.wait('#disc-line .tag', said)
             for panel in ('text', 'disc'):
@@ -182,7 +235,7 @@ class TextsTable(PageTest):
         self.open_image(discs.written(game=discs.game())['game'])
         self.assertFalse(self.browser.run("return document.querySelector('#disc-line .tag') !== null"))
         self.open_list(dat_of(('Starlit.bin', discs.game(), '')), 'games.xml')
-        self.browser.wait('#disc-line .tag.good', 'verified: Starlit.bin')
+        self.browser.wait('#disc-line .tag.good', 'known dump: Starlit.bin')
 
     def test_a_list_that_is_cut_is_not_taken(self) -> None:
         self.open_image(discs.written(game=discs.game())['game'])

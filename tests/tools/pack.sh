@@ -155,7 +155,7 @@ test_refusals() {
     refuses page 'it has another end or another script' page/page.html sed 's/<p id/<script>x<\/script><p id/'
     refuses page 'stands there 0 times, and not once' page/page.html sed '/stylesheet/d'
     refuses page 'stands there 2 times, and not once' page/page.html sed 's/^<meta.*/&&/'
-    refuses page 'bytes, more than 440000' page/style.css sh -c 'yes "p { color: black; }" | head -n 60000'
+    refuses page 'bytes, more than 520000' page/style.css sh -c 'yes "p { color: black; }" | head -n 60000'
     mv module.txt moved
     judge 'the join refuses a module of which nothing says what made it' \
         eval '! join page out && grep -qF "module.txt: No such file" errors'

@@ -4,7 +4,7 @@ import { bytesOfLines } from '../core/bytes.js';
 import { natureOf } from '../core/disc/file_type.js';
 import { Fault } from '../core/faults.js';
 import { passFile, passUser } from '../core/images/convert.js';
-import { blocksBeyond } from '../core/images/common_part.js';
+import { blocksBeyond, shiftOf, shiftText } from '../core/images/common_part.js';
 import { mergeImages } from '../core/images/merge.js';
 import { LAST_BASE } from '../core/module/numbers.js';
 import { kindName } from '../core/module/records.js';
@@ -96,7 +96,8 @@ export async function mergeJob(run) {
     if (repair.refused) {
         const i = repair.different.indexOf(Math.max(...repair.different));
         const sound = `${repair.different[i]} of ${repair.sectors} sectors are sound in ${name} and in ${others[i].name}`;
-        throw new Fault(`${sound}, and differ: one of them is patched, shifted or of another disc`);
+        const shift = await shiftOf(run.calls, image, others[i], repair.differing[i]);
+        throw new Fault(`${sound}, and differ: ${shift ? shiftText(shift) : 'one of them is patched, shifted or of another disc'}`);
     }
     repair.parts.forEach((common, i) => sayOtherRange(run, image, others[i], common, out.name));
     others.filter((_, i) => repair.tails[i]).forEach(other => run.say(`${TAILS} in ${other.name}; those of ${name} are kept`));

@@ -12,6 +12,9 @@ import { SECTOR_SIZE, addressIn, blockAt } from '../sectors/sector.js';
  * @typedef {{ from: number, to: number, later: number }} CommonPart
  */
 
+/** By how many blocks an image is shifted, and from which block on. */
+/** @typedef {{ by: number, first: number }} Shift */
+
 /** Of so many sectors the addresses are read to find out whether an image is shifted. */
 const MOST_SHIFTS_READ = 64;
 
@@ -68,28 +71,58 @@ export function isSameRange(old, other) {
 }
 
 /**
- * By how many blocks the sectors of another image are shifted that are sound and differ, and the first block of those: what the addresses
- * of most of some say. Null if these say no such thing.
+ * Which of two images is shifted, of which sound sectors differ: by how many blocks, below 0 if sectors of it are too many, and from
+ * which block on; what the addresses of most of some of these sectors say. Null if they say no such thing.
  * @param {Calls} calls
  * @param {DiscImage} old
  * @param {DiscImage} other
  * @param {Run[]} differing
+ * @returns {Promise<(Shift & { image: DiscImage }) | null>}
  */
 export async function shiftOf(calls, old, other, differing) {
-    const { later } = commonPart(old, other);
     const blocks = someBlocks(differing);
-    /** @type {Map<number, { by: number, first: number, count: number }>} */
-    const shifts = new Map();
-    for (const block of blocks) {
-        const place = block - old.base;
-        const address = addressIn(await readBytes(other.reader, (place - later) * SECTOR_SIZE, SECTOR_SIZE), 0);
-        const by = (blockAt(calls, address) ?? NaN) - place - firstBlock(old);
-        const shift = shifts.get(by) || { by, first: block, count: 0 };
-        shift.count += 1;
-        shifts.set(by, shift);
+    for (const image of [other, old]) {
+        const shift = await shiftIn(calls, image, blocks, firstBlock(old) - old.base);
+        if (shift !== null) return { ...shift, image };
     }
-    const [most] = [...shifts.values()].sort((a, b) => b.count - a.count);
-    return most && most.by && 2 * most.count > blocks.length ? most : null;
+    return null;
+}
+
+/**
+ * A shift in words.
+ * @param {Shift & { image: { name: string } }} shift
+ */
+export function shiftText({ image, by, first }) {
+    const count = Math.abs(by);
+    const [sectors, are] = count === 1 ? ['1 sector', 'is'] : [`${count} sectors`, 'are'];
+    return `from block ${first} on ${image.name} is shifted, for ${sectors} before it ${are} ${by > 0 ? 'missing' : 'too many'}`;
+}
+
+/**
+ * By how many blocks the addresses of most of some sectors of an image are later than its first block says, and the first block of those.
+ * @param {Calls} calls
+ * @param {DiscImage} image
+ * @param {number[]} blocks
+ * @param {number} before how many blocks earlier they are on the disc: an image that begins before block 0 is counted from there
+ * @returns {Promise<Shift | null>}
+ */
+async function shiftIn(calls, image, blocks, before) {
+    const shiftAt = async (/** @type {number} */ block) => {
+        const sector = await readBytes(image.reader, (block + before - firstBlock(image)) * SECTOR_SIZE, SECTOR_SIZE);
+        return (blockAt(calls, addressIn(sector, 0)) ?? NaN) - block - before;
+    };
+    /** @type {number[]} */
+    const shifts = [];
+    for (const block of blocks) shifts.push(await shiftAt(block));
+    const by = shifts.find(it => it !== 0 && 2 * shifts.filter(other => other === it).length > blocks.length);
+    if (by === undefined) return null;
+    let [low, first] = [shifts.indexOf(by) - 1, shifts.indexOf(by)].map(i => blocks[Math.max(i, 0)]);
+    while (first - low > 1) {
+        const middle = (low + first) >> 1;
+        if (await shiftAt(middle) === by) first = middle;
+        else low = middle;
+    }
+    return { by, first };
 }
 
 /**

@@ -6,10 +6,8 @@ import { LINE_FEED, endsOfLines } from './line_words.js';
 import { faultOr } from './patch_run.js';
 
 /** @typedef {import('../module/calls.js').Calls} Calls */
-/**
- * A line with a patch: its number, the patch's first block, how many old bytes that names, null if it has none, and the line's bytes.
- * @typedef {{ number: number, block: number, old: number | null, line: Uint8Array }} PatchLine
- */
+/** @typedef {import('../module/calls.js').PatchRange} PatchRange */
+/** @typedef {PatchRange & { number: number, line: Uint8Array }} PatchLine a line with a patch: its number, its bytes, and what it writes */
 /** @typedef {{ head: Uint8Array, patches: PatchLine[] }} Lines the head line, and the patches in their order */
 
 /** Bytes of a text that are read at a time. Lines that fill them have no more patches than a run takes. */
@@ -57,8 +55,8 @@ class LineReader {
         for (const { number, start, size } of found) {
             const from = start - this.head.length - 1;
             this.calls.readLine(this.version, number, 0, from, size);
-            const { block, old } = this.calls.patchRange();
-            this.patches.push({ number: this.number + number - 1, block, old, line: lines.subarray(from, from + size) });
+            const patch = this.calls.patchRange();
+            this.patches.push({ ...patch, number: this.number + number - 1, line: lines.subarray(from, from + size) });
         }
         const hasEnd = lines.length === 0 || lines[lines.length - 1] === LINE_FEED;
         this.number += endsOfLines(lines, 0, lines.length) + Number(!hasEnd);
@@ -113,13 +111,22 @@ export function countOld(patches) {
 }
 
 /**
- * The same of the patches of a script without faults.
+ * The patches of a script without faults.
+ * @param {Calls} calls
+ * @param {string} script
+ */
+export function patchesOf(calls, script) {
+    const lines = readLines(calls, new TextEncoder().encode(script));
+    return lines instanceof Uint8Array ? [] : lines.patches;
+}
+
+/**
+ * How many patches of a script without faults name no old bytes, and how many old bytes the others name.
  * @param {Calls} calls
  * @param {string} script
  */
 export function oldBytesOf(calls, script) {
-    const lines = readLines(calls, new TextEncoder().encode(script));
-    return countOld(lines instanceof Uint8Array ? [] : lines.patches);
+    return countOld(patchesOf(calls, script));
 }
 
 /** Patches in their order, as a script of their own, which is not too long for a run. */

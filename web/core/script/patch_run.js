@@ -3,6 +3,7 @@
 import { ByteList, PieceCutter } from '../bytes.js';
 import { RUN_FLAG, STATUS, STEP } from '../module/records.js';
 import { ReadAhead } from '../read_ahead.js';
+import { isTurnDue, letOthersIn } from '../turns.js';
 
 /** @typedef {import('../module/calls.js').Calls} Calls */
 /** @typedef {import('../module/calls.js').Step} Step */
@@ -94,6 +95,7 @@ export async function runScript(calls, reader, script, { base, carry = false, wi
                 size <= near ? ahead.here(at, size) || await ahead.bytesOn(at, size) : null;
             await (bytes === null ? out.giveBytes() : out.join(at, bytes));
         }
+        if (isTurnDue()) await letOthersIn();
     }
     if (out !== null) await out.giveBytes();
     if (out !== null && status !== STATUS.FAILED) await out.keep(reader.size);

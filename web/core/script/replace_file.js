@@ -17,6 +17,7 @@ import { ScriptParts } from './script_writer.js';
 /** @typedef {import('../iso/files.js').WholeFile} WholeFile */
 /** @typedef {import('../jobs.js').Sharer} Sharer */
 /** @typedef {import('../jobs.js').Sharing} Sharing */
+/** @typedef {import('./model.js').UserRange} UserRange */
 /** @typedef {import('./sector_lines.js').Left} Left */
 /** @typedef {import('./script_writer.js').Script} Script */
 /** @typedef {Pick<VolumeFiles, 'entries' | 'udf' | 'own' | 'tables' | 'files'>} VolumeNames what a volume names, and its own blocks */
@@ -33,6 +34,17 @@ function extentRoom({ size }) {
 /** @param {FileEntry} extent */
 function extentKey({ block, size }) {
     return `${block} ${size}`;
+}
+
+/**
+ * Where the lines that replace a file write: in its sectors, and in the lengths that its records have.
+ * @param {Pick<WholeFile, 'extents'> & { names: VolumeNames }} file
+ * @returns {UserRange[]}
+ */
+export function placesOfFile({ extents, names }) {
+    const records = [...recordsOf(names.entries, extents).values()].flat();
+    return [...extents.map(extent => ({ block: extent.block, offset: 0, size: extentRoom(extent) })),
+        ...records.map(({ record: { block, offset } }) => ({ block, offset: offset + SIZE_FIELD.offset, size: SIZE_FIELD.length }))];
 }
 
 /**

@@ -1,9 +1,79 @@
 // The lines of a script that replace files of the disc: those of a file go when it is replaced once more.
 
+import { RESULT, VERB } from '../../core/module/records.js';
 import { linesOfText } from '../../core/script/line_words.js';
+import { patchesOf } from '../../core/script/long_script.js';
+import { userPlace } from '../../core/script/model.js';
+import { passPatched } from '../../core/script/patches.js';
+import { Refusal, readScript } from '../../core/script/script.js';
 
+/** @typedef {import('../../core/module/calls.js').PatchRange} PatchRange */
 /** @typedef {import('../../core/bytes.js').Reader} Reader */
+/** @typedef {import('../../core/script/model.js').UserRange} UserRange */
 /** @typedef {import('./script_lines.js').ScriptLines} ScriptLines */
+/** @typedef {{ number: number, text: string, patch: PatchRange }} Line */
+
+/** A script may have the lines of so many earlier replacements of a file. */
+const MOST_RUNS = 8;
+
+/**
+ * The lines of a script that write a byte of some places, in their order.
+ * @param {ScriptLines} script
+ * @param {UserRange[]} places
+ * @returns {Line[]}
+ */
+export function linesIn({ calls, lines, long }, places) {
+    const isIn = (/** @type {PatchRange} */ patch) => patch.size > 0 && places.some(place =>
+        userPlace(patch) < userPlace(place) + place.size && userPlace(patch) + patch.size > userPlace(place));
+    if (!long) return lines.flatMap(({ number, text, patch }) => patch !== null && isIn(patch) ? { number, text, patch } : []);
+    const found = patchesOf(calls, long.text).filter(isIn).sort((a, b) => a.number - b.number);
+    return found.map(patch => ({ number: patch.number, text: new TextDecoder().decode(patch.line), patch }));
+}
+
+/**
+ * Whether a line writes nothing but bytes of some places, and names the old ones: so does each line that replaces a file.
+ * @param {Line} line
+ * @param {UserRange[]} places of the file
+ */
+function mayReplace({ patch }, places) {
+    return patch.verb === VERB.SET && patch.old !== null && places.some(place =>
+        userPlace(patch) >= userPlace(place) && userPlace(patch) + patch.size <= userPlace(place) + place.size);
+}
+
+/**
+ * Those of some lines whose old bytes an image has.
+ * @param {ScriptLines} script
+ * @param {{ reader: Reader, base: number }} image
+ * @param {Line[]} lines
+ */
+async function fittingLines(script, image, lines) {
+    const text = [`cdpatch ${script.versionName() || 2}`, ...lines.map(line => line.text), ''].join('\n');
+    const read = await readScript(script.calls, [new TextEncoder().encode(text)]);
+    if (read instanceof Refusal) return [];
+    const { outcomes } = await passPatched(script.calls, image.reader, read, { base: image.base, carry: true });
+    return outcomes.flatMap(({ number, result }) => result === RESULT.OK ? lines[number - 2] : []);
+}
+
+/**
+ * The lines of a script that have replaced a file, or part of it, of this disc: they write in it alone, and their old bytes are there.
+ * A line for another disc finds other bytes there. Throws a Fault.
+ * @param {ScriptLines} script
+ * @param {{ reader: Reader, base: number }} image
+ * @param {UserRange[]} places of the file
+ */
+export async function linesReplacing(script, image, places) {
+    let left = linesIn(script, places).filter(line => mayReplace(line, places));
+    /** @type {Line[]} */
+    let found = [];
+    // Of two lines that replace the same bytes of the disc, only one fits in a run.
+    for (let run = 0; run < MOST_RUNS && left.length > 0; run++) {
+        const fitting = await fittingLines(script, image, left);
+        found = found.concat(fitting);
+        const known = new Set(fitting);
+        left = fitting.length > 0 ? left.filter(line => !known.has(line)) : [];
+    }
+    return found.map(({ text }) => text);
+}
 
 /** The lines that were added last for each file of a disc. Those for the files of another disc stay. */
 export class ReplacedFiles {
@@ -26,10 +96,11 @@ export class ReplacedFiles {
      * @param {Reader} disc the image of it
      * @param {string} path
      * @param {string[]} texts
+     * @param {string[]} [earlier] lines that replaced it in an earlier session
      */
-    replace(script, disc, path, texts) {
+    replace(script, disc, path, texts, earlier = []) {
         const known = this.linesOf(disc);
-        const before = new Set(known.get(path));
+        const before = new Set(earlier.concat(known.get(path) || []));
         known.set(path, texts);
         const lines = linesOfText(script.text());
         const kept = lines.filter(text => !before.has(text));

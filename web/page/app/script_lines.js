@@ -3,13 +3,11 @@
 import { RESULT, isFault } from '../../core/module/records.js';
 import { afterColon, linesOfText, wordsOn } from '../../core/script/line_words.js';
 import { countOld, oldBytesOf } from '../../core/script/long_script.js';
-import { mergedLines } from '../../core/script/merge_lines.js';
 import { ScriptModel } from '../../core/script/model.js';
 import { lineDoesNotFit, lineFits, told } from '../texts/index.js';
 import { MOST_LINES, MOST_SHOWN, isLong } from './script_long.js';
 
 /** @typedef {import('../../core/module/calls.js').Calls} Calls */
-/** @typedef {import('../../core/script/merge_lines.js').Merged} Merged */
 /** @typedef {import('../../core/script/patches.js').Outcome} Outcome */
 /**
  * An edit: from a line on, which lines went and which came, and the script's names before and after it. One that was typed joins to the
@@ -139,22 +137,6 @@ export class ScriptLines extends ScriptModel {
         const at = before > 0 ? before - 1 : last;
         this.edit(at, 0, at < this.lines.length ? come : [...come, ''], typed);
         return at + come.length;
-    }
-
-    /**
-     * Puts lines in that set bytes, in place of those that set the same ones; all at the end if the others are not shown.
-     * @param {string[]} texts
-     * @returns {Merged}
-     */
-    merge(texts) {
-        if (this.long || this.head < 0) {
-            this.add(texts, '');
-            return { added: texts.length, replaced: 0, same: 0 };
-        }
-        const { lines, counts } = mergedLines(this, texts, ({ text }) => this.made.has(text));
-        for (const text of texts) this.made.add(text);
-        this.take(lines.join('\n'), this.name);
-        return counts;
     }
 
     /**

@@ -33,10 +33,11 @@ import { Store } from './store.js';
  * it takes (`repair`); a place was chosen (`place`);
  * the script has changed (`script`, with what brings the last one back if that is in no file, or null if it was typed in the panel
  * Script), or is to be checked (`check`); one of its lines was chosen (`line`, from 0); the encoding was chosen, or a table is new
- * (`encoding`); a list of known dumps is new (`dumps`); another panel is shown (`panel`); the data of a patcher are to be worked on
+ * (`encoding`); no image is being saved any more (`saved`);
+ * a list of known dumps is new (`dumps`); another panel is shown (`panel`); the data of a patcher are to be worked on
  * (`patcher`).
  * @typedef {'image' | 'closed' | 'survey' | 'surveyed' | 'hash' | 'files' | 'second' | 'repair' | 'place' | 'script' | 'check' | 'line' |
- *     'encoding' | 'dumps' | 'panel' | 'patcher'} Happening
+ *     'encoding' | 'saved' | 'dumps' | 'panel' | 'patcher'} Happening
  */
 
 /**
@@ -51,6 +52,12 @@ import { Store } from './store.js';
  * @typedef {{ open: (files: File[], aim: Aim) => Promise<void>, choose: (aim: Aim) => void, dropSays: () => Child[],
  *     takeBackBytes: () => boolean, saveScript: () => void }} Services
  */
+
+/**
+ * A file that was taken: `use` is called when the images that were opened with it are open, and if it needs an image when there is one.
+ * @typedef {{ needsImage: boolean, use: () => unknown }} Taken
+ */
+/** @typedef {(file: File) => Promise<boolean | Taken>} Taker what is asked of each file that is opened: whether it takes the file */
 
 /** @typedef {'disc' | 'text' | 'script' | 'publish'} PanelName */
 
@@ -100,6 +107,7 @@ export class App extends Store {
             return await this.run(job);
         } finally {
             this.saves -= 1;
+            if (this.saves === 0) this.tell('saved');
         }
     }
 

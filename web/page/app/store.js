@@ -21,6 +21,7 @@ import { ScriptLines } from './script_lines.js';
 /** @typedef {import('./state.js').Parts} Parts */
 /** @typedef {import('./state.js').Services} Services */
 /** @typedef {import('./state.js').Surveyed} Surveyed */
+/** @typedef {import('./state.js').Taker} Taker */
 
 /** While an image is read, its survey is told of again after this many milliseconds. */
 const TOLD_EVERY = 150;
@@ -64,7 +65,7 @@ export class Store {
         /** @type {Services} */
         this.services = { open: async () => {}, choose: () => {}, dropSays: () => [], takeBackBytes: () => false,
             saveScript: () => {} };
-        /** @type {((file: File) => Promise<boolean>)[]} */
+        /** @type {Taker[]} */
         this.takers = [];
         /** When the survey was last told of. */
         this.told = 0;
@@ -96,7 +97,7 @@ export class Store {
         return () => { this.services = before; };
     }
 
-    /** @param {(file: File) => Promise<boolean>} taker is asked of each file that is opened, and returns whether it has taken it */
+    /** @param {Taker} taker is asked of each file that is opened */
     addTaker(taker) {
         this.takers.push(taker);
     }

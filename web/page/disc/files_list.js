@@ -3,14 +3,14 @@
 import { Fault } from '../../core/faults.js';
 import { passFile } from '../../core/images/convert.js';
 import { filesLines, wholeFile } from '../../core/iso/files.js';
-import { replaceFile } from '../../core/script/replace_file.js';
+import { placesOfFile, replaceFile, sharingText } from '../../core/script/replace_file.js';
 import { linesMade } from '../../core/script/script_writer.js';
 import { leftText } from '../../core/script/sector_lines.js';
 import { blocksIn } from '../../core/sectors/runs.js';
 import { visible } from '../../core/texts/visible.js';
-import { ReplacedFiles } from '../app/index.js';
+import { ReplacedFiles, linesIn, linesReplacing } from '../app/index.js';
 import { fileReader } from '../open/index.js';
-import { downloadBytes } from '../save/index.js';
+import { downloadBytes, watched } from '../save/index.js';
 import * as texts from '../texts/index.js';
 import { counted, say, told } from '../texts/index.js';
 import { announce, button, element, fill, isCancelled, jobBar, keyed, messageParts, nameOf, notice } from '../ui/index.js';
@@ -19,7 +19,7 @@ import { runAt, seen, stemOf, term } from '../ui/index.js';
 /** @typedef {import('../app/state.js').App} App */
 /** @typedef {import('../app/state.js').Image} Image */
 /** @typedef {import('../../core/iso/files.js').FileEntry} FileEntry */
-/** @typedef {import('../../core/script/script_writer.js').Script} Script */
+/** @typedef {import('../../core/script/model.js').UserRange} UserRange */
 /** @typedef {import('../ui/fill.js').Child} Child */
 /** A file of the disc. */
 /** @typedef {{ path: string, shown: string, size: number, block: number, fault: string, entries: FileEntry[] }} Listed */
@@ -205,11 +205,14 @@ export class FilesList {
             /** @type {Blob[]} */
             const pieces = [];
             const { extents } = wholeFile(file.entries);
+            const names = this.app.files;
             const others = await passFile(this.app.crew, part, extents, watch, bytes => void pieces.push(new Blob([bytes])));
             const name = fileStem(file.path);
             downloadBytes(pieces, name);
             const doubt = others.length > 0 && told(texts.sectorsNotModeOne, { n: blocksIn(others) });
-            return notice(doubt ? 'warn' : 'good', say(texts.fileSaved, { name: nameOf(name) }), doubt);
+            const isChanged = names !== null && linesIn(this.app.script, placesOfFile({ extents, names })).length > 0;
+            return notice(doubt ? 'warn' : 'good', say(texts.fileSaved, { name: nameOf(name) }), doubt,
+                isChanged && element('p', {}, texts.fileAsOnDisc));
         });
     }
 
@@ -219,31 +222,44 @@ export class FilesList {
         this.input.value = '';
         const { chosen, app: { files } } = this;
         if (!fresh || chosen === null || files === null) return;
-        await this.work(texts.makingLines, texts.nothingAdded, async ({ part, reader }, watch) => {
+        await this.work(texts.makingLines, texts.nothingAdded, async (image, watch) => {
+            const { calls, crew, script } = this.app;
             const file = { ...wholeFile(chosen.entries), names: files };
-            const made = await replaceFile(this.app.calls, this.app.crew, part, file, fileReader(fresh), watch);
-            if (made.script === null) throw new Fault(leftText(made.left, part.name, MOST_RUNS));
-            return this.added(made.script, reader, chosen, fresh.size);
+            const made = await replaceFile(calls, crew, image.part, file, fileReader(fresh), watch);
+            if (made.script === null) throw new Fault(leftText(made.left, image.part.name, MOST_RUNS));
+            if (made.script.long) throw new Fault(texts.scriptTooLongToReplace);
+            const places = placesOfFile(file);
+            const reader = watched(image.reader, { ...watch, progress: () => {} });
+            const earlier = await linesReplacing(script, { reader, base: image.base }, places);
+            const come = linesMade(made.script);
+            const gone = this.app.changeScript(lines => this.replaced.replace(lines, image.reader, chosen.path, come, earlier));
+            return this.addedWords(chosen, fresh.size, come, { gone, places, sharing: made.sharing });
         });
     }
 
     /**
-     * Adds the lines that replace a file, in place of those that did before.
-     * @param {Script} script
-     * @param {import('../../core/bytes.js').Reader} disc
+     * What is said of the lines that replace a file, and of those that did before.
      * @param {Listed} file
      * @param {number} size the new one
+     * @param {string[]} come the lines
+     * @param {{ gone: number, places: UserRange[], sharing: string[] }} found how many earlier lines made way, where these write, and
+     *     the other files that have some of its blocks
      */
-    added(script, disc, { path, size: before }, size) {
-        const [{ app }, { patches, long }] = [this, script];
-        if (long) throw new Fault(texts.scriptTooLongToReplace);
-        const gone = app.changeScript(lines => this.replaced.replace(lines, disc, path, linesMade(script)));
-        const earlier = gone > 0 ? told(texts.earlierLinesGone, { n: gone }) : '';
-        if (patches === 0) return notice('plain', earlier || texts.nothingAdded, texts.newFileIsSame);
-        const head = told(texts.linesAdded, { n: patches });
-        announce(head);
+    addedWords({ path, size: before }, size, come, { gone, places, sharing }) {
+        const { app } = this;
+        const fresh = new Set(come);
+        const others = linesIn(app.script, places).filter(({ text }) => !fresh.has(text));
+        const words = [gone > 0 && told(texts.earlierLinesGone, { n: gone }), others.length > 0 && told(texts.otherLinesWrite,
+            { n: others.length, line: String(others[0].number) }),
+        ...sharing.slice(0, MOST_RUNS).map(other => `${sharingText(seen(path), seen(other))}.`)].flatMap(it => it || []);
+        const rest = words.map(text => element('p', {}, text));
+        if (come.length === 0) return notice('plain', texts.newFileIsSame, ...gone > 0 ? rest : [texts.nothingAdded, ...rest]);
+        const head = told(texts.linesAdded, { n: come.length });
+        announce([head, ...words].join(' '));
         const length = size === before ? [] : say(texts.fileChangesLength, { name: nameOf(path), before, after: size });
-        return notice('good', head, ...length, earlier && element('p', {}, earlier),
-            element('div', { class: 'row' }, button('slim', () => app.showPanel('script'), texts.openScriptPanel)));
+        const go = others.length > 0 && button('slim', () => app.goToLine(others[0].number - 1),
+            told(texts.goToLine, { line: String(others[0].number) }));
+        return notice(others.length + sharing.length > 0 ? 'warn' : 'good', head, ...length, ...rest,
+            element('div', { class: 'row' }, go, button('slim', () => app.showPanel('script'), texts.openScriptPanel)));
     }
 }

@@ -5,7 +5,7 @@ import { MARK, lookOf, lookOfKind } from '../app/index.js';
 import { downloadText } from '../save/index.js';
 import * as texts from '../texts/index.js';
 import { counted, say, told } from '../texts/index.js';
-import { button, copyButton, element, fill, keyed, oneStop, term } from '../ui/index.js';
+import { button, copyButton, element, fill, keyed, oneStop, setAttribute, term } from '../ui/index.js';
 import { FilesList } from './files_list.js';
 import { placeGuess, placeWords, placesOf } from './places.js';
 import { addressOf, findingAt } from './sector_text.js';
@@ -101,6 +101,8 @@ export class Findings {
         /** @type {[FindingsTab, string, string][]} */
         const all = [['files', texts.filesTab, this.files.count()], ['runs', texts.runsTab, runs], ['text', texts.asTextTab, '']];
         if (findings > 0) all.unshift(['findings', texts.findingsTab, counted(findings)]);
+        const [shown] = all.filter(([name]) => name === this.shown());
+        setAttribute(this.body, 'aria-label', shown[1]);
         fill(this.tabs, ...all.map(([name, label, count]) => keyed(name, element('button', {
             type: 'button', role: 'tab', 'data-tab': name, 'aria-selected': String(name === this.shown()), 'aria-controls': 'findings-body',
             click: () => this.choose(name),

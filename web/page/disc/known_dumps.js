@@ -36,13 +36,16 @@ async function takeList(app, file) {
         const known = new KnownDumps();
         await known.add(piecesOf(file));
         app.addDumps(known);
-        const next = app.image === null ? texts.openToLookUp : texts.imageIsLookedUp;
-        showNotice('good', say(texts.fileLoaded, { name: nameOf(file.name) }),
-            `${told(texts.dumpsListed, { n: known.dumps.size })} ${next}`);
+        const use = () => {
+            const next = app.image === null ? texts.openToLookUp : texts.imageIsLookedUp;
+            showNotice('good', say(texts.fileLoaded, { name: nameOf(file.name) }),
+                `${told(texts.dumpsListed, { n: known.dumps.size })} ${next}`);
+        };
+        return { needsImage: false, use };
     } catch (error) {
-        showNotice('bad', say(texts.notAListOfDumps, { name: nameOf(file.name) }), messageOf(error));
+        const use = () => showNotice('bad', say(texts.notAListOfDumps, { name: nameOf(file.name) }), messageOf(error));
+        return { needsImage: false, use };
     }
-    return true;
 }
 
 /**

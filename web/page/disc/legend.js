@@ -8,40 +8,48 @@ import { element, fill, oneStop } from '../ui/index.js';
 /** @typedef {import('../app/marks.js').Look} Look */
 
 export class Legend {
-    /** @param {(alone: number) => void} changed */
+    /** @param {() => void} changed another entry is pressed, or none */
     constructor(changed) {
         this.changed = changed;
-        this.alone = -1;
+        /** The name of the entry that is pressed, whose sectors alone are shown, or ''. */
+        this.alone = '';
         this.shown = '';
         this.part = element('div', { class: 'legend', role: 'group', 'aria-label': texts.pressLegendEntry });
         oneStop(this.part, 'button');
     }
 
+    /** Presses no entry any more. */
+    forget() {
+        this.alone = '';
+    }
+
     /**
-     * Findings of which there are none are shown only as long as there may be some.
+     * Shows the entries of a model, and returns the mark that alone is to be drawn, or -1 for all. Findings of which there are none are
+     * shown only as long as there may be some. Another model may not have the entry that is pressed: then all is drawn.
      * @param {MapModel} model
      */
     show({ looks, counts, known, marks }) {
         const shown = looks.filter(look => counts[look.mark] > 0 || (look.loud && known < marks.length));
-        const key = shown.map(look => look.name).join();
-        const other = key !== this.shown;
-        this.shown = key;
-        if (other) this.make(shown);
+        const pressed = shown.find(look => look.name === this.alone);
+        if (!pressed) this.forget();
+        const names = shown.map(look => look.name).join();
+        if (names !== this.shown) this.make(shown);
+        this.shown = names;
+        const entries = this.part.querySelectorAll('button');
         shown.forEach((look, i) => {
-            const entry = this.part.querySelectorAll('button')[i];
-            fill(/** @type {Element} */ (entry.querySelector('.n')), counted(counts[look.mark]));
-            entry.setAttribute('aria-pressed', String(look.mark === this.alone));
+            fill(/** @type {Element} */ (entries[i].querySelector('.n')), counted(counts[look.mark]));
+            entries[i].setAttribute('aria-pressed', String(look === pressed));
         });
+        return pressed ? pressed.mark : -1;
     }
 
     /** @param {Look[]} looks */
     make(looks) {
-        if (this.alone >= 0 && !looks.some(look => look.mark === this.alone)) this.press(this.alone);
         const entries = looks.map(look => {
             const dot = element('span', { class: 'dot' });
             dot.style.background = `var(${look.colour})`;
             const letter = look.letter === '' ? [] : [element('b', {}, look.letter), '\u00A0'];
-            return element('button', { type: 'button', 'aria-pressed': 'false', click: () => this.press(look.mark) },
+            return element('button', { type: 'button', 'aria-pressed': 'false', click: () => this.press(look.name) },
                 dot, ...letter, look.name, element('span', { class: 'n' }));
         });
         const loud = looks.findIndex(look => look.loud);
@@ -49,9 +57,9 @@ export class Legend {
         fill(this.part, ...entries.slice(0, before), element('span', { class: 'break' }), ...entries.slice(before));
     }
 
-    /** @param {number} mark */
-    press(mark) {
-        this.alone = this.alone === mark ? -1 : mark;
-        this.changed(this.alone);
+    /** @param {string} name of an entry */
+    press(name) {
+        this.alone = this.alone === name ? '' : name;
+        this.changed();
     }
 }

@@ -57,8 +57,10 @@ export class DiscMap {
     /**
      * Shows another model, or the same one after it has changed.
      * @param {MapModel | null} model
+     * @param {number} [alone] the only mark that is drawn, or -1
      */
-    show(model) {
+    show(model, alone = -1) {
+        this.alone = alone;
         if (model === null || this.model === null || model.marks.length !== this.model.marks.length) this.at = -1;
         this.model = model;
         // Less than a minute has no ruler. That is asked of the disc and not of the ruler, which depends on the room that it takes.

@@ -40,10 +40,7 @@ class DiscPanel {
             choose: (sector, how) => this.choose(sector, how.focus),
             goTo: () => this.sector.ask(),
         });
-        this.legend = new Legend(alone => {
-            this.map.alone = alone;
-            this.drawMap();
-        });
+        this.legend = new Legend(() => this.drawMap());
         this.findings = new Findings(app);
         this.sector = new SectorCard(app);
         this.words = element('span', { class: 'row' });
@@ -61,6 +58,7 @@ class DiscPanel {
     /** Another image is open, or none. */
     begin() {
         this.map.show(null);
+        this.legend.forget();
         this.sector.close();
         this.findings.opened.clear();
         this.findings.takeFiles(false);
@@ -72,8 +70,7 @@ class DiscPanel {
         const pair = this.second.model();
         const model = pair || survey.marks;
         this.findings.hide(pair !== null);
-        this.map.show(model);
-        this.legend.show(model);
+        this.map.show(model, this.legend.show(model));
         const isAsked = this.sector.part.contains(document.activeElement); // for a block, while a second image is read
         this.sector.part.hidden = this.app.second !== null && this.app.place.block < 0 && !isAsked;
         this.drawReadout();

@@ -27,9 +27,14 @@ import { readImage } from './survey_image.js';
 
 const SCRIPT_START = 1 << 16;
 
+/** @typedef {import('../app/state.js').Taken} Taken */
+/** @typedef {Taken & { name: string }} Waiting a file whose use waits for an image */
+
 /** @param {App} app */
 export function mountOpening(app) {
-    app.serve({ open: (files, aim) => openFiles(app, files, aim) });
+    /** @type {Waiting[]} */
+    const waiting = [];
+    app.serve({ open: (files, aim) => openFiles(app, files, aim, waiting) });
     mountChoosing(app);
     const example = element('button', { type: 'button', class: 'plain-link', id: 'open-example',
         click: () => app.open([exampleFile(app.calls)]) }, texts.tryExample);
@@ -40,15 +45,16 @@ export function mountOpening(app) {
  * @param {App} app
  * @param {File[]} files
  * @param {Aim} aim
+ * @param {Waiting[]} waiting files that were opened before an image
  */
-async function openFiles(app, files, aim) {
+async function openFiles(app, files, aim, waiting) {
     if (files.length === 0) return;
     endMessages();
     const { services, image } = app;
     try {
         /** @type {string[]} */
         const kinds = [];
-        for (const file of files) kinds.push(await takenAs(app, file));
+        for (const file of files) kinds.push(await takenAs(app, file, waiting));
         const others = files.filter((_, i) => kinds[i] === '');
         // A patcher among them is shown in place of the panels now, and takes the image.
         if (app.services !== services) return await app.open(others);
@@ -56,10 +62,28 @@ async function openFiles(app, files, aim) {
         showNext(app, aim, kinds.includes('script'), image === null);
         sayLeftOut(others, sheet);
         if (second !== null) await takeSecond(app, second, aim);
+        await useWaiting(app, waiting);
     } catch (error) {
         await showOpeningFailure(app, files, error);
     }
     return undefined;
+}
+
+/**
+ * Uses the files that were waiting for an image, or says that they still wait for it. A list of known dumps says itself what it waits for.
+ * @param {App} app
+ * @param {Waiting[]} waiting
+ */
+async function useWaiting(app, waiting) {
+    const ready = waiting.filter(it => app.image !== null || !it.needsImage);
+    for (const it of ready) {
+        waiting.splice(waiting.indexOf(it), 1);
+        await it.use();
+    }
+    if (waiting.length === 0) return;
+    const [names, n] = [waiting.map(({ name }) => name), waiting.length];
+    showNotice('plain', say(texts.waitForImage, { names: namesOf(names), n }), told(texts.thenTheyAreUsed, { n }),
+        element('div', { class: 'row' }, button('slim', () => app.choose(''), texts.openTheImage)));
 }
 
 /**
@@ -86,11 +110,16 @@ function showNext(app, aim, script, image) {
  * As what a file is taken: a script, something else than an image, or '' if it may be an image.
  * @param {App} app
  * @param {File} file
+ * @param {Waiting[]} waiting
  * @returns {Promise<'script' | 'other' | ''>}
  */
-async function takenAs(app, file) {
+async function takenAs(app, file, waiting) {
     for (const take of app.takers) {
-        if (await take(file)) return 'other';
+        const taken = await take(file);
+        const again = waiting.findIndex(({ name }) => name === file.name);
+        if (taken && again >= 0) waiting.splice(again, 1);
+        if (taken instanceof Object) waiting.push({ ...taken, name: file.name });
+        if (taken) return 'other';
     }
     const start = file.size > MOST_SCRIPT_BYTES ? new Uint8Array(0) : await fileReader(file).read(0, SCRIPT_START);
     // What begins as a sector is no text: to read it as one takes long.

@@ -55,10 +55,21 @@ function askFor({ survey }, image, second, words) {
         ['compare', [texts.compareIt]], ['instead', [texts.openItInstead]]];
     const isDamaged = survey !== null && survey.marks.damaged() > 0;
     const { from, to } = commonPart(image, second);
-    const isPossible = { repair: from < to, swap: from < to, compare: isSameRange(image, second), instead: true };
+    const canRepair = from < to && !isSameImage(image, second);
+    const isPossible = { repair: canRepair, swap: canRepair, compare: isSameRange(image, second), instead: true };
     const possible = jobs.filter(([job]) => isPossible[job]);
     const main = isPossible.repair && isDamaged ? 'repair' : isPossible.compare ? 'compare' : 'instead';
     return asked(say(texts.whatToDoWith, { name: nameOf(second.name) }), words, possible, main);
+}
+
+/**
+ * Whether two images are one file, which was opened twice.
+ * @param {Image} image
+ * @param {Image} second
+ */
+function isSameImage(image, second) {
+    const [file, other] = [image, second].map(({ reader }) => fileOf(reader));
+    return Boolean(file && other && isSameFile(file, other));
 }
 
 /**
@@ -68,8 +79,7 @@ function askFor({ survey }, image, second, words) {
  * @returns {Child[]}
  */
 function whyNoPair(image, second) {
-    const [file, other] = [image, second].map(({ reader }) => fileOf(reader));
-    if (file && other && isSameFile(file, other)) return [texts.isImageItself];
+    if (isSameImage(image, second)) return [texts.isImageItself];
     if (isSameRange(image, second)) return [];
     const { from, to, later } = commonPart(image, second);
     const [name, more] = [nameOf(image.name), second.sectors - image.sectors];

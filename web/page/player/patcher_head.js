@@ -10,6 +10,8 @@ import { told } from '../texts/index.js';
 
 /** A name that moves no directory, and that each system takes for a file's. */
 const PLAIN_NAME = /^[^/\\:*?"<>|\p{C}\p{Zl}\p{Zp}]+$/u;
+/** What nobody sees in a name. A space is seen between others. */
+const UNSEEN = /[\p{Default_Ignorable_Code_Point}\u2800]|(?! )\p{Z}/u;
 /** What Windows takes for a device, whatever stands after the dot. */
 const DEVICE = /^(con|prn|aux|nul|conin\$|conout\$|(com|lpt)[0-9¹²³]) *(\.|$)/i;
 const LONGEST_STEM = 120;
@@ -81,7 +83,8 @@ export function headFault(head) {
  * @param {string} name
  */
 export function isImageName(name) {
-    return isPlainName(name) && !/^[. ]/.test(name) && /.\.(bin|img|iso)$/i.test(name) && name.length <= LONGEST_STEM + 4;
+    const isSafe = isPlainName(name) && !UNSEEN.test(name) && !/^[. ]/.test(name);
+    return isSafe && /.\.(bin|img|iso)$/i.test(name) && name.length <= LONGEST_STEM + 4;
 }
 
 /**

@@ -1,6 +1,7 @@
 // The panel Publish: a copy of this page with the script, for players.
 
 import { OWN, sha1Of } from '../app/index.js';
+import { RESULT } from '../../core/module/records.js';
 import { isImageName, isPlainSheet, isSeen, patcherText, publishedSource, showPlayer } from '../player/index.js';
 import { download, sheetNaming } from '../save/index.js';
 import { fitWords } from '../script/index.js';
@@ -167,7 +168,9 @@ class PublishPanel {
      * @returns {Row}
      */
     fitRow({ name }, { patches, refused, first, damaged }) {
-        const { head } = fitWords(this.app.script.name, name, patches - refused, patches);
+        // The row under this one counts the changes that name no old bytes.
+        const fit = { all: patches, named: patches, refused: new Array(refused).fill(RESULT.DIFFERS), namedRefused: refused };
+        const { head } = fitWords(this.app.script.name, name, fit);
         const go = first > 0 && button('slim bare tiny', () => this.app.goToLine(first - 1),
             told(texts.goToLine, { line: String(first) }));
         return [patches > 0 && refused === 0 ? 'good' : 'bad', ...head, ' ', go,

@@ -6,7 +6,7 @@ import * as texts from '../texts/index.js';
 import { say, told } from '../texts/index.js';
 import { announce, button, element, fill, isCancelled, jobBar, messageOf, nameOf, nextTurn } from '../ui/index.js';
 import { notice, setDisabled, term } from '../ui/index.js';
-import { fitWords } from './fit_words.js';
+import { fitOf, fitWords, isShownToFit, namingOld } from './fit_words.js';
 
 /** @typedef {import('../app/state.js').App} App */
 /** @typedef {import('../app/state.js').Image} Image */
@@ -32,6 +32,8 @@ export class CheckCard {
         this.owner = owner;
         this.patched = /** @type {Patched | null} */ (null);
         this.already = false;
+        /** The numbers of the lines that name old bytes, as the script was when it was checked. */
+        this.naming = new Set();
         this.seconds = 0;
         this.busy = false;
         /** The check that runs, or has run last, and what ends it. */
@@ -81,13 +83,22 @@ export class CheckCard {
             element('p', {}, texts.openPatchedImage),
             element('div', { class: 'row' }, button('main', () => this.app.choose('play'), texts.openTheImage)));
         const ready = lines.faults === 0 && lines.head >= 0;
-        const check = button(this.patched ? '' : 'main', () => this.check(), this.patched ? texts.checkAgain : texts.checkScript);
-        const fits = this.patched !== null && this.patched.outcomes.some(it => it.result === RESULT.OK);
-        const apply = button(fits ? 'main' : '', () => this.apply(), texts.applyAndSave);
+        const check = button(this.patched ? 'again' : 'main', () => this.check(), this.patched ? texts.checkAgain : texts.checkScript);
+        const apply = this.applyButton();
         for (const it of [check, apply]) setDisabled(it, !ready);
         const said = lines.faults > 0 ? [this.faults()] : this.outcomes(apply);
         const row = element('div', { class: 'row' }, check, !this.patched && apply);
         return fill(this.body, this.failure, ...said, this.carryRow, row, element('p', { class: 'small quiet' }, ...this.footnote(ready)));
+    }
+
+    /** The button that saves. It is the main one only if all changes fit, and bytes of the image show that. */
+    applyButton() {
+        const fit = this.patched && this.fit(this.patched);
+        const apply = () => this.apply();
+        if (fit === null || fit.refused.length === fit.all) return button('', apply, texts.applyAndSave);
+        const [isShown, n] = [isShownToFit(fit), fit.all - fit.refused.length];
+        if (n === fit.all) return button(isShown ? 'main' : '', apply, texts.applyAndSave);
+        return button('', apply, told(isShown ? texts.saveWithFitting : texts.saveWithOthers, { n }));
     }
 
     faults() {
@@ -112,17 +123,17 @@ export class CheckCard {
             if (lines.patches === 0 && !lines.long) return [element('p', {}, texts.noChangeYet)];
             return [element('p', {}, lines.long ? texts.checkTriesAll : told(texts.checkTries, { n: lines.patches }))];
         }
-        const { outcomes } = this.patched;
-        const applied = outcomes.filter(it => it.result === RESULT.OK).length;
-        const refused = outcomes.length - applied;
+        const fit = this.fit(this.patched);
+        const [refused, applied] = [fit.refused.length, fit.all - fit.refused.length];
         const tally = (/** @type {string} */ looks, /** @type {Child[]} */ [before, count, after]) =>
             element('div', { class: looks }, before, element('b', {}, count), after);
         const first = lines.nextWrong(lines.lines.length - 1, 1);
-        const { tone, head, rest } = this.fit(this.patched);
+        const { tone, head, rest } = this.fitWords(fit);
         if (this.already) return [notice(tone, head, ...rest)];
         const saves = applied > 0 || refused === 0;
         return [notice(tone, head, ...rest, saves && element('div', { class: 'row' }, apply)),
-            refused > 0 && element('div', { class: 'tally' }, applied > 0 && tally('good-ink', say(texts.countFits, { n: applied })),
+            refused > 0 && element('div', { class: 'tally' }, applied > 0 && (isShownToFit(fit)
+                ? tally('good-ink', say(texts.countFits, { n: applied })) : tally('', say(texts.countCanBeApplied, { n: applied }))),
                 tally('bad-ink', say(texts.countDoesNotFit, { n: refused }))),
             first >= 0 && element('div', { class: 'row next' },
                 button('slim', () => this.owner.goTo(first), told(texts.goToLine, { line: String(first + 1) })))];
@@ -138,7 +149,8 @@ export class CheckCard {
         const applied = outcomes.filter(it => it.result === RESULT.OK).length;
         if (this.already || (applied === 0 && outcomes.length > 0)) return [];
         const name = this.app.image ? this.app.image.name : '';
-        const saves = applied === outcomes.length ? texts.savesNewImage : told(texts.savesWhatFits, { n: applied });
+        const isWhole = applied === outcomes.length || (this.patched !== null && !isShownToFit(this.fit(this.patched)));
+        const saves = isWhole ? texts.savesNewImage : told(texts.savesWhatFits, { n: applied });
         return [`${saves} `, ...say(texts.staysAsItIs, { name: element('b', {}, nameOf(name)) })];
     }
 
@@ -148,14 +160,17 @@ export class CheckCard {
         return !this.busy && !this.saving.running && faults === 0 && head >= 0;
     }
 
+    /** @param {Patched} patched */
+    fit({ outcomes }) {
+        return fitOf(outcomes, this.naming, this.already);
+    }
+
     /**
      * How the script fits the image, in words.
-     * @param {Patched} patched
+     * @param {import('./fit_words.js').Fit} fit
      */
-    fit({ outcomes }) {
-        const refused = outcomes.flatMap(({ result }) => result === RESULT.OK ? [] : result);
-        const [all, image] = [outcomes.length, this.app.image ? this.app.image.name : ''];
-        return fitWords(this.owner.lines.name, image, all - refused.length, all, this.already, refused);
+    fitWords(fit) {
+        return fitWords(this.owner.lines.name, this.app.image ? this.app.image.name : '', fit);
     }
 
     /** Checks the script on the image. */
@@ -173,8 +188,9 @@ export class CheckCard {
         await this.running;
         await nextTurn();
         await this.check();
-        const next = /** @type {HTMLElement | null} */ (this.card.querySelector('.next .btn, .say .btn'));
-        if (next && document.activeElement === document.body) next.focus({ preventScroll: true });
+        const { card } = this;
+        const next = card.querySelector('.say .btn.main') || card.querySelector('.next .btn') || card.querySelector('.btn.again');
+        if (next && document.activeElement === document.body) /** @type {HTMLElement} */ (next).focus({ preventScroll: true });
     }
 
     /** @param {Image} image */
@@ -209,12 +225,13 @@ export class CheckCard {
      */
     take(patched, seconds, verb = 'check') {
         this.patched = patched;
+        this.naming = namingOld(this.app.calls, this.owner.lines);
         this.seconds = seconds;
         this.failure = null;
         this.owner.lines.setOutcomes(patched.outcomes);
         this.owner.log(patched.text, verb);
         this.owner.redraw();
-        const { head, rest } = this.fit(patched);
+        const { head, rest } = this.fitWords(this.fit(patched));
         announce(`${element('p', {}, ...head, ' ', ...rest).textContent}`.trim());
     }
 

@@ -1,6 +1,7 @@
 // How a script fits an image, in words.
 
 import { RESULT } from '../../core/module/records.js';
+import { patchesOf } from '../../core/script/long_script.js';
 import { reasonsOf } from '../player/index.js';
 import * as texts from '../texts/index.js';
 import { say, told } from '../texts/index.js';
@@ -9,15 +10,54 @@ import { nameOf } from '../ui/index.js';
 /** @typedef {import('../ui/fill.js').Child} Child */
 /** @typedef {import('../ui/notices.js').Tone} Tone */
 
+/** @typedef {import('../../core/module/calls.js').Calls} Calls */
+/** @typedef {import('../app/script_lines.js').ScriptLines} ScriptLines */
+/** @typedef {import('../../core/script/patches.js').Outcome} Outcome */
 /**
- * Why patches do not fit an image, and what to do about it. Where some fit, other bytes say nothing of the release: perhaps another line
- * has written there.
- * @param {number} all
- * @param {number[]} refused their results
+ * What Check found: how many patches there are, and the results of those that are refused; how many patches name old bytes, and how many
+ * of these are refused; and whether the image already holds everything that the patches write.
+ * @typedef {{ all: number, refused: number[], named: number, namedRefused: number, already?: boolean }} Fit
  */
-function whyNot(all, refused) {
-    return reasonsOf(all, refused, {
-        [RESULT.DIFFERS]: refused.length === all ? texts.anotherRelease : '',
+
+/**
+ * The numbers of the lines that name old bytes.
+ * @param {Calls} calls
+ * @param {ScriptLines} script without faults
+ */
+export function namingOld(calls, { lines, long }) {
+    const patches = long ? patchesOf(calls, long.text) : lines.flatMap(({ number, patch }) => patch ? [{ number, old: patch.old }] : []);
+    return new Set(patches.flatMap(({ number, old }) => old === null ? [] : [number]));
+}
+
+/**
+ * How the patches of a script fit.
+ * @param {Outcome[]} outcomes
+ * @param {Set<number>} naming the numbers of the lines that name old bytes
+ * @param {boolean} already whether the image already holds everything that they write
+ * @returns {Fit}
+ */
+export function fitOf(outcomes, naming, already) {
+    const refused = outcomes.filter(({ result }) => result !== RESULT.OK);
+    const [named, namedRefused] = [outcomes, refused].map(some => some.filter(({ number }) => naming.has(number)).length);
+    return { all: outcomes.length, refused: refused.map(({ result }) => result), named, namedRefused, already };
+}
+
+/**
+ * Whether bytes of the image show that the script is for it. A patch that names no old bytes can be applied to any disc.
+ * @param {Fit} fit
+ */
+export function isShownToFit({ named, namedRefused }) {
+    return named > namedRefused;
+}
+
+/**
+ * Why patches do not fit an image, and what to do about it. If another patch that names old bytes fits, other bytes say nothing of the
+ * release: perhaps another line has written there.
+ * @param {Fit} fit
+ */
+function whyNot(fit) {
+    return reasonsOf(fit.all, fit.refused, {
+        [RESULT.DIFFERS]: isShownToFit(fit) ? '' : texts.anotherRelease,
         [RESULT.DAMAGED]: texts.repairOrCarry,
         [RESULT.NOT_MODE1]: texts.anotherTrack,
         [RESULT.NO_BLOCK]: texts.anotherTrackOrBase,
@@ -28,21 +68,27 @@ function whyNot(all, refused) {
  * What is said of a script that was checked.
  * @param {string} name of the script's file, or ''
  * @param {string} image its name
- * @param {number} fitting how many of its patches fit
- * @param {number} all how many it has
- * @param {boolean} [already] whether the image holds already what all of them write
- * @param {number[]} [refused] the results of those that do not fit
+ * @param {Fit} fit
  * @returns {{ tone: Tone, head: Child[], rest: Child[] }}
  */
-export function fitWords(name, image, fitting, all, already = false, refused = []) {
-    const [parts, left] = [{ script: name === '' ? texts.theScript : nameOf(name), image: nameOf(image) }, all - fitting];
+export function fitWords(name, image, fit) {
+    const { all, refused: { length: left }, named, already } = fit;
+    const parts = { script: name === '' ? texts.theScript : nameOf(name), image: nameOf(image) };
     if (all === 0) return { tone: 'plain', head: say(texts.hasNoChange, parts), rest: [texts.wouldBeCopy] };
     if (already) {
         return { tone: 'good', head: say(texts.isPatchedAlready, { image: parts.image }),
             rest: say(texts.changesStandThere, { script: parts.script, n: all }) };
     }
+    if (left === all) return { tone: 'bad', head: say(texts.noChangeFits, { ...parts, n: all }), rest: [whyNot(fit)] };
+    const without = left === 0 ? [] : [whyNot(fit), told(texts.savedWithout, { n: left })];
+    if (named === 0) {
+        return { tone: 'warn', head: say(texts.nothingShowsFit, { ...parts, n: all }),
+            rest: [[told(texts.namesNone, { n: all }), ...without].join(' ')] };
+    }
+    if (!isShownToFit(fit)) {
+        return { tone: 'bad', head: say(texts.noNamedFits, { ...parts, n: named }),
+            rest: [`${whyNot(fit)} ${told(texts.othersNameNone, { n: all - named })}`] };
+    }
     if (left === 0) return { tone: 'good', head: say(texts.allChangesFit, { ...parts, n: all }), rest: [] };
-    if (fitting === 0) return { tone: 'bad', head: say(texts.noChangeFits, { ...parts, n: all }), rest: [whyNot(all, refused)] };
-    return { tone: 'warn', head: say(texts.someChangesFit, { ...parts, fitting, all, n: left }),
-        rest: [`${whyNot(all, refused)} ${told(texts.savedWithout, { n: left })}`] };
+    return { tone: 'warn', head: say(texts.someChangesFit, { ...parts, fitting: all - left, all, n: left }), rest: [without.join(' ')] };
 }

@@ -4,7 +4,8 @@ import { isSameRange } from '../../core/images/common_part.js';
 import { readImage } from '../open/index.js';
 import * as texts from '../texts/index.js';
 import { say } from '../texts/index.js';
-import { button, element, fill, isCancelled, keyed, nameOf, notice, oneStop, refuseWhileSaving, said, sentence } from '../ui/index.js';
+import { button, byId, element, fill, focusAgain, isCancelled, keyed, nameOf, notice, oneStop, refuseWhileSaving } from '../ui/index.js';
+import { said, sentence, setAttribute } from '../ui/index.js';
 import { SecondCompare } from './compare.js';
 import { SecondRepair } from './repair.js';
 
@@ -42,12 +43,15 @@ export class SecondCard {
     close() {
         if (refuseWhileSaving(this.app, [], this.said)) return;
         this.app.setSecond(null);
+        focusAgain(byId('map'));
     }
 
     /** It takes the place of the open image. The script stays. */
     openInstead() {
         const { second } = this.app;
-        if (second !== null && !refuseWhileSaving(this.app, [], this.said)) readImage(this.app, second);
+        if (second === null || refuseWhileSaving(this.app, [], this.said)) return;
+        readImage(this.app, second);
+        focusAgain(byId('map'));
     }
 
     /**
@@ -96,6 +100,7 @@ export class SecondCard {
         // A script changes no length, and no sector's place.
         if (image === null || second === null || !isSameRange(image, second)) names.pop();
         this.tabs.hidden = names.length === 1;
+        setAttribute(this.body, 'aria-label', this.tab === 'repair' ? texts.repairFromIt : texts.compareIt);
         fill(this.tabs, ...names.map(([tab, label]) => keyed(tab, element('button', {
             type: 'button', role: 'tab', 'data-tab': tab, 'aria-selected': String(tab === this.tab), 'aria-controls': 'second-body',
             click: () => this.choose(tab),

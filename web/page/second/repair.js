@@ -16,6 +16,7 @@ import { askBeforeLeaving, button, element, fill, hashParts, jobBar, megabytes, 
 import { refuseWhileSaving, runAt, tableCard, tallyOf, term } from '../ui/index.js';
 import { repairMarks } from './marks.js';
 import { PairJob } from './pair_job.js';
+import { footOf, refusedWords } from './repair_words.js';
 import { writeScript } from './script.js';
 import { sectorOfSecond } from './sector.js';
 import { fileSayer } from './where.js';
@@ -24,10 +25,10 @@ import { fileSayer } from './where.js';
 /** @typedef {import('../../core/images/merge.js').Repair} Repair */
 /** @typedef {import('../../core/bytes.js').Piece} Piece */
 /** @typedef {import('../ui/fill.js').Child} Child */
-/** @typedef {Awaited<ReturnType<typeof shiftOf>>} Shift */
-/** The pieces are those of the repaired image; the shift is that of a second image which is refused. */
+/** @typedef {import('./repair_words.js').DamageRow} DamageRow */
+/** @typedef {import('./repair_words.js').Shift} Shift */
+/** The pieces are those of the repaired image; the shift is that of an image if the repair is refused. */
 /** @typedef {{ repair: Repair, pieces: Piece[], shift: Shift }} Found */
-/** @typedef {{ block: number, here: string, there: string, file: string, same: boolean }} DamageRow */
 
 const MOST_ROWS = 200;
 const MOST_RUNS_NAMED = 8;
@@ -99,7 +100,8 @@ export class SecondRepair extends PairJob {
             this.marks.setRuns(repair.taken, 0);
             this.marks.setRuns(unrepaired, 1);
         }
-        const words = repair.refused ? [refusedRepair(repair, shift)] : this.foundWords(repair, pieces, blocksIn(unrepaired));
+        const words = repair.refused ? [refusedWords(repair, shift, this.app.second)]
+            : this.foundWords(repair, pieces, blocksIn(unrepaired));
         fill(this.body, ...words);
         this.changed();
     }
@@ -244,8 +246,7 @@ export class SecondRepair extends PairJob {
         const head = element('tr', {}, element('th', { class: 'n' }, term('block', texts.columnBlock)), element('th', {}, texts.columnHere),
             element('th', {}, texts.columnInSecond), element('th', {}, texts.columnFile));
         const text = rows.map(({ block, here, there, file }) => `${block}\t${here}\t${there}\t${file}\n`).join('');
-        const same = rows.filter(row => row.same).map(row => row.block);
-        fill(this.table, tableCard(told(texts.countNotRepaired, { n: count }), head, cells, text, footOf(same, count - rows.length)));
+        fill(this.table, tableCard(told(texts.countNotRepaired, { n: count }), head, cells, text, footOf(rows, count - rows.length)));
     }
 
     /**
@@ -262,36 +263,9 @@ export class SecondRepair extends PairJob {
             const other = await sectorOfSecond(this.app, block);
             const said = [old, other].map(sector => sector === null ? texts.notThere
                 : findingOf(calls, block, calls.survey(sector, block)) || texts.notOfMode1);
-            const same = other !== null && old.every((it, i) => it === other[i]);
+            const same = other === null ? null : old.every((it, i) => it === other[i]);
             rows.push({ block, here: said[0], there: said[1], file: fileOf(block), same });
         }
         return rows;
     }
-}
-
-/**
- * @param {Repair} repair that is refused
- * @param {Shift} shift
- */
-function refusedRepair({ different: [different], same: [n], parts: [{ from, to }] }, shift) {
-    if (shift !== null) {
-        const by = Math.abs(shift.by);
-        const why = told(shift.by > 0 ? texts.missingBefore : texts.tooManyBefore, { n: by });
-        return notice('bad', told(texts.secondShifted,
-            { sectors: told(texts.countOfSectors, { n: by }), block: String(shift.first) }), told(texts.addressesSaySo, { why }));
-    }
-    const same = told(2 * n > to - from ? texts.mostAreSame : texts.someAreSame, { n, all: to - from });
-    return notice('bad', texts.notTheSameDisc, `${same} `,
-        told(texts.tooManyDiffer, { sectors: told(texts.soundAndDiffer, { n: different }) }));
-}
-
-/**
- * @param {number[]} same the blocks in which both images hold the same bytes
- * @param {number} left how many blocks have no row
- */
-function footOf(same, left) {
-    const more = left > 0 ? `${told(texts.moreHaveNoRow, { n: left })} ` : '';
-    const several = same.length < 4 ? told(same.length === 1 ? texts.theBlock : texts.theBlocks, { blocks: same.join(', ') })
-        : told(texts.someOfBlocks, { n: same.length });
-    return more + (same.length === 0 ? texts.differInEach : `${told(texts.sameBytesIn, { blocks: several })} ${texts.thirdDump}`);
 }

@@ -1,7 +1,7 @@
 // What stands round the panels: the tabs, the notes that open, and the keys that work anywhere.
 
 import { PANELS } from '../app/index.js';
-import { byId, endMessages, escapeJob, oneStop, setAttribute } from '../ui/index.js';
+import { byId, endMessages, endSavingNotices, escapeJob, oneStop, setAttribute } from '../ui/index.js';
 
 /** @typedef {import('../app/state.js').App} App */
 /** @typedef {import('../app/state.js').PanelName} PanelName */
@@ -12,6 +12,7 @@ export function mountFrame(app) {
     for (const name of PANELS) byId(`tab-${name}`).addEventListener('click', () => app.showPanel(name));
     const frame = { started: false, panel: app.panel };
     app.on('panel', () => panelComes(app, frame));
+    app.on('saved', endSavingNotices);
     app.on('closed', () => { frame.started = false; });
     for (const name of /** @type {const} */ (['panel', 'image'])) app.on(name, () => showPanels(app, frame));
     byId('home').addEventListener('click', () => app.showPanel('disc'));

@@ -1,13 +1,14 @@
 // The encodings that can be chosen.
 
 import { ENCODINGS, USUAL_ENCODING, encodingOf, tableTextOf } from '../../core/texts/encodings.js';
-import { tableEncoding } from '../../core/texts/table.js';
+import { leftOutText, tableEncoding } from '../../core/texts/table.js';
 import * as texts from '../texts/index.js';
 import { say } from '../texts/index.js';
-import { element, fill, messageOf, nameOf, notice, shownName } from '../ui/index.js';
+import { capital, element, fill, messageOf, nameOf, notice, showNotice, shownName } from '../ui/index.js';
 
 /** @typedef {import('../app/state.js').App} App */
 /** @typedef {import('../../core/texts/encoding.js').Encoding} Encoding */
+/** @typedef {import('../ui/fill.js').Child} Child */
 
 /** @type {WeakMap<Encoding, string>} the texts of tables */
 const sources = new WeakMap();
@@ -75,9 +76,10 @@ export function bindEncodings(app, choice, isOffered = () => true) {
 }
 
 /**
- * Makes the table in a file the encoding from now on, and says so.
+ * Makes the table in a file the encoding from now on. Returns what is said of it.
  * @param {App} app
  * @param {File} file
+ * @returns {Promise<['good' | 'bad', Child[], string]>}
  */
 export async function takeTable(app, file) {
     try {
@@ -85,8 +87,29 @@ export async function takeTable(app, file) {
         const table = tableEncoding(text);
         sources.set(table, text);
         app.addTable(file.name, table);
-        return notice('good', say(texts.fileLoaded, { name: nameOf(file.name) }), texts.isEncodingNow);
+        const leftOut = leftOutText(table);
+        const rest = leftOut === '' ? texts.isEncodingNow : `${texts.isEncodingNow} ${capital(leftOut)}.`;
+        return ['good', say(texts.fileLoaded, { name: nameOf(file.name) }), rest];
     } catch (error) {
-        return notice('bad', say(texts.noReadableTable, { name: nameOf(file.name) }), messageOf(error));
+        return ['bad', say(texts.noReadableTable, { name: nameOf(file.name) }), messageOf(error)];
     }
+}
+
+/**
+ * What takes the tables of characters that are opened: at once, so that a script is shown in that encoding before there is an image.
+ * @param {App} app
+ * @param {(words: HTMLElement) => void} show on the panel
+ * @returns {import('../app/state.js').Taker}
+ */
+export function tableTaker(app, show) {
+    return async file => {
+        if (!/\.tbl$/i.test(file.name)) return false;
+        const words = await takeTable(app, file);
+        const use = () => {
+            if (app.image === null) return showNotice(...words);
+            app.showPanel('text');
+            return show(notice(...words));
+        };
+        return { needsImage: words[0] === 'good', use };
+    };
 }

@@ -6,7 +6,7 @@ import { say, told } from '../texts/index.js';
 import { announce, button, element, fill, hexOf, isCancelled, jobBar, messageOf, notice } from '../ui/index.js';
 import { said, sayAt, sentence, term } from '../ui/index.js';
 import { AroundCard, readAround } from './around_card.js';
-import { bindEncodings, chosenEncoding, encodingLabel, takeTable } from './encodings.js';
+import { bindEncodings, chosenEncoding, encodingLabel, tableTaker, takeTable } from './encodings.js';
 import { linesForAll, linesReplacing } from './hits.js';
 import { HitsCard } from './hits_card.js';
 import { ReplaceCard } from './replace_card.js';
@@ -54,7 +54,7 @@ class TextPanel {
         this.results = element('div', { class: 'two even', hidden: true }, element('div', { class: 'side' }, this.hits.card),
             element('div', { class: 'side' }, this.replace.card, this.around.card));
         panel.append(this.askCard(), this.state, this.texts.results, this.results, this.table);
-        app.addTaker(file => this.isTable(file));
+        app.addTaker(tableTaker(app, words => fill(this.state, words)));
         this.listen();
         this.drawHint();
     }
@@ -278,15 +278,7 @@ class TextPanel {
     async load() {
         const file = (this.table.files || [])[0];
         this.table.value = '';
-        if (file) fill(this.state, await takeTable(this.app, file));
-    }
-
-    /** @param {File} file */
-    async isTable(file) {
-        if (!/\.tbl$/i.test(file.name)) return false;
-        this.app.showPanel('text');
-        fill(this.state, await takeTable(this.app, file));
-        return true;
+        if (file) fill(this.state, notice(...await takeTable(this.app, file)));
     }
 }
 

@@ -6,14 +6,16 @@ import { filesIfAny } from '../../core/iso/files.js';
 import { assertFits } from '../../core/script/fitting.js';
 import { linesMade } from '../../core/script/script_writer.js';
 import { stretchesOf, tableOfTexts } from '../../core/texts/all_texts.js';
+import { codesLeftOut, leftCodeText } from '../../core/texts/codes.js';
 import { usualBytes } from '../../core/texts/encoding.js';
 import { SEARCHED, encodingOf } from '../../core/texts/encodings.js';
 import { encodingsOfRows, leftRowText, replaceList, rowsOfList } from '../../core/texts/list.js';
+import { mergeOf } from '../app/index.js';
 import { fileReader } from '../open/index.js';
 import { downloadBytes } from '../save/index.js';
 import * as texts from '../texts/index.js';
 import { say, told } from '../texts/index.js';
-import { announce, button, element, fill, isCancelled, jobBar, messageParts, nameOf, notice } from '../ui/index.js';
+import { announce, button, capital, element, fill, isCancelled, jobBar, messageParts, nameOf, notice } from '../ui/index.js';
 import { runAt, showFailure, shownText, tableCard } from '../ui/index.js';
 import { AroundCard, readAround } from './around_card.js';
 import { chosenEncoding, tableSource } from './encodings.js';
@@ -23,12 +25,19 @@ import { isWritten, linesOfOld, withdrawnLines } from './withdrawn.js';
 /** @typedef {import('../app/state.js').Image} Image */
 /** @typedef {import('../../core/script/merge_lines.js').ScriptLine} ScriptLine */
 /** @typedef {import('../../core/disc/disc.js').DiscImage} DiscImage */
+/** @typedef {import('../../core/texts/codes.js').LeftCode} LeftCode */
 /** @typedef {import('../../core/texts/list.js').LeftRow} LeftRow */
 /** @typedef {import('../../core/texts/list.js').ListRow} ListRow */
 /** @typedef {import('../ui/fill.js').Child} Child */
 
-/** Rows that do not fit which stand in the document. */
+/** Rows that do not fit which stand in the document, and codes that new texts leave out which are named. */
 const MOST_ROWS = 200;
+const MOST_CODES = 20;
+
+/** @param {LeftCode} code that new texts leave out */
+function codeWords(code) {
+    return `${capital(leftCodeText(code))}.`;
+}
 
 /**
  * A track whose texts are read in the order of its files, and these.
@@ -140,9 +149,11 @@ export class TextsTable {
     /** @param {File} file that is opened */
     async isTable(file) {
         if (!/\.[tc]sv$/i.test(file.name)) return false;
-        this.app.showPanel('text');
-        await this.take(file);
-        return true;
+        const use = () => {
+            this.app.showPanel('text');
+            return this.take(file);
+        };
+        return { needsImage: true, use };
     }
 
     /**
@@ -152,7 +163,7 @@ export class TextsTable {
     take(file) {
         const { app } = this;
         return this.work(texts.makingLines, texts.makingOfRows, texts.nothingAdded, async (image, bar, signal) => {
-            const rows = await rowsOfList(fileReader(file), file.name, row => isWritten(app, row));
+            const rows = await rowsOfList(fileReader(file), file.name, row => isWritten(app, row), signal);
             const fresh = rows.filter(row => row.fresh !== '');
             const { part } = await inFileOrder(image.part);
             const encoding = chosenEncoding(app);
@@ -163,12 +174,15 @@ export class TextsTable {
             const script = parts.script(app.calls);
             if (script.patches > 0) await assertFits(app.calls, image, script);
             if (script.long) throw new Fault(texts.scriptLongerThanTaken);
-            const old = await linesOfOld(app, part, rows, encodings);
+            const old = await linesOfOld(app, part, rows, encodings, signal);
+            const codes = await codesLeftOut(fresh, encodings, signal);
+            const come = linesMade(script);
+            const merge = script.patches === 0 ? null : await mergeOf(app.script, come, signal);
             if (app.image !== image) return null;
-            const merged = script.patches === 0 ? { added: 0, replaced: 0, same: 0 }
-                : app.changeScript(lines => lines.merge(linesMade(script)));
+            const merged = merge === null ? { added: 0, replaced: 0, same: 0 } : app.changeScript(merge);
+            const withdrawn = await withdrawnLines(app, old, come, signal);
             this.showLeft(image, left);
-            return this.madeNotice(fresh.length - left.length, left.length, merged, withdrawnLines(app, old, linesMade(script)));
+            return this.madeNotice(fresh.length - left.length, left.length, merged, withdrawn, codes);
         });
     }
 
@@ -177,17 +191,19 @@ export class TextsTable {
      * @param {number} left
      * @param {import('../../core/script/merge_lines.js').Merged} merged
      * @param {ScriptLine[]} withdrawn
+     * @param {LeftCode[]} codes that new texts leave out
      */
-    madeNotice(fit, left, merged, withdrawn) {
+    madeNotice(fit, left, merged, withdrawn, codes) {
         const isAny = merged.added + merged.replaced + merged.same + withdrawn.length > 0;
         const added = mergedWords(merged).join(' ') || texts.nothingAdded;
         const rows = fit + left === 0 ? '' : left === 0 ? told(texts.newTextsFit, { n: fit })
             : told(texts.someTextsFit, { n: fit, others: told(texts.othersDoNot, { n: left }) });
         const n = withdrawn.length;
         const lines = withdrawn.map(({ number }) => number).slice(0, MOST_ROWS).join(', ') + (n > MOST_ROWS ? ', …' : '');
-        const others = n === 0 ? '' : told(texts.linesWithdrawn, { n, lines });
-        announce(`${added} ${rows} ${others}`.trim());
-        return notice(left + n === 0 ? 'good' : 'warn', added, rows, others && element('p', {}, others),
+        const others = [n > 0 && told(texts.linesWithdrawn, { n, lines }), ...codes.slice(0, MOST_CODES).map(it => codeWords(it)),
+            codes.length > MOST_CODES && told(texts.moreCodesLeftOut, { n: codes.length - MOST_CODES })].flatMap(it => it || []);
+        announce([added, rows, ...others].join(' '));
+        return notice(left + others.length === 0 ? 'good' : 'warn', added, rows, ...others.map(it => element('p', {}, it)),
             isAny && element('div', { class: 'row' },
                 n > 0 && button('slim', () => this.remove(withdrawn), texts.removeLines), this.scriptButton()));
     }

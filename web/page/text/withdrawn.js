@@ -1,6 +1,6 @@
 // The lines of the script that write where a table has no new text: those of an earlier table, of which it was taken out since.
 
-import { linesGivingWay } from '../../core/script/merge_lines.js';
+import { linesGivingWayInTurns } from '../../core/script/merge_lines.js';
 import { linesMade } from '../../core/script/script_writer.js';
 import { replaceList } from '../../core/texts/list.js';
 
@@ -24,10 +24,11 @@ export function isWritten({ script }, { block, offset }) {
  * @param {DiscImage} part
  * @param {ListRow[]} rows
  * @param {(name: string) => Encoding[]} encodingsFor
+ * @param {AbortSignal} signal
  */
-export async function linesOfOld({ calls }, part, rows, encodingsFor) {
+export async function linesOfOld({ calls }, part, rows, encodingsFor, signal) {
     const old = rows.flatMap(row => row.fresh === '' ? { ...row, fresh: row.text } : []);
-    const { parts } = await replaceList(calls, part, old, encodingsFor, null);
+    const { parts } = await replaceList(calls, part, old, encodingsFor, null, { signal });
     return linesMade(parts.script(calls));
 }
 
@@ -36,8 +37,10 @@ export async function linesOfOld({ calls }, part, rows, encodingsFor) {
  * @param {App} app
  * @param {string[]} old
  * @param {string[]} come
+ * @param {AbortSignal} signal
  */
-export function withdrawnLines({ script }, old, come) {
+export async function withdrawnLines({ script }, old, come, signal) {
     const fresh = new Set(come);
-    return linesGivingWay(script, old, ({ text }) => script.made.has(text)).filter(({ text }) => !fresh.has(text));
+    const gone = await linesGivingWayInTurns(script, old, ({ text }) => script.made.has(text), signal);
+    return gone.filter(({ text }) => !fresh.has(text));
 }

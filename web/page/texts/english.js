@@ -31,6 +31,7 @@ export const endIt = 'End it';
 // what was not done, and why
 export const notOpened = 'Not opened: {names}.';
 export const imageBeingSaved = 'An image is being saved.';
+export const anotherJobRuns = 'Another job runs here. Do it again when that has ended, or press Cancel first.';
 export const againWhenEnded = 'Do it again when that has ended, or press Cancel there first.';
 export const alsoNeeds = '{sheet} also needs {names}.';
 export const openAllTogether = 'Open them all together.';
@@ -201,6 +202,8 @@ export const tooManySectors = 'An image has at most {most} sectors, and this one
 export const compressedImage = 'A compressed image (CHD), which cdpatch cannot read: {name}';
 export const makeRawImage = 'Make a raw image of it first, in a terminal. Then open the new .cue and .bin here.';
 export const renameToDisc = 'Rename it to disc.chd before that: a terminal may read a part of its name as a command.';
+export const waitForImage = '{names}: open the disc image that it is for.|{names}: open the disc image that they are for.';
+export const thenTheyAreUsed = 'It is used as soon as the image is open.|They are used as soon as the image is open.';
 export const notOpenedYet = 'Not opened.';
 
 // what a second image is for
@@ -384,6 +387,9 @@ export const newFileIsSame = 'The new file has the same bytes.';
 export const scriptTooLongToReplace = 'The script would be longer than cdpatch takes. cdscript replace-file makes it.';
 export const linesAdded = '{n} line added to the script.|{n} lines added to the script.';
 export const earlierLinesGone = '{n} line that replaced the file before is gone.|{n} lines that replaced the file before are gone.';
+export const otherLinesWrite = 'Line {line} writes in this file too, so it will not be exactly the new one.|\
+{n} other lines write in this file too, the first is line {line}, so it will not be exactly the new one.';
+export const fileAsOnDisc = 'This is the file on the disc, without the changes of the script.';
 export const fileChangesLength = '{name} had {before} bytes, and gets {after}.';
 export const openScriptPanel = 'Open Script';
 
@@ -409,7 +415,7 @@ export const imageIsLookedUp = 'The open image is looked up in it.';
 export const notAListOfDumps = 'Not a list of known dumps that can be read: {name}';
 export const inNoListOfDumps = 'in none of the lists of known dumps';
 export const knownBadDump = 'known as a bad dump: {name}';
-export const verifiedDump = 'verified: {name}';
+export const verifiedDump = 'known dump: {name}';
 
 // ---- end of disc
 
@@ -625,6 +631,7 @@ export const linesRemoved = 'Lines removed: {n}. Ctrl+Z in the script brings the
 export const newTextsFit = 'The new text fits.|All {n} new texts fit.';
 export const someTextsFit = '{n} new text fits, {others}.|{n} new texts fit, {others}.';
 export const othersDoNot = '{n} does not|{n} do not';
+export const moreCodesLeftOut = 'New texts leave out {n} more code.|New texts leave out {n} more codes.';
 export const rowsDoNotFit = '{n} row does not fit|{n} rows do not fit';
 export const columnRow = 'Row';
 export const columnPlace = 'Block, offset';
@@ -772,10 +779,19 @@ export const changesStandThere = 'It holds what the change of {script} writes.|I
 export const anotherRelease = 'Another release, another disc, or another base?';
 export const someChangesFit =
     '{script}: {fitting} of {all} changes fit {image}, {n} does not.|{script}: {fitting} of {all} changes fit {image}, {n} do not.';
+export const nothingShowsFit = 'Nothing shows whether the change of {script} fits {image}.|\
+Nothing shows whether the {n} changes of {script} fit {image}.';
+export const namesNone = 'It names no old bytes.|None of them names old bytes.';
+export const noNamedFits = 'The change of {script} that names old bytes does not fit {image}.|\
+None of the {n} changes of {script} that name old bytes fits {image}.';
+export const othersNameNone = 'The other change names no old bytes, so nothing shows whether it fits.|\
+The other {n} changes name no old bytes, so nothing shows whether they fit.';
+export const saveWithOthers = 'Save with the other change…|Save with the other {n} changes…';
 export const repairOrCarry = 'Repair the image first, or tick “Patch damaged sectors too”.';
 export const anotherTrack = 'Only Mode 1 sectors are patched. Another track, or another disc?';
 export const anotherTrackOrBase = 'Another track, or another base?';
 export const savedWithout = 'A new image can be saved without that change.|A new image can be saved without those changes.';
+export const countCanBeApplied = '{n} can be applied';
 export const countFits = '{n} fits|{n} fit';
 export const countDoesNotFit = '{n} does not fit|{n} do not fit';
 
@@ -860,7 +876,7 @@ export const nothingToDo = 'no repair needed';
 export const canBeRepaired = 'can be repaired';
 export const cannotBeRepaired = 'cannot be repaired';
 export const sameInBoth = 'same in both';
-export const differInSecond = 'differ';
+export const differInSecond = 'differ, sound in the second';
 export const damagedInSecond = 'damaged in the second';
 export const differNotMode1 = 'differ, and not of Mode 1';
 
@@ -885,7 +901,8 @@ export const saveRepaired = 'Save repaired image…';
 export const writeRepairAsScript = 'Write it as a script';
 
 // a repair that is refused
-export const secondShifted = 'The second image is shifted by {sectors} from block {block} on.';
+export const imageShifted = '{image} is shifted by {sectors} from block {block} on.';
+export const secondImageItself = 'The second image';
 export const addressesSaySo = 'Its addresses say so: {why}. Nothing is taken.';
 export const missingBefore = '{n} sector before it is missing|{n} sectors before it are missing';
 export const tooManyBefore = '{n} sector before it is too many|{n} sectors before it are too many';
@@ -905,6 +922,7 @@ export const notThere = 'not there';
 export const notOfMode1 = 'not of Mode 1';
 export const moreHaveNoRow = '{n} more has no row here.|{n} more have no row here.';
 export const differInEach = 'The images differ in each block.';
+export const noSoundCopyThere = 'The second image has a sound copy of none of these blocks.';
 export const sameBytesIn = 'In {blocks} both images hold the same bytes: perhaps the damage is on the disc itself, or on purpose.';
 export const thirdDump = 'A third dump would show it.';
 export const theBlock = 'block {blocks}';

@@ -6,8 +6,8 @@ export { announce, askBeforeLeaving, button, byId, element, hashParts, hexOf, ic
 export { lostByClosing, setAttribute, setDisabled, styleValue, term } from './dom.js';
 export { fill, keyed } from './fill.js';
 export { capital, nameOf, namesOf, seen, seenTitle, shownName, shownPaths, shownText, stemOf } from './names.js';
-export { clearNotices, copyable, endMessages, isCancelled, messageOf, messageParts, notice, refuseWhileSaving } from './notices.js';
-export { said, sayAt, sentence, showFailure, showNotice } from './notices.js';
+export { clearNotices, copyable, endMessages, endSavingNotices, focusAgain, isCancelled, messageOf, messageParts } from './notices.js';
+export { notice, refuseWhileSaving, said, sayAt, sentence, showFailure, showNotice } from './notices.js';
 export { escapeJob, jobBar, jobEnd, megabytes, megabytesDone, runAt, timeLeft } from './progress.js';
 export { asked } from './sheet.js';
 export { tableCard, tallyOf } from './stat_row.js';

@@ -29,9 +29,17 @@ export function notice(tone, head, ...rest) {
  * @param {...Child} rest
  */
 export function showNotice(tone, head, ...rest) {
+    showWords(notice(tone, head, ...rest));
+}
+
+/** @param {HTMLElement} made a notice */
+function showWords(made) {
     const place = byId(byId('start').offsetParent === null ? 'messages' : 'start-message');
-    const close = button('slim bare', clearNotices, texts.close);
-    const made = notice(tone, head, ...rest);
+    const before = document.activeElement;
+    const close = button('slim bare', () => {
+        clearNotices();
+        focusAgain(before);
+    }, texts.close);
     const row = made.querySelector('.row') || element('div', { class: 'row' });
     row.append(close);
     made.append(row);
@@ -51,9 +59,30 @@ export function refuseWhileSaving({ saves }, names = [], place = null) {
     const isNew = names.length > 0;
     const head = isNew ? say(texts.notOpened, { names: namesOf(names) }) : texts.imageBeingSaved;
     const rest = isNew ? `${texts.imageBeingSaved} ${texts.againWhenEnded}` : texts.againWhenEnded;
-    if (place === null) showNotice('warn', head, rest);
-    else sayAt(place, notice('warn', head, rest));
+    endSavingNotices();
+    const words = notice('warn', head, rest);
+    words.classList.add('while-saving');
+    if (place === null) showWords(words);
+    else sayAt(place, words);
     return true;
+}
+
+/**
+ * Gives the focus back to what had it before something was closed, or to the heading of what is shown.
+ * @param {Element | null} before
+ */
+export function focusAgain(before) {
+    const isShown = before instanceof HTMLElement && before !== document.body && before.offsetParent !== null;
+    const heading = [...document.querySelectorAll('h1')].find(it => it.offsetParent !== null);
+    const target = isShown ? before : heading;
+    if (target === heading) heading?.setAttribute('tabindex', '-1');
+    target?.focus({ preventScroll: true });
+}
+
+/** Takes away what was said of an image that was being saved. */
+export function endSavingNotices() {
+    document.querySelectorAll('.while-saving').forEach(it => it.remove());
+    for (const id of ['messages', 'start-message']) byId(id).hidden = byId(id).childElementCount === 0;
 }
 
 /** Takes away what showNotice has shown. */

@@ -79,18 +79,30 @@ export function jobEnd(cancel, saves) {
     return end;
 }
 
+/**
+ * Says that a job runs already, as long as it does.
+ * @param {Element} place of its bar
+ */
+function sayBusy(place) {
+    place.querySelector('.is-busy')?.remove();
+    place.append(element('p', { class: 'is-busy', role: 'status' }, texts.anotherJobRuns));
+}
+
 /** @type {WeakSet<Element>} places at which a job runs */
 const busy = new WeakSet();
 
 /**
- * Runs a job whose bar stands at a place, unless one runs there.
+ * Runs a job whose bar stands at a place, unless one runs there, which is said then.
  * @param {Element} place
  * @param {() => Promise<void>} job
  */
 export async function runAt(place, job) {
-    if (busy.has(place)) return;
+    if (busy.has(place)) return sayBusy(place);
     busy.add(place);
-    await job().finally(() => busy.delete(place));
+    await job().finally(() => {
+        busy.delete(place);
+        place.querySelector('.is-busy')?.remove();
+    });
 }
 
 /**
