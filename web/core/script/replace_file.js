@@ -42,7 +42,7 @@ function extentKey({ block, size }) {
  * @returns {UserRange[]}
  */
 export function placesOfFile({ extents, names }) {
-    const records = [...recordsOf(names.entries, extents).values()].flat();
+    const records = [...recordsByKey(names.entries, extents).values()].flat();
     return [...extents.map(extent => ({ block: extent.block, offset: 0, size: extentRoom(extent) })),
         ...records.map(({ record: { block, offset } }) => ({ block, offset: offset + SIZE_FIELD.offset, size: SIZE_FIELD.length }))];
 }
