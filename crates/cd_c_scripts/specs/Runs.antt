@@ -92,9 +92,11 @@ pub data Asks (patches : List Patch) (run : ScriptRun) : Type 0 where
 abbrev pub status_of : ℕ → ℕ
 status_of refused = if refused == 0 then 0 else 1
 
--- at the end: what was sent is the patched image, and what was logged its log
+-- at the end: the image is not too long, what was sent is the patched image, and what was logged its
+-- log
 pub record IsDone (carry : Bool) (patches : List Patch) (base : ℕ) (read sent log_bytes : List ℕ)
     (status : ℕ) : Type 0 where
+  pub within : length read ≤ image_limit
   pub outcomes : List Outcome
   pub patched : IsPatched carry patches outcomes base read sent
   pub log_right : log_bytes ≡ log_text patches outcomes
@@ -312,7 +314,18 @@ abbrev pub KeepsToSize : ScriptRun → RunStep → Type 0
 KeepsToSize run step =
     (step.kind ≡ read_kind) ⊎ (step.kind ≡ copy_kind) → step.at + step.size ≤ run.image_size
 
--- a run over patches has begun: nothing has come, gone out or been logged, whatever hand it is lent
+-- a step asks for all that may come: a sector, or what is left of the image, or a byte after its largest
+-- size; or as many sectors as may be copied, or what is left
+abbrev pub AsksWhole : ScriptRun → RunStep → Type 0
+AsksWhole run step =
+    (step.kind ≡ read_kind → (step.size ≡ SECTOR_SIZE) ⊎ (step.at + step.size ≡ run.image_size)
+    ⊎ (run.machine.sectors ≡ sector_limit))
+    × (step.kind ≡ copy_kind
+    → (step.size ≡ SECTOR_SIZE * run.most) ⊎ (step.at + step.size ≡ run.image_size))
+
+-- a run over patches has begun: nothing was asked for, and nothing has come, gone out or been logged,
+-- whatever hand it is lent. The image has not ended
 abbrev pub IsBegun : List ℕ → List Entry → List Patch → ℕ → ScriptRun → Type 0
 IsBegun text es patches base run =
-    (run.size ≡ 0) × ((hand : List (List ℕ)) → IsRunning text es patches base [] [] [] run hand)
+    (run.size ≡ 0) × (run.asked ≡ NOTHING) × (run.machine.stage ≡ 0)
+    × ((hand : List (List ℕ)) → IsRunning text es patches base [] [] [] run hand)

@@ -11,7 +11,7 @@ ghost use Rattle.cd_run.specs.declared.run.Step.{Step as TheStep};
 ghost use Rattle.cd_run.specs.declared.run.Step.TheVariants.{Decide, End, SendTail};
 ghost use Rattle.cd_c_scripts.specs.Entries.{Rereads};
 ghost use Rattle.cd_c_scripts.specs.Flags.{carries};
-ghost use Rattle.cd_c_scripts.specs.Runs.{About, Comes, Going, Goes, IsFaulty, IsRunning, KeepsToSize, MayEnd, EndsOr, Moved, SameInHand, Stops, error_line, is_coming, machine_steps, steps_left, told_steps};
+ghost use Rattle.cd_c_scripts.specs.Runs.{About, AsksWhole, Comes, Going, Goes, IsFaulty, IsRunning, KeepsToSize, MayEnd, EndsOr, Moved, SameInHand, Stops, error_line, is_coming, machine_steps, steps_left, told_steps};
 ghost use Rattle.cd_c_scripts.specs.StepKinds.{end_kind, log_kind};
 ghost use Rattle.cd_c_scripts.specs.StepRooms.{KeepsToRooms};
 ghost use Rattle.cd_c_scripts.specs.declared.entries.Entry.{Entry as TheEntry};
@@ -66,6 +66,9 @@ fn tell_decided(
     ensures rereads { step.new.kind ≡ LOG → Rereads script.now run.old.version entries.now
         run.old.machine.decided step.new.number }
     ensures count { run.new.count ≡ run.old.count }
+    ensures flags { run.new.flags ≡ run.old.flags }
+    ensures image_size { run.new.image_size ≡ run.old.image_size }
+    ensures over { run.new.asked ≢ OVER }
     ensures falls { step.new.kind ≡ LOG → (run.new.machine.held ≡ run.old.machine.held)
         × (run.new.machine.sectors ≡ run.old.machine.sectors)
         × (run.new.machine.decided ≡ run.old.machine.decided + 1) }
@@ -89,6 +92,8 @@ fn tell_decided(
 fn tell_last_line(run: &mut ScriptRun, step: &mut RunStep)
     ensures machine { run.new.machine ≡ run.old.machine }
     ensures count { run.new.count ≡ run.old.count }
+    ensures flags { run.new.flags ≡ run.old.flags }
+    ensures image_size { run.new.image_size ≡ run.old.image_size }
     ensures log { (step.new.kind ≡ END) ⊎ (step.new.kind ≡ LOG) }
     ensures status { step.new.status ≤ 2 }
     ensures rooms { KeepsToRooms step.new }
@@ -130,6 +135,8 @@ fn tell_error(run: &mut ScriptRun, done: usize, step: &mut RunStep)
     ensures asked { run.new.asked ≡ STOPPED }
     ensures machine { run.new.machine ≡ run.old.machine }
     ensures count { run.new.count ≡ run.old.count }
+    ensures flags { run.new.flags ≡ run.old.flags }
+    ensures image_size { run.new.image_size ≡ run.old.image_size }
     ensures log { (step.new.kind ≡ END) ⊎ (step.new.kind ≡ LOG) }
     ensures status { step.new.status ≤ 2 }
     ensures rooms { KeepsToRooms step.new }
@@ -157,6 +164,8 @@ fn tell_error(run: &mut ScriptRun, done: usize, step: &mut RunStep)
 fn tell_over(run: &mut ScriptRun, done: usize, step: &mut RunStep)
     requires { run.old.asked ≡ OVER }
     ensures machine { run.new.machine ≡ run.old.machine }
+    ensures flags { run.new.flags ≡ run.old.flags }
+    ensures image_size { run.new.image_size ≡ run.old.image_size }
     ensures kind { step.new.kind ≡ END }
     ensures status { step.new.status ≤ 2 }
     ensures rooms { KeepsToRooms step.new }
@@ -196,9 +205,13 @@ fn tell_step(
     requires used { length entries.now ≡ run.old.count }
     ensures stage { run.new.machine.stage ≡ run.old.machine.stage }
     ensures sectors { run.new.machine.sectors ≡ run.old.machine.sectors }
+    ensures flags { run.new.flags ≡ run.old.flags }
+    ensures image_size { run.new.image_size ≡ run.old.image_size }
+    ensures over { run.new.asked ≡ OVER → run.new.machine.stage ≡ 2 }
     ensures status { step.new.status ≤ 2 }
     ensures rooms { KeepsToRooms step.new }
     ensures known { KeepsToSize run.new step.new }
+    ensures whole { AsksWhole run.new step.new }
     ensures falls { step.new.kind ≢ END
         → machine_steps run.new.count run.new.machine + told_steps run.new.asked
         ≤ machine_steps run.old.count run.old.machine + 1 }
@@ -242,9 +255,13 @@ fn tell_next(
     requires hand { block_limit ≤ length hand.old }
     ensures stage { run.old.machine.stage ≤ run.new.machine.stage }
     ensures sectors { run.new.machine.sectors ≡ run.old.machine.sectors }
+    ensures flags { run.new.flags ≡ run.old.flags }
+    ensures image_size { run.new.image_size ≡ run.old.image_size }
+    ensures over { run.new.asked ≡ OVER → run.new.machine.stage ≡ 2 }
     ensures status { step.new.status ≤ 2 }
     ensures rooms { KeepsToRooms step.new }
     ensures known { KeepsToSize run.new step.new }
+    ensures whole { AsksWhole run.new step.new }
     ensures ended { run.old.machine.stage ≡ 0 → 0 < run.new.machine.stage
         → run.old.image_size ≤ SECTOR_SIZE * run.old.machine.sectors }
     ensures falls { step.new.kind ≢ END
@@ -295,11 +312,16 @@ pub extern "C" fn cdpatch_run_next(
     ensures closes { run.old.asked ≡ WRITING_TAIL → EndsOr run.new 2 }
     ensures ends_only { run.old.machine.stage ≡ 0 → 0 < run.new.machine.stage
         → MayEnd run.old run.new done }
+    // It is over only once the image has ended.
+    ensures over { run.new.asked ≡ OVER → (run.old.asked ≡ OVER) ⊎ (run.new.machine.stage ≡ 2) }
     // What each state, hand and count of bytes gives.
+    ensures flags { run.new.flags ≡ run.old.flags }
+    ensures image_size { run.new.image_size ≡ run.old.image_size }
     ensures goes_on { run.old.machine.stage ≤ run.new.machine.stage }
     ensures falls { step.new.kind ≢ end_kind → steps_left run.new < steps_left run.old }
     ensures status { step.new.status ≤ 2 }
     ensures known { KeepsToSize run.new step.new }
+    ensures whole { AsksWhole run.new step.new }
     ensures rooms { KeepsToRooms step.new }
     ensures rereads { step.new.kind ≡ log_kind → step.new.number ≢ 0
         → Rereads script.now run.old.version entries.now run.old.machine.decided step.new.number }
