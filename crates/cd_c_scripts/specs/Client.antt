@@ -1,7 +1,6 @@
 -- A client of the two calls of a run over a source and two sinks: what it has moved, and what it has
 -- done when it ends.
-use Rattle.std.specs.Prelude.{◌≡◌, ◌≢◌, ◌↔◌, ℕ, ◌+◌, ◌*◌, ◌<◌, ◌≤◌, ◌⊎◌, ◌++◌, Bool, true, List, [], Option, Result, Ok, Err, OnOk, IfOk, length, take}
-use Rattle.std.specs.List.{slice_index_or}
+use Rattle.std.specs.Prelude.{◌≡◌, ◌↔◌, ℕ, ◌+◌, ◌*◌, ◌<◌, ◌≤◌, ◌⊎◌, Bool, false, true, List, Result, Ok, Err, OnOk, IfOk, length, take}
 use Rattle.std.specs.Io.KnownBytes.{IsAtEnd}
 use Rattle.cd_script.specs.PatchForm.{Patch}
 use Rattle.cd_sector.specs.Image.{image_limit}
@@ -13,9 +12,7 @@ use Rattle.cd_read.specs.declared.fault.Fault.TheVariants as fault
 use Rattle.cd_sector.specs.declared.sector.TheConstants.{SECTOR_SIZE}
 use Rattle.cd_image.specs.Applying.{Applies, Failed, Flushed, HoldsFew, HoldsFewCounted, Streams, WritesCarried, WritesLog, WritesPatched, streams}
 use Rattle.cd_image.specs.declared.patch_log.Tally.{Tally}
-use Rattle.cd_c_scripts.specs.Entries.{IsEntry}
 use Rattle.cd_c_scripts.specs.Flags.{carries}
-use Rattle.cd_c_scripts.specs.InOrder.{logged_by}
 use Rattle.cd_c_scripts.specs.Runs.{AsksWhole, Goes, IsRunning, Moved, SameInHand, status_of}
 use Rattle.cd_c_scripts.specs.StepKinds.{end_kind, log_kind}
 use Rattle.cd_c_scripts.specs.declared.entries.Entry.{Entry}
@@ -76,6 +73,33 @@ abbrev pub Refuses : List ℕ → Streams → Streams → Result ℕ Fault → T
 Refuses line start now result =
     (now.image ≡ start.image) × (now.out ≡ start.out) × RefusesBy line start.log now.log result
 
+-- the source has nothing left, and has said so
+abbrev pub HasEnded : Incoming → Type 0
+HasEnded image = IsAtEnd image.rest × (image.ended ≡ true)
+
+-- a line has gone to the log, or the log has failed
+abbrev pub Says : {X : Type 0} → List ℕ → Outgoing → Outgoing → Result X Fault → Type 0
+Says line log log' (Ok done) =
+    Takes log log' line × (log'.failures ≡ log.failures) × (log'.flushes ≡ log.flushes)
+Says line log log' (Err f) = (f ≡ fault.Log) × (log'.failures ≡ log.failures + 1)
+
+-- some bytes have gone from the image to the output, fewer than asked for only at its end; or a part of
+-- them, where one of the two has failed
+abbrev pub Passes : ℕ → Incoming → Incoming → Outgoing → Outgoing → Result ℕ Fault → Type 0
+Passes asked image image' out out' (Ok done) =
+    (bytes : List ℕ) × (length bytes ≡ done) × (done ≤ asked) × Gives image image' bytes
+    × Sends {X = ℕ} {E = Fault} out out' bytes (Ok done) × (image'.failures ≡ image.failures)
+    × (done < asked → HasEnded image')
+Passes asked image image' out out' (Err fault.Read) =
+    (came : List ℕ) × (length came < asked) × Gives image image' came
+    × (image'.failures ≡ image.failures + 1) × (image'.ended ≡ false) × (out' ≡ out)
+Passes asked image image' out out' (Err fault.Write) =
+    (bytes : List ℕ) × (length bytes ≤ asked) × Gives image image' bytes
+    × Sends {X = ℕ} out out' bytes (Err fault.Write) × (image'.failures ≡ image.failures)
+    × (length bytes < asked → HasEnded image')
+Passes asked image image' out out' (Err fault.Log) = ⊥
+Passes asked image image' out out' (Err fault.TooLong) = ⊥
+
 -- ---- between two calls
 
 -- what came, went out and was logged since `start`: nothing failed, and no sink was flushed
@@ -85,10 +109,6 @@ pub record HasMoved (start now : Streams) (read sent log_bytes : List ℕ) : Typ
   pub logs : Takes start.log now.log log_bytes
   pub unfailed : Failed start now 0 0 0
   pub unflushed : Flushed start now 0 0
-
--- the source has nothing left, and has said so
-abbrev pub HasEnded : Incoming → Type 0
-HasEnded image = IsAtEnd image.rest × (image.ended ≡ true)
 
 -- the size of an image of which no size is known: `CDPATCH_UNKNOWN_SIZE`
 abbrev pub unknown_size : ℕ
@@ -133,10 +153,37 @@ pub record HasTaken (carry : Bool) (text : List ℕ) (es : List Entry) (patches 
   pub carried : carries run.flags ≡ carry
   pub unknown : run.image_size ≡ unknown_size
 
+-- nothing was begun: the line of the script's error is told, and then its end
+pub data IsSaying (line : List ℕ) (start now : Streams) (run : ScriptRun) (step : RunStep)
+    : Type 0 where
+  to_say : run.asked ≡ STOPPED → step.kind ≡ log_kind → take step.size step.text ≡ line
+      → now.image ≡ start.image → now.out ≡ start.out → now.log ≡ start.log
+      → IsSaying line start now run step
+  said : step.kind ≡ end_kind → step.status ≡ 2 → now.image ≡ start.image → now.out ≡ start.out
+      → Says {X = ℕ} line start.log now.log (Ok 0) → IsSaying line start now run step
+
+-- by what leading returned: the line was said, or the log has failed
+abbrev pub LeadsToLine : List ℕ → Streams → Streams → Result ℕ Fault → Type 0
+LeadsToLine line start now (Ok status) =
+    (status ≡ 2) × (now.image ≡ start.image) × (now.out ≡ start.out)
+    × Says {X = ℕ} line start.log now.log (Ok 0)
+LeadsToLine line start now (Err f) =
+    (f ≡ fault.Log) × (now.image ≡ start.image) × (now.out ≡ start.out)
+    × (now.log.failures ≡ start.log.failures + 1)
+
 -- by what a step returned: it was taken, or the client ends by a fault as `apply` does
 abbrev pub TakesStep : Bool → List ℕ → List Entry → List Patch → ℕ → Streams → Streams → ScriptRun
     → List (List ℕ) → List (List ℕ) → Result ℕ Fault → Type 0
 TakesStep carry text es patches base start now run hand hand' (Ok done) =
     HasTaken carry text es patches base start now run hand hand' done
 TakesStep carry text es patches base start now run hand hand' (Err fault) =
+    Applies carry patches base start now (Err fault)
+
+-- by what leading returned: the run has ended, or the client ends by a fault as `apply` does
+abbrev pub LeadsTo : Bool → List ℕ → List Entry → List Patch → ℕ → Streams → Streams → ScriptRun
+    → List (List ℕ) → RunStep → Result ℕ Fault → Type 0
+LeadsTo carry text es patches base start now run hand step (Ok status) =
+    IsLed carry text es patches base start now run hand step × (step.kind ≡ end_kind)
+    × (status ≡ step.status)
+LeadsTo carry text es patches base start now run hand step (Err fault) =
     Applies carry patches base start now (Err fault)

@@ -1,6 +1,6 @@
 //! The steps of a run that a client takes: each moves the bytes that it asks for.
 
-ghost use Rattle.std.specs.Prelude.{◌≡◌, ◌≢◌, ℕ, ◌+◌, ◌*◌, ◌<◌, ◌≤◌, [], Bool, List, length, take};
+ghost use Rattle.std.specs.Prelude.{◌≡◌, ◌≢◌, ℕ, ◌+◌, ◌*◌, ◌<◌, ◌≤◌, ◌⊎◌, [], Bool, List, OnOk, length, take};
 ghost use Rattle.std.specs.List.{slice_index_or};
 ghost use Rattle.cd_script.specs.PatchForm.{Patch as ThePatch};
 ghost use Rattle.cd_patch.specs.Blocks.{block_limit};
@@ -8,8 +8,8 @@ ghost use Rattle.cd_stream.specs.Stream.{CanCountFailure, Incoming, Outgoing};
 ghost use Rattle.cd_stream.specs.Transfer.{Fills, Flushes, Sends};
 ghost use Rattle.cd_read.specs.declared.fault.Fault.TheVariants.{Log};
 ghost use Rattle.cd_image.specs.Applying.{Streams, streams};
-ghost use Rattle.cd_c_scripts.specs.Client.{IsLed, TakesStep};
-ghost use Rattle.cd_c_scripts.specs.StepKinds.{end_kind, log_kind, read_kind, write_kind};
+ghost use Rattle.cd_c_scripts.specs.Client.{IsLed, Passes, Says, TakesStep};
+ghost use Rattle.cd_c_scripts.specs.StepKinds.{copy_kind, log_kind, read_kind, write_kind};
 ghost use Rattle.cd_c_scripts.specs.declared.entries.Entry.{Entry as TheEntry};
 ghost use Rattle.cd_c_scripts.specs.declared.run_state.ScriptRun.{ScriptRun as TheRun};
 
@@ -60,7 +60,11 @@ fn read_to<I: Source>(
 }
 
 /// Proof step: reads to the first bytes of a sector.
-fn read_part<I: Source>(sector: &mut Sector, size: usize, image: &mut I) -> Result<usize, SourceFailed>
+fn read_part<I: Source>(
+    sector: &mut Sector,
+    size: usize,
+    image: &mut I,
+) -> Result<usize, SourceFailed>
     requires countable { CanCountFailure (I.seen image.old).failures }
     requires few { size ≤ SECTOR_SIZE }
     ensures fills { Fills (I.seen image.old) (I.seen image.new) (take size sector.new) result }
@@ -71,12 +75,17 @@ fn read_part<I: Source>(sector: &mut Sector, size: usize, image: &mut I) -> Resu
 
 /// READ: the bytes come to the place in the hand. A byte that comes after the millionth sector ends the
 /// client as it ends `apply`.
-pub(crate) fn read_step<I: Source>(step: &RunStep, hand: &mut [Sector], image: &mut I) -> Result<usize, Fault>
+pub(crate) fn read_step<I: Source>(
+    step: &RunStep,
+    hand: &mut [Sector],
+    image: &mut I,
+) -> Result<usize, Fault>
     requires countable { CanCountFailure (I.seen image.old).failures }
     requires place { step.now.place < block_limit * SECTOR_SIZE }
     requires few { step.now.size ≤ SECTOR_SIZE }
     requires hand { block_limit ≤ length hand.old }
     ensures hand { length hand.new ≡ length hand.old }
+    ensures counts { OnOk result ((I.seen image.new).failures ≡ (I.seen image.old).failures) }
     ensures takes { (carry : Bool) (text : List ℕ) (es : List TheEntry) (patches : List ThePatch)
         (base : ℕ) (start : Streams) (run : TheRun) (out log : Outgoing)
         → step.now.kind ≡ read_kind
@@ -92,11 +101,81 @@ pub(crate) fn read_step<I: Source>(step: &RunStep, hand: &mut [Sector], image: &
     Ok(done)
 }
 
+/// How many of the bytes that are left are passed on next: at most a sector.
+fn next_part(left: usize) -> usize
+    ensures few { result ≤ left }
+    ensures sector { result ≤ SECTOR_SIZE }
+    ensures most { (result ≡ left) ⊎ (result ≡ SECTOR_SIZE) }
+{
+    if left < SECTOR_SIZE {
+        left
+    } else {
+        SECTOR_SIZE
+    }
+}
+
+/// Passes on some bytes of the image, at most a sector, by way of the first place in the hand.
+fn copy_part<I: Source, O: Sink>(
+    asked: usize,
+    hand: &mut [Sector],
+    image: &mut I,
+    out: &mut O,
+) -> Result<usize, Fault>
+    requires image_countable { CanCountFailure (I.seen image.old).failures }
+    requires out_countable { CanCountFailure (O.seen out.old).failures }
+    requires few { asked ≤ SECTOR_SIZE }
+    requires hand { block_limit ≤ length hand.old }
+    ensures hand { length hand.new ≡ length hand.old }
+    ensures passes { Passes asked (I.seen image.old) (I.seen image.new) (O.seen out.old)
+        (O.seen out.new) result }
+{
+    let came = read_to(hand, 0, asked, image)?;
+    write_all(out, &hand[0].bytes()[..came])?;
+    Ok(came)
+}
+
+/// COPY: the bytes go from the image to the output as they are.
+pub(crate) fn copy_step<I: Source, O: Sink>(
+    step: &RunStep,
+    hand: &mut [Sector],
+    image: &mut I,
+    out: &mut O,
+) -> Result<usize, Fault>
+    requires image_countable { CanCountFailure (I.seen image.old).failures }
+    requires out_countable { CanCountFailure (O.seen out.old).failures }
+    requires hand { block_limit ≤ length hand.old }
+    ensures hand { length hand.new ≡ length hand.old }
+    ensures reads { OnOk result ((I.seen image.new).failures ≡ (I.seen image.old).failures) }
+    ensures writes { OnOk result ((O.seen out.new).failures ≡ (O.seen out.old).failures) }
+    ensures takes { (carry : Bool) (text : List ℕ) (es : List TheEntry) (patches : List ThePatch)
+        (base : ℕ) (start : Streams) (run : TheRun) (log : Outgoing)
+        → step.now.kind ≡ copy_kind
+        → IsLed carry text es patches base start
+        (streams (I.seen image.old) (O.seen out.old) log) run hand.old step.now
+        → TakesStep carry text es patches base start
+        (streams (I.seen image.new) (O.seen out.new) log) run hand.old hand.new result }
+{
+    let mut done = 0;
+    let mut more = true;
+    while more && done < step.size {
+        let asked = next_part(step.size - done);
+        let came = copy_part(asked, hand, image, out)?;
+        done += came;
+        more = came == asked;
+    }
+    Ok(done)
+}
+
 /// WRITE: the first bytes of the hand go out.
-pub(crate) fn write_step<O: Sink>(step: &RunStep, hand: &[Sector], out: &mut O) -> Result<usize, Fault>
+pub(crate) fn write_step<O: Sink>(
+    step: &RunStep,
+    hand: &[Sector],
+    out: &mut O,
+) -> Result<usize, Fault>
     requires countable { CanCountFailure (O.seen out.old).failures }
     requires few { step.now.size ≤ SECTOR_SIZE }
     requires hand { block_limit ≤ length hand.now }
+    ensures counts { OnOk result ((O.seen out.new).failures ≡ (O.seen out.old).failures) }
     ensures takes { (carry : Bool) (text : List ℕ) (es : List TheEntry) (patches : List ThePatch)
         (base : ℕ) (start : Streams) (run : TheRun) (image : Incoming) (log : Outgoing)
         → step.now.kind ≡ write_kind
@@ -118,9 +197,14 @@ fn write_log<L: Sink>(log: &mut L, line: &[u8]) -> Result<(), LogFailed>
 }
 
 /// LOG: the line goes to the log.
-pub(crate) fn log_step<L: Sink>(step: &RunStep, hand: &[Sector], log: &mut L) -> Result<usize, Fault>
+pub(crate) fn log_step<L: Sink>(
+    step: &RunStep,
+    hand: &[Sector],
+    log: &mut L,
+) -> Result<usize, Fault>
     requires countable { CanCountFailure (L.seen log.old).failures }
     requires few { step.now.size ≤ 96 }
+    ensures says { Says (take step.now.size step.now.text) (L.seen log.old) (L.seen log.new) result }
     ensures takes { (carry : Bool) (text : List ℕ) (es : List TheEntry) (patches : List ThePatch)
         (base : ℕ) (start : Streams) (run : TheRun) (image : Incoming) (out : Outgoing)
         → step.now.kind ≡ log_kind
@@ -131,4 +215,20 @@ pub(crate) fn log_step<L: Sink>(step: &RunStep, hand: &[Sector], log: &mut L) ->
 {
     write_log(log, &step.text[..step.size])?;
     Ok(step.size)
+}
+
+/// Proof step: the flush of the output, apart.
+pub(crate) fn finish_output<O: Sink>(out: &mut O) -> Result<(), SinkFailed>
+    requires { CanCountFailure (O.seen out.old).failures }
+    ensures { Flushes (O.seen out.old) (O.seen out.new) result }
+{
+    out.finish()
+}
+
+/// Proof step: the flush of the log, whose failure is a `LogFailed`.
+pub(crate) fn finish_log<L: Sink>(log: &mut L) -> Result<(), LogFailed>
+    requires { CanCountFailure (L.seen log.old).failures }
+    ensures { Flushes (L.seen log.old) (L.seen log.new) result }
+{
+    Ok(log.finish()?)
 }

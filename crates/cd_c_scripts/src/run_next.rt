@@ -207,7 +207,8 @@ fn tell_step(
     ensures sectors { run.new.machine.sectors ≡ run.old.machine.sectors }
     ensures flags { run.new.flags ≡ run.old.flags }
     ensures image_size { run.new.image_size ≡ run.old.image_size }
-    ensures over { run.new.asked ≡ OVER → run.new.machine.stage ≡ 2 }
+    ensures over { run.new.asked ≡ OVER → (run.new.machine.stage ≡ 2)
+        × (run.new.machine.sectors ≤ sector_limit) }
     ensures status { step.new.status ≤ 2 }
     ensures rooms { KeepsToRooms step.new }
     ensures known { KeepsToSize run.new step.new }
@@ -257,7 +258,8 @@ fn tell_next(
     ensures sectors { run.new.machine.sectors ≡ run.old.machine.sectors }
     ensures flags { run.new.flags ≡ run.old.flags }
     ensures image_size { run.new.image_size ≡ run.old.image_size }
-    ensures over { run.new.asked ≡ OVER → run.new.machine.stage ≡ 2 }
+    ensures over { run.new.asked ≡ OVER → (run.new.machine.stage ≡ 2)
+        × (run.new.machine.sectors ≤ sector_limit) }
     ensures status { step.new.status ≤ 2 }
     ensures rooms { KeepsToRooms step.new }
     ensures known { KeepsToSize run.new step.new }
@@ -313,7 +315,8 @@ pub extern "C" fn cdpatch_run_next(
     ensures ends_only { run.old.machine.stage ≡ 0 → 0 < run.new.machine.stage
         → MayEnd run.old run.new done }
     // It is over only once the image has ended.
-    ensures over { run.new.asked ≡ OVER → (run.old.asked ≡ OVER) ⊎ (run.new.machine.stage ≡ 2) }
+    ensures over { run.new.asked ≡ OVER → (run.old.asked ≡ OVER)
+        ⊎ ((run.new.machine.stage ≡ 2) × (run.new.machine.sectors ≤ sector_limit)) }
     // What each state, hand and count of bytes gives.
     ensures flags { run.new.flags ≡ run.old.flags }
     ensures image_size { run.new.image_size ≡ run.old.image_size }

@@ -36,7 +36,7 @@ pub(crate) const FAULTY: u32 = 8;
 pub(crate) const TOO_LONG: u32 = 16;
 
 /// Damage is carried.
-const CARRY: u32 = 1;
+pub(crate) const CARRY: u32 = 1;
 
 /// COPY is not asked for.
 const NO_COPY: u32 = 2;
