@@ -97,15 +97,15 @@ static void test_room(struct some_case *it, unsigned number) {
     free_made(&made);
 }
 
-/* The log and the status of a run over an image of zeros, of which nothing is kept, and those of cdpatch_check. */
-static void test_longest(const uint8_t *zeros, size_t size, const char *script, unsigned number) {
+/* The status of a run over an image of zeros that is said to have `size` bytes, of which `given` come, and its log as a text. */
+static uint32_t run_of_zeros(const char *script, uint32_t flags, uint64_t size, size_t given, char log[4096]) {
     static struct cdpatch_entry entries[SMALL_ROOM];
-    static uint8_t log[4096], due[4096], hand[CDPATCH_SECTORS_IN_HAND * SECTOR];
+    static uint8_t hand[CDPATCH_SECTORS_IN_HAND * SECTOR];
     static struct cdpatch_rooms rooms;
     struct cdpatch_run run;
     struct cdpatch_step step;
-    size_t done = 0, logged = 0, came = 0, length = 0, script_size = strlen(script);
-    cdpatch_run_begin(&run, (const uint8_t *)script, script_size, 0, number % 2 ? size : CDPATCH_UNKNOWN_SIZE, 0, entries, SMALL_ROOM);
+    size_t done = 0, logged = 0, script_size = strlen(script);
+    cdpatch_run_begin(&run, (const uint8_t *)script, script_size, 0, size, flags, entries, SMALL_ROOM);
     for (;;) {
         cdpatch_run_next(&run, done, (const uint8_t *)script, script_size, entries, SMALL_ROOM, hand, CDPATCH_SECTORS_IN_HAND, &rooms, &step);
         if (step.kind == CDPATCH_END)
@@ -115,14 +115,24 @@ static void test_longest(const uint8_t *zeros, size_t size, const char *script, 
             memcpy(log + logged, step.text, done);
             logged += done;
         } else if (step.kind != CDPATCH_WRITE) {
-            done = done < size - came ? done : size - came;
-            came += done;
+            done = done < given ? done : given;
+            given -= done;
         }
         if (step.kind == CDPATCH_READ)
             memset(hand + step.place, 0, done);
     }
-    uint32_t status = cdpatch_check(zeros, size, (const uint8_t *)script, script_size, 0, false, due, sizeof due, &length);
-    judge(step.status == status && logged == length && !memcmp(log, due, length), "an image of about 1000000 sectors", number);
+    log[logged] = 0;
+    return step.status;
+}
+
+/* The log and the status of a run over an image of zeros, of which nothing is kept, and those of cdpatch_check. */
+static void test_longest(const uint8_t *zeros, size_t size, const char *script, unsigned number) {
+    static uint8_t due[4096];
+    char log[4096];
+    size_t length = 0;
+    uint32_t made = run_of_zeros(script, 0, number % 2 ? size : CDPATCH_UNKNOWN_SIZE, size, log);
+    uint32_t status = cdpatch_check(zeros, size, (const uint8_t *)script, strlen(script), 0, false, due, sizeof due, &length);
+    judge(made == status && strlen(log) == length && !memcmp(log, due, length), "an image of about 1000000 sectors", number);
 }
 
 static void test_long_images(void) {
@@ -136,6 +146,29 @@ static void test_long_images(void) {
         test_longest(zeros, limit + more_bytes[number % 4], scripts[number / 4], number);
     test_longest(zeros, limit - 1, scripts[1], 12);
     munmap(zeros, limit + 4 * SECTOR);
+}
+
+/* Fewer bytes than an image is said to have: the log ends with the line of a failed read, and the status is that of a failure. Of an
+ * image whose size is not known they are all that there is. */
+static void test_short(const char *script, uint32_t flags, size_t size, size_t given, unsigned number) {
+    const char *line = "cdpatch: reading the image failed\n";
+    char log[4096];
+    uint32_t status = run_of_zeros(script, flags, size, given, log);
+    const char *found = strstr(log, line);
+    judge(given < size ? status == CDPATCH_FAILED && found && !strcmp(found, line) : status != CDPATCH_FAILED && !found,
+          "an image of known size that comes short", number);
+    status = run_of_zeros(script, flags, CDPATCH_UNKNOWN_SIZE, given, log);
+    judge(status != CDPATCH_FAILED && !strstr(log, line), "an image of unknown size", number);
+}
+
+static void test_short_images(void) {
+    const char *scripts[] = {"cdpatch 1\n", "cdpatch 1\nset 2 0 41\n", "cdpatch 1\nset 2 2047 4141\nset 9 0 41\n"};
+    size_t given[] = {0, 1, SECTOR, 2 * SECTOR, 2 * SECTOR + 5, 3 * SECTOR, 10 * SECTOR - 1, 10 * SECTOR, 10 * SECTOR + 6};
+    for (unsigned number = 0; number < 9 * 6; number++) {
+        uint32_t flags = number % 2 ? CDPATCH_NO_COPY : 0;
+        for (size_t size = 10 * SECTOR; size <= 10 * SECTOR + 7; size += 7)
+            test_short(scripts[number / 2 % 3], flags, size, given[number / 6] < size ? given[number / 6] : size, number);
+    }
 }
 
 /* A script with an error has no entry. Before a byte is asked for comes its line, which is that of no patch, and then the end. */
@@ -177,6 +210,7 @@ int main(int count, char **arguments) {
         free_case(&it);
     }
     test_long_images();
+    test_short_images();
     test_scripts_with_errors();
     printf("%u cases, %d differ\n", cases, failures);
     return failures > 0;

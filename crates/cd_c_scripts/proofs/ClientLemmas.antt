@@ -48,10 +48,10 @@ use Rattle.cd_image.proofs.ApplyLemmas.{Applies-unread, Applies-write}
 use Rattle.cd_image.proofs.ApplyReportLemmas.{Applies-carried, Applies-ending, Applies-ends_log, Applies-ends_out, Applies-few, Applies-few_counted, Applies-log_bytes, Applies-output}
 use Rattle.cd_image.proofs.CloseLemmas.{Closes-tail}
 use Rattle.cd_image.proofs.KnownLemmas.{StopsAtLog-within, applies, cut_at}
-use Rattle.cd_c_scripts.specs.Client.{AppliesAs, HasEnded, HasMoved, HasTaken, IsLed, IsSaying, LeadsToLine, Passes, Refuses, ReportsAs, Says, unknown_size}
+use Rattle.cd_c_scripts.specs.Client.{AppliesAs, HasEnded, HasMoved, HasTaken, IsLed, IsSaying, LeadsToLine, Passes, Refuses, ReportsAs, Says}
 use Rattle.cd_c_scripts.specs.Flags.{carries}
 use Rattle.cd_c_scripts.specs.InOrder.{MayCome, logged_by}
-use Rattle.cd_c_scripts.specs.Runs.{AsksWhole, Goes, Going, IsBegun, IsDone, IsRunning, MayEnd, Moved, Stops, Tells, steps_left}
+use Rattle.cd_c_scripts.specs.Runs.{AsksForImage, Goes, Going, IsBegun, IsDone, IsRunning, MayEnd, Moved, Stops, Tells, steps_left, unknown_size}
 use Rattle.cd_c_scripts.specs.StepKinds.{copy_kind, end_kind, log_kind, read_kind, write_kind}
 use Rattle.cd_c_scripts.specs.declared.entries.Entry.{Entry}
 use Rattle.cd_c_scripts.specs.declared.run_state.RunStep.{RunStep}
@@ -294,6 +294,24 @@ module _ {carry : Bool} {text : List ℕ} {es : List Entry} {patches : List Patc
         let front : take n (take step.size place) ≡ take n place = take-take n step.size place few in
         let long : length (take n place) ≡ n =
         length-take-le n place (omega (arith, few, sized, told.size, may_come.1)) in
+        let within_limit : length (l.read ++ take n place) ≤ image_limit =
+        elim may_come.0 [
+            | inl less ↦
+                omega (arith, length-append l.read (take n place), long, come, few, told.size, may_come.1, less)
+            | inr one ↦ elim (cases_lt run.machine.sectors sector_limit) [
+              | inl less ↦
+                  omega (arith, length-append l.read (take n place), long, come, few, told.size, one, less)
+              | inr full ↦
+                  omega (
+                    arith,
+                    length-append l.read (take n place),
+                    long,
+                    come,
+                    none (omega (arith, told.at, come, full, h.sound.sectors)),
+                    h.sound.sectors,
+                  )
+            ]
+          ] in
         let gives : Gives now.image image (take n place) = rw front at came.given in
         record {
           read = l.read;
@@ -313,47 +331,19 @@ module _ {carry : Bool} {text : List ℕ} {es : List Entry} {patches : List Patc
             unflushed = record { outs = l.moved.unflushed.outs; logs = l.moved.unflushed.logs };
           };
           running = l.goes.running;
-          took = Moved.given told.asked (omega (arith, few, told.size)) refl refl;
+          took = Moved.given told.asked (omega (arith, few, told.size)) (inr l.unknown) refl refl;
           same = record { window = others; tail = λ one. absurd (omega (arith, one, ready.0)) };
-          within = elim may_come.0 [
-            | inl less ↦
-                omega (arith, length-append l.read (take n place), long, come, few, told.size, may_come.1, less)
-            | inr one ↦ elim (cases_lt run.machine.sectors sector_limit) [
-              | inl less ↦
-                  omega (arith, length-append l.read (take n place), long, come, few, told.size, one, less)
-              | inr full ↦
-                  omega (
-                    arith,
-                    length-append l.read (take n place),
-                    long,
-                    come,
-                    none (omega (arith, told.at, come, full, h.sound.sectors)),
-                    h.sound.sectors,
-                  )
-            ]
-          ];
+          within = within_limit;
           ended = λ is. absurd (elim is [
             | inl over ↦ omega (arith, over, told.asked)
             | inr some ↦ omega (arith, some, ready.0)
           ]);
-          short = λ is. elim is [
-            | inl less ↦
-                let fewer : n < step.size = elim (l.whole.0 kind) [
-                  | inl whole ↦ omega (arith, whole, less.1)
-                  | inr other ↦ elim other [
-                    | inl left ↦
-                        absurd (omega (arith, left, l.unknown, told.at, l.within, told.size, may_come.1))
-                    | inr full ↦
-                        omega (
-                          arith,
-                          none (omega (arith, told.at, come, full)),
-                          told.some,
-                        )
-                  ]
-                ] in
-                (came.bytes.2 (omega (arith, size, fewer)), came.ended.0 (omega (arith, size, fewer)))
-            | inr copied ↦ absurd (omega (arith, copied.0, told.asked))
-          ];
+          short = λ asks less. (
+            came.bytes.2 (omega (arith, size, less, told.size)),
+            came.ended.0 (omega (arith, size, less, told.size)),
+          );
+          little = λ asks.
+              omega (arith, long, come, length-append l.read (take n place), within_limit);
           carried = l.carried;
           unknown = l.unknown;
         }
@@ -404,6 +394,18 @@ module _ {carry : Bool} {text : List ℕ} {es : List Entry} {patches : List Patc
           (rw bytes at fails))
     ]
 
+    not_asked : AsksForImage run → ⊥
+    not_asked asks = elim asks [
+      | inl reading ↦ elim asked.0 [
+        | inl one ↦ omega (arith, one, reading)
+        | inr last ↦ omega (arith, last, reading)
+      ]
+      | inr copying ↦ elim asked.0 [
+        | inl one ↦ omega (arith, one, copying)
+        | inr last ↦ omega (arith, last, copying)
+      ]
+    ]
+
     pub writes : {X E : Type 0} {x : X} {out : Outgoing}
         → Sends {E = E} now.out out (take step.size (slice_index_or hand 0 [])) (Ok x)
         → HasTaken carry text es patches base start (record now { out = out }) run hand hand step.size
@@ -432,16 +434,8 @@ module _ {carry : Bool} {text : List ℕ} {es : List Entry} {patches : List Patc
       same = record { window = refl; tail = λ one. refl };
       within = l.within;
       ended = l.ended;
-      short = λ is. absurd (elim is [
-        | inl given ↦ elim asked.0 [
-          | inl one ↦ omega (arith, one, given.0)
-          | inr last ↦ omega (arith, last, given.0)
-        ]
-        | inr copied ↦ elim asked.0 [
-          | inl one ↦ omega (arith, one, copied.0)
-          | inr last ↦ omega (arith, last, copied.0)
-        ]
-      ]);
+      short = λ asks less. absurd (not_asked asks);
+      little = λ asks. absurd (not_asked asks);
       carried = l.carried;
       unknown = l.unknown;
     }
@@ -509,10 +503,9 @@ module _ {carry : Bool} {text : List ℕ} {es : List Entry} {patches : List Patc
     came_before = Going-read u free.1
 
     pub copies_whole : step.size ≡ SECTOR_SIZE * run.most
-    copies_whole = elim (l.whole.1 kind) [
-      | inl whole ↦ whole
-      | inr left ↦
-          absurd (omega (arith, left, l.unknown, copying.1, copying.2, few_asked, free.3, came_before))
+    copies_whole = elim (asks_copy q.asks copying.0).2 [
+      | inl whole ↦ copying.2 ∙ whole
+      | inr rest ↦ absurd (omega (arith, rest.1, l.unknown, few_asked, free.3))
     ]
 
     front : PassInvariant carry (take run.machine.decided patches) (drop run.machine.decided patches)
@@ -674,7 +667,8 @@ module _ {carry : Bool} {text : List ℕ} {es : List Entry} {patches : List Patc
         };
       };
       running = l.goes.running;
-      took = Moved.copied copying.0 p.bytes p.size (omega (arith, few, copying.2)) refl refl;
+      took =
+          Moved.copied copying.0 p.bytes p.size (omega (arith, few, copying.2)) (inr l.unknown) refl refl;
       same = record {
         window = ap (λ n. take n hand') free.0 ∙ sym (ap (λ n. take n hand) free.0);
         tail = λ one. absurd (omega (arith, one, free.1));
@@ -685,10 +679,8 @@ module _ {carry : Bool} {text : List ℕ} {es : List Entry} {patches : List Patc
         | inl over ↦ omega (arith, over, copying.0)
         | inr some ↦ omega (arith, some, free.1)
       ]);
-      short = λ is. elim is [
-        | inl given ↦ absurd (omega (arith, given.0, copying.0))
-        | inr less ↦ ends (omega (arith, less.1, copies_whole))
-      ];
+      short = λ asks less. ends (omega (arith, less, copying.2));
+      little = λ asks. omega (arith, few, copying.2, few_asked, free.3);
       carried = l.carried;
       unknown = l.unknown;
     }
@@ -742,9 +734,6 @@ may_come_at (Some (x ∷ xs)) run read whole within fits ended = record {
 module _ {carry : Bool} {text : List ℕ} {es : List Entry} {patches : List Patch} {base : ℕ}
     {start now : Streams} {run : ScriptRun} {hand : List (List ℕ)} {step : RunStep}
     (l : IsLed carry text es patches base start now run hand step) (kind : step.kind ≡ log_kind) where
-  line : List ℕ
-  line = take step.size step.text
-
   -- no more is in hand than may be, whether or not the run is over
   in_hand_by : (log_bytes : List ℕ)
       → IsRunning text es patches base l.read l.sent log_bytes run hand
@@ -798,6 +787,18 @@ module _ {carry : Bool} {text : List ℕ} {es : List Entry} {patches : List Patc
       (record { outs = l.moved.unflushed.outs; logs = fails.flushes ∙ l.moved.unflushed.logs })
       l.within)
 
+  asks_nothing : AsksForImage run → ⊥
+  asks_nothing asks = elim asks [
+    | inl reading ↦ elim (to_log l.goes.tells kind).0 [
+      | inl none ↦ omega (arith, none, reading)
+      | inr last ↦ omega (arith, last, reading)
+    ]
+    | inr copying ↦ elim (to_log l.goes.tells kind).0 [
+      | inl none ↦ omega (arith, none, copying)
+      | inr last ↦ omega (arith, last, copying)
+    ]
+  ]
+
   pub logs : {X E : Type 0} {x : X} {log : Outgoing}
       → Sends {E = E} now.log log (take step.size step.text) (Ok x)
       → HasTaken carry text es patches base start (record now { log = log }) run hand hand step.size
@@ -828,37 +829,25 @@ module _ {carry : Bool} {text : List ℕ} {es : List Entry} {patches : List Patc
         same = record { window = refl; tail = λ one. refl };
         within = l.within;
         ended = l.ended;
-        short = λ is. absurd (elim is [
-          | inl given ↦ elim asked.0 [
-            | inl none ↦ omega (arith, none, given.0)
-            | inr last ↦ omega (arith, last, given.0)
-          ]
-          | inr copied ↦ elim asked.0 [
-            | inl none ↦ omega (arith, none, copied.0)
-            | inr last ↦ omega (arith, last, copied.0)
-          ]
-        ]);
+        short = λ asks less. absurd (asks_nothing asks);
+        little = λ asks. absurd (asks_nothing asks);
         carried = l.carried;
         unknown = l.unknown;
       }
 
 -- ---- the next step
 
--- a run with as many steps as are left, and none at its end
-abbrev pub measure : ℕ → ScriptRun → ℕ
-measure kind run = if nat_eq kind end_kind then 0 else steps_left run + 1
-
 pub led_next : {carry : Bool} {text : List ℕ} {es : List Entry} {patches : List Patch} {base : ℕ}
     {start now : Streams} {run : ScriptRun} {hand before : List (List ℕ)} {done : ℕ}
     (t : HasTaken carry text es patches base start now run before hand done)
     (run' : ScriptRun) (hand' : List (List ℕ)) (step : RunStep)
     → Goes text es patches base t.read' t.sent' t.log_bytes run' hand' step
-    → run'.flags ≡ run.flags → run'.image_size ≡ run.image_size → AsksWhole run' step
+    → run'.flags ≡ run.flags → run'.image_size ≡ run.image_size
     → (run.machine.stage ≡ 0 → 0 < run'.machine.stage → MayEnd run run' done)
     → (run'.asked ≡ OVER → (run.asked ≡ OVER)
     ⊎ ((run'.machine.stage ≡ 2) × (run'.machine.sectors ≤ sector_limit)))
     → IsLed carry text es patches base start now run' hand' step
-led_next {text = text} {es = es} {patches = patches} {base = base} {now = now} {run = run} {done = done} t run' hand' step goes flags size whole ends over = record {
+led_next {text = text} {es = es} {patches = patches} {base = base} {now = now} {run = run} {done = done} t run' hand' step goes flags size ends over = record {
   read = t.read';
   sent = t.sent';
   log_bytes = t.log_bytes;
@@ -868,12 +857,11 @@ led_next {text = text} {es = es} {patches = patches} {base = base} {now = now} {
   ended = by_running goes.running;
   carried = ap carries flags ∙ t.carried;
   unknown = size ∙ t.unknown;
-  whole = whole;
 }
   where
     by_end : run'.machine.sectors ≤ sector_limit → MayEnd run run' done → HasEnded now.image
-    by_end few (MayEnd.given asked less) = t.short (inl (asked, less))
-    by_end few (MayEnd.copied asked less) = t.short (inr (asked, less))
+    by_end few (MayEnd.fewer asks less unknown) = t.short asks less
+    by_end few (MayEnd.whole asks all) = absurd (omega (arith, all, t.little asks, t.unknown))
     by_end few (MayEnd.known all) = absurd (omega (arith, all, t.unknown, few))
 
     by_stage : run'.machine.sectors ≤ sector_limit → 0 < run'.machine.stage → HasEnded now.image
@@ -922,9 +910,10 @@ led_first start begun carried unknown = record {
     | inl over ↦ omega (arith, over, begun.1)
     | inr some ↦ omega (arith, some, begun.2)
   ]);
-  short = λ is. absurd (elim is [
-    | inl given ↦ omega (arith, given.0, begun.1)
-    | inr copied ↦ omega (arith, copied.0, begun.1)
+  short = λ asks less. absurd (omega (arith, less, begun.0));
+  little = λ asks. absurd (elim asks [
+    | inl reading ↦ omega (arith, reading, begun.1)
+    | inr copying ↦ omega (arith, copying, begun.1)
   ]);
   carried = carried;
   unknown = unknown;

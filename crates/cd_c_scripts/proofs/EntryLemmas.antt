@@ -125,7 +125,7 @@ pub patch_comes : {text : List ℕ} {named : Version} {flags : ℕ} {e : Entry} 
 patch_comes {text} {named} {flags} {e} {p} {bytes} {read} {v} {result} entry is named_is line meaning =
     let same : v ≡ Some named = cc in
     meaning ∙ ap (λ u. meaning_at u e.number 0 bytes) same
-    ∙ ap (λ l. meaning_at (Some named) e.number 0 l) line ∙ entry.reads
+    ∙ ap (λ l. meaning_at (Some named) e.number 0 l) line ∙ entry.reads.1
 
 -- what was read of the line of an entry is its patch
 pub same_patch : {text : List ℕ} {named : Version} {flags : ℕ} {e : Entry} {p found : Patch}
@@ -168,7 +168,6 @@ entry_asked flags entry = record {
   found = entry.found;
   reads = entry.reads;
   asked = ap (as_asked flags) entry.asked;
-  within = entry.within;
   block = entry.block;
   number = entry.number;
   met = entry.met;

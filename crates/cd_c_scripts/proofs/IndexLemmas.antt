@@ -296,9 +296,8 @@ module _ {text : List ℕ} {version : Option Version} {number count start : ℕ}
       let entry : IsEntry text v 0 e p =
       record {
         found = p;
-        reads = rw (at, from, long) read.1;
+        reads = (omega (arith, from, long, inside), rw (at, from, long) read.1);
         asked = refl;
-        within = omega (arith, from, long, inside);
         block = block;
         number = at ∙ sym read.0;
         met = met;

@@ -1,13 +1,15 @@
 -- What a client may have moved, by what was asked for.
-use Rattle.std.proofs.Common.{◌≡◌, ℕ, ◌*◌, ◌<◌, ◌≤◌, ◌⊎◌, ◌++◌, Bool, List, [], length, take, inr, arith}
+use Rattle.std.proofs.Common.{◌≡◌, ℕ, ◌+◌, ◌-◌, ◌*◌, ◌<◌, ◌≤◌, ◌⊎◌, ◌++◌, Bool, List, [], length, take, drop, inl, inr, arith, ap, sym, ◌∙◌}
 use Rattle.std.specs.List.{slice_index_or}
+use Rattle.std.proofs.lemmas.Bool.{cases_lt}
+use Rattle.std.proofs.lemmas.List.{drop-drop}
 use Rattle.cd_script.specs.PatchForm.{Patch}
 use Rattle.cd_sector.specs.Image.{sector_limit}
 use Rattle.cd_sector.specs.declared.sector.TheConstants.{SECTOR_SIZE}
 use Rattle.cd_run.specs.declared.run.PatchRun.{PatchRun}
 use Rattle.cd_run.specs.declared.run.Step.TheVariants.{Copy, Read, Send, SendTail}
 use Rattle.cd_c_scripts.specs.Flags.{carries}
-use Rattle.cd_c_scripts.specs.Runs.{About, Asks, Going, IsBeyond, IsDone, IsRunning, IsTooLong, Moved, SameInHand, Steps}
+use Rattle.cd_c_scripts.specs.Runs.{About, Asks, AsksForImage, CopiesWhole, Going, IsBeyond, IsDone, IsRunning, IsShort, IsTooLong, MayEnd, Moved, ReadsWhole, SameInHand, Steps, unknown_size}
 use Rattle.cd_c_scripts.specs.declared.entries.Entry.{Entry}
 use Rattle.cd_c_scripts.specs.declared.run_state.ScriptRun.{ScriptRun}
 use Rattle.cd_c_scripts.specs.declared.run_state.TheConstants.{COPYING, FAULTY, NOTHING, OVER, READING, WRITING, WRITING_TAIL}
@@ -74,17 +76,17 @@ module _ {run : ScriptRun} {hand : List (List ℕ)} {done : ℕ} {read sent read
   pub was_copied : Moved run hand done read sent read' sent' → run.asked ≡ COPYING
       → WasCopied run done read sent read' sent'
   was_copied (Moved.told asked size is_read is_sent) is = absurd (omega (arith, asked, is))
-  was_copied (Moved.copied asked bytes size few is_read is_sent) is =
+  was_copied (Moved.copied asked bytes size few all is_read is_sent) is =
       record { bytes = bytes; size = size; few = few; is_read = is_read; is_sent = is_sent }
-  was_copied (Moved.given asked few is_read is_sent) is = absurd (omega (arith, asked, is))
+  was_copied (Moved.given asked few all is_read is_sent) is = absurd (omega (arith, asked, is))
   was_copied (Moved.written asked size is_read is_sent) is = absurd (omega (arith, asked, is))
 
   pub was_given : Moved run hand done read sent read' sent' → run.asked ≡ READING
       → (read' ≡ read ++ take done (slice_index_or hand run.machine.held [])) × (sent' ≡ sent)
       × (done ≤ run.size)
   was_given (Moved.told asked size is_read is_sent) is = absurd (omega (arith, asked, is))
-  was_given (Moved.copied asked bytes size few is_read is_sent) is = absurd (omega (arith, asked, is))
-  was_given (Moved.given asked few is_read is_sent) is = (is_read, is_sent, few)
+  was_given (Moved.copied asked bytes size few all is_read is_sent) is = absurd (omega (arith, asked, is))
+  was_given (Moved.given asked few all is_read is_sent) is = (is_read, is_sent, few)
   was_given (Moved.written asked size is_read is_sent) is = absurd (omega (arith, asked, is))
 
   pub was_written : Moved run hand done read sent read' sent'
@@ -92,48 +94,49 @@ module _ {run : ScriptRun} {hand : List (List ℕ)} {done : ℕ} {read sent read
       → (read' ≡ read) × (sent' ≡ sent ++ take done (slice_index_or hand 0 []))
       × (done ≡ run.size)
   was_written (Moved.told asked size is_read is_sent) is = absurd (omega (arith, asked, is))
-  was_written (Moved.copied asked bytes size few is_read is_sent) is = absurd (omega (arith, asked, is))
-  was_written (Moved.given asked few is_read is_sent) is = absurd (omega (arith, asked, is))
+  was_written (Moved.copied asked bytes size few all is_read is_sent) is = absurd (omega (arith, asked, is))
+  was_written (Moved.given asked few all is_read is_sent) is = absurd (omega (arith, asked, is))
   was_written (Moved.written asked size is_read is_sent) is = (is_read, is_sent, size)
 
   pub was_told : Moved run hand done read sent read' sent'
       → (run.asked ≡ NOTHING) ⊎ (OVER ≤ run.asked) → (read' ≡ read) × (sent' ≡ sent) × (done ≡ run.size)
   was_told (Moved.told asked size is_read is_sent) is = (is_read, is_sent, size)
-  was_told (Moved.copied asked bytes size few is_read is_sent) is = absurd (omega (arith, asked, is))
-  was_told (Moved.given asked few is_read is_sent) is = absurd (omega (arith, asked, is))
+  was_told (Moved.copied asked bytes size few all is_read is_sent) is = absurd (omega (arith, asked, is))
+  was_told (Moved.given asked few all is_read is_sent) is = absurd (omega (arith, asked, is))
   was_told (Moved.written asked size is_read is_sent) is = absurd (omega (arith, asked, is))
 
 module _ {patches : List Patch} {run : ScriptRun} where
   pub asks_copy : Asks patches run → run.asked ≡ COPYING
       → Steps patches run.machine (Copy run.most) × (run.size ≤ SECTOR_SIZE * run.most)
+      × CopiesWhole run
   asks_copy (Asks.nothing asked) is = absurd (omega (arith, asked, is))
-  asks_copy (Asks.copying asked steps few) is = (steps, few)
-  asks_copy (Asks.reading asked steps few size) is = absurd (omega (arith, asked, is))
+  asks_copy (Asks.copying asked steps few whole) is = (steps, few, whole)
+  asks_copy (Asks.reading asked steps few size whole) is = absurd (omega (arith, asked, is))
   asks_copy (Asks.writing asked steps size) is = absurd (omega (arith, asked, is))
   asks_copy (Asks.writing_tail asked steps size) is = absurd (omega (arith, asked, is))
 
   pub asks_read : Asks patches run → run.asked ≡ READING
       → Steps patches run.machine Read × (run.size ≤ SECTOR_SIZE)
-      × ((run.machine.sectors < sector_limit) ⊎ (run.size ≡ 1))
+      × ((run.machine.sectors < sector_limit) ⊎ (run.size ≡ 1)) × ReadsWhole run
   asks_read (Asks.nothing asked) is = absurd (omega (arith, asked, is))
-  asks_read (Asks.copying asked steps few) is = absurd (omega (arith, asked, is))
-  asks_read (Asks.reading asked steps few size) is = (steps, few, size)
+  asks_read (Asks.copying asked steps few whole) is = absurd (omega (arith, asked, is))
+  asks_read (Asks.reading asked steps few size whole) is = (steps, few, size, whole)
   asks_read (Asks.writing asked steps size) is = absurd (omega (arith, asked, is))
   asks_read (Asks.writing_tail asked steps size) is = absurd (omega (arith, asked, is))
 
   pub asks_write : Asks patches run → run.asked ≡ WRITING
       → Steps patches run.machine Send × (run.size ≡ SECTOR_SIZE)
   asks_write (Asks.nothing asked) is = absurd (omega (arith, asked, is))
-  asks_write (Asks.copying asked steps few) is = absurd (omega (arith, asked, is))
-  asks_write (Asks.reading asked steps few size) is = absurd (omega (arith, asked, is))
+  asks_write (Asks.copying asked steps few whole) is = absurd (omega (arith, asked, is))
+  asks_write (Asks.reading asked steps few size whole) is = absurd (omega (arith, asked, is))
   asks_write (Asks.writing asked steps size) is = (steps, size)
   asks_write (Asks.writing_tail asked steps size) is = absurd (omega (arith, asked, is))
 
   pub asks_tail : Asks patches run → run.asked ≡ WRITING_TAIL
       → Steps patches run.machine SendTail × (run.size ≡ run.machine.tail)
   asks_tail (Asks.nothing asked) is = absurd (omega (arith, asked, is))
-  asks_tail (Asks.copying asked steps few) is = absurd (omega (arith, asked, is))
-  asks_tail (Asks.reading asked steps few size) is = absurd (omega (arith, asked, is))
+  asks_tail (Asks.copying asked steps few whole) is = absurd (omega (arith, asked, is))
+  asks_tail (Asks.reading asked steps few size whole) is = absurd (omega (arith, asked, is))
   asks_tail (Asks.writing asked steps size) is = absurd (omega (arith, asked, is))
   asks_tail (Asks.writing_tail asked steps size) is = (steps, size)
 
@@ -141,8 +144,8 @@ module _ {patches : List Patch} {run : ScriptRun} where
 
 pub asks_few : {patches : List Patch} {run : ScriptRun} → Asks patches run → run.asked < OVER
 asks_few (Asks.nothing asked) = omega (arith, asked)
-asks_few (Asks.copying asked steps few) = omega (arith, asked)
-asks_few (Asks.reading asked steps few size) = omega (arith, asked)
+asks_few (Asks.copying asked steps few whole) = omega (arith, asked)
+asks_few (Asks.reading asked steps few size whole) = omega (arith, asked)
 asks_few (Asks.writing asked steps size) = omega (arith, asked)
 asks_few (Asks.writing_tail asked steps size) = omega (arith, asked)
 
@@ -180,3 +183,60 @@ is_stopped (IsRunning.over asked whole) moved is = absurd (omega (arith, asked, 
 is_stopped (IsRunning.long asked long) moved is =
     let m = was_told moved (inr (omega (arith, is))) in
     rw (m.0, m.1) long
+
+-- ---- an image that ends
+
+-- what a client has moved is not short
+pub not_short : {run : ScriptRun} {hand : List (List ℕ)} {done : ℕ}
+    {read sent read' sent' : List ℕ} → Moved run hand done read sent read' sent'
+    → IsShort run done → ⊥
+not_short (Moved.told asked size is_read is_sent) short = omega (arith, size, short.1)
+not_short (Moved.copied asked bytes size few all is_read is_sent) short =
+    elim all [ inl same ↦ omega (arith, same, short.1) | inr unknown ↦ short.2 unknown ]
+not_short (Moved.given asked few all is_read is_sent) short =
+    elim all [ inl same ↦ omega (arith, same, short.1) | inr unknown ↦ short.2 unknown ]
+not_short (Moved.written asked size is_read is_sent) short = omega (arith, size, short.1)
+
+module _ {before : ScriptRun} {done : ℕ} (now : ScriptRun) (few : done ≤ before.size)
+    (open_end : AsksForImage before → done < before.size → before.image_size ≡ unknown_size) where
+  -- fewer came than a sector has
+  pub ends_read : before.asked ≡ READING → ReadsWhole before → done < SECTOR_SIZE
+      → (before.machine.sectors ≡ sector_limit → done ≡ 0) → MayEnd before now done
+  ends_read asked whole short last = elim (cases_lt done before.size) [
+    | inl fewer ↦ MayEnd.fewer (inl asked) fewer (open_end (inl asked) fewer)
+    | inr all ↦ elim whole [
+      | inl sector ↦ absurd (omega (arith, sector, short, all))
+      | inr other ↦ elim other [
+        | inl rest ↦ MayEnd.whole (inl asked) (omega (arith, rest.1, few, all))
+        | inr beyond ↦ absurd (omega (arith, beyond.1, last beyond.0, all))
+      ]
+    ]
+  ]
+
+  -- fewer came than could be copied
+  pub ends_copy : before.asked ≡ COPYING → CopiesWhole before → done < SECTOR_SIZE * before.most
+      → MayEnd before now done
+  ends_copy asked whole short = elim (cases_lt done before.size) [
+    | inl fewer ↦ MayEnd.fewer (inr asked) fewer (open_end (inr asked) fewer)
+    | inr all ↦ elim whole [
+      | inl sectors ↦ absurd (omega (arith, sectors, short, all))
+      | inr rest ↦ MayEnd.whole (inr asked) (omega (arith, rest.1, few, all))
+    ]
+  ]
+
+-- the same of a later state to which no more has come
+pub ends_as : {before now later : ScriptRun} {done : ℕ}
+    → later.machine.sectors ≡ now.machine.sectors → MayEnd before now done
+    → MayEnd before later done
+ends_as same (MayEnd.fewer asked few unknown) = MayEnd.fewer asked few unknown
+ends_as same (MayEnd.whole asked all) = MayEnd.whole asked all
+ends_as same (MayEnd.known none) = MayEnd.known (omega (arith, same, none))
+
+-- ---- the hand behind what a run holds
+
+pub drop_more : {A : Type 0} (n place : ℕ) (xs ys : List A) → n ≤ place → drop n xs ≡ drop n ys
+    → drop place xs ≡ drop place ys
+drop_more n place xs ys few same =
+    let e : n + (place - n) ≡ place = omega (arith, few) in
+    ap (λ k. drop k xs) (sym e) ∙ sym (drop-drop (place - n) n xs)
+    ∙ ap (λ l. drop (place - n) l) same ∙ drop-drop (place - n) n ys ∙ ap (λ k. drop k ys) e

@@ -192,7 +192,7 @@ module _ (text : List ℕ) (version : Version) where
   is_of : (e : Entry) (p : Patch) → IsEntry text version 0 e p → of_entry e ≡ p
   unfolding read_patch
   is_of e p entry =
-      let first : of_entry e ≡ entry.found = ap read_patch entry.reads in
+      let first : of_entry e ≡ entry.found = ap read_patch entry.reads.1 in
       let asked : p ≡ entry.found = entry.asked in
       first ∙ sym asked
 

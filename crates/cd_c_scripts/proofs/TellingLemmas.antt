@@ -16,7 +16,7 @@ use Rattle.cd_run.proofs.UnderwayLemmas.{first_left}
 use Rattle.cd_c_scripts.specs.Flags.{carries, copies}
 use Rattle.cd_c_scripts.specs.InOrder.{EachComing, IsInOrder, MayCome, logged_by}
 use Rattle.cd_patch.specs.OutcomeNumbers.{outcome_block, outcome_number, outcome_offset}
-use Rattle.cd_c_scripts.specs.Runs.{About, Asks, Going, Goes, IsBeyond, IsDone, IsLineOf, IsLog, IsLookedAt, IsRunning, IsTooLong, MeetsMore, Steps, Tells, status_of}
+use Rattle.cd_c_scripts.specs.Runs.{About, Asks, CopiesWhole, Going, Goes, IsBeyond, IsDone, IsLineOf, IsLog, IsLookedAt, IsRunning, IsTooLong, MeetsMore, ReadsWhole, Steps, Tells, status_of}
 use Rattle.cd_c_scripts.specs.StepKinds.{copy_kind, end_kind, log_kind, read_kind, write_kind}
 use Rattle.cd_c_scripts.specs.declared.entries.Entry.{Entry}
 use Rattle.cd_c_scripts.specs.declared.run_state.RunStep.{RunStep}
@@ -106,10 +106,11 @@ module _ {text : List ℕ} {es : List Entry} {patches : List Patch} {base : ℕ}
   pub Goes-copy : (most : ℕ) → Steps patches old.machine (Copy most) → new.asked ≡ COPYING
       → new.most ≡ most → new.size ≤ SECTOR_SIZE * most → step.kind ≡ copy_kind
       → step.at ≡ SECTOR_SIZE * old.machine.sectors → step.size ≡ new.size → 0 < step.size
-      → copies old.flags ≡ true → Goes text es patches base read sent log_bytes new hand step
-  Goes-copy most steps asked is_most few kind at size some may =
+      → copies old.flags ≡ true → CopiesWhole new
+      → Goes text es patches base read sent log_bytes new hand step
+  Goes-copy most steps asked is_most few kind at size some may whole =
       Goes-asked
-      (Asks.copying asked (rw (same.machine, is_most) steps) (omega (arith, few, is_most)))
+      (Asks.copying asked (rw (same.machine, is_most) steps) (omega (arith, few, is_most)) whole)
       (Tells.to_copy kind asked (at ∙ sym (Going-read h steps.0.1)) size some (rw same.flags may))
       (omega (arith, kind))
       (λ sends image comes os last patched k here inside.
@@ -123,10 +124,10 @@ module _ {text : List ℕ} {es : List Entry} {patches : List Patch} {base : ℕ}
       → step.size ≡ new.size → 0 < step.size
       → (old.machine.sectors ≡ sector_limit) ⊎ (MeetsMore (drop old.machine.decided patches) old.machine
       ⊎ (copies old.flags ≡ false))
-      → Goes text es patches base read sent log_bytes new hand step
-  Goes-read steps asked few beyond kind at place size some why =
+      → ReadsWhole new → Goes text es patches base read sent log_bytes new hand step
+  Goes-read steps asked few beyond kind at place size some why whole =
       Goes-asked
-      (Asks.reading asked (rw same.machine steps) few (rw same.machine beyond))
+      (Asks.reading asked (rw same.machine steps) few (rw same.machine beyond) whole)
       (Tells.to_read kind asked (at ∙ sym (Going-read h steps.0.0))
       (rw same.machine place) size some (elim why [
         | inl last ↦

@@ -13,7 +13,7 @@ use Rattle.cd_sector.specs.declared.sector.TheConstants.{SECTOR_SIZE}
 use Rattle.cd_image.specs.Applying.{Applies, Failed, Flushed, HoldsFew, HoldsFewCounted, Streams, WritesCarried, WritesLog, WritesPatched, streams}
 use Rattle.cd_image.specs.declared.patch_log.Tally.{Tally}
 use Rattle.cd_c_scripts.specs.Flags.{carries}
-use Rattle.cd_c_scripts.specs.Runs.{AsksWhole, Goes, IsRunning, Moved, SameInHand, status_of}
+use Rattle.cd_c_scripts.specs.Runs.{AsksForImage, Goes, IsRunning, Moved, SameInHand, status_of, unknown_size}
 use Rattle.cd_c_scripts.specs.StepKinds.{end_kind, log_kind}
 use Rattle.cd_c_scripts.specs.declared.entries.Entry.{Entry}
 use Rattle.cd_c_scripts.specs.declared.run_state.RunStep.{RunStep}
@@ -110,10 +110,6 @@ pub record HasMoved (start now : Streams) (read sent log_bytes : List ℕ) : Typ
   pub unfailed : Failed start now 0 0 0
   pub unflushed : Flushed start now 0 0
 
--- the size of an image of which no size is known: `CDPATCH_UNKNOWN_SIZE`
-abbrev pub unknown_size : ℕ
-unknown_size = 18446744073709551615
-
 -- a call has told a step of a run, and its client has moved what the steps before it asked for
 pub record IsLed (carry : Bool) (text : List ℕ) (es : List Entry) (patches : List Patch) (base : ℕ)
     (start now : Streams) (run : ScriptRun) (hand : List (List ℕ)) (step : RunStep) : Type 0 where
@@ -126,13 +122,6 @@ pub record IsLed (carry : Bool) (text : List ℕ) (es : List Entry) (patches : L
   pub ended : (run.asked ≡ OVER) ⊎ (0 < run.machine.stage) → HasEnded now.image
   pub carried : carries run.flags ≡ carry
   pub unknown : run.image_size ≡ unknown_size
-  pub whole : AsksWhole run step
-
--- less came than a sector, or than the sectors that may be copied
-abbrev pub IsShort : ScriptRun → ℕ → Type 0
-IsShort run done =
-    ((run.asked ≡ READING) × (done < SECTOR_SIZE))
-    ⊎ ((run.asked ≡ COPYING) × (done < SECTOR_SIZE * run.most))
 
 -- and it has moved what this step asks for: `done` bytes
 pub record HasTaken (carry : Bool) (text : List ℕ) (es : List Entry) (patches : List Patch)
@@ -149,7 +138,8 @@ pub record HasTaken (carry : Bool) (text : List ℕ) (es : List Entry) (patches 
   pub same : SameInHand run.machine hand hand'
   pub within : length read' ≤ image_limit
   pub ended : (run.asked ≡ OVER) ⊎ (0 < run.machine.stage) → HasEnded now.image
-  pub short : IsShort run done → HasEnded now.image
+  pub short : AsksForImage run → done < run.size → HasEnded now.image
+  pub little : AsksForImage run → SECTOR_SIZE * run.machine.sectors + done ≤ image_limit
   pub carried : carries run.flags ≡ carry
   pub unknown : run.image_size ≡ unknown_size
 

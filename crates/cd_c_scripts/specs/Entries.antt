@@ -12,10 +12,11 @@ use Rattle.cd_c_scripts.specs.Flags.{as_asked}
 use Rattle.cd_c_scripts.specs.Lines.{version_of}
 use Rattle.cd_c_scripts.specs.declared.entries.Entry.{Entry}
 
--- the line of an entry in a text, read again in this version, has a patch
+-- the line of an entry stands in a text, and read again in this version it has a patch
 abbrev pub HasLine : List ℕ → Version → Entry → Patch → Type 0
 HasLine text version e p =
-    meaning_at (Some version) e.number 0 (take e.size (drop e.start text)) ≡ Ok (content.Patch p)
+    (e.start + e.size ≤ length text)
+    × (meaning_at (Some version) e.number 0 (take e.size (drop e.start text)) ≡ Ok (content.Patch p))
 
 -- the entry of a patch as the flags want it
 pub record IsEntry (text : List ℕ) (version : Version) (flags : ℕ) (e : Entry) (p : Patch)
@@ -23,7 +24,6 @@ pub record IsEntry (text : List ℕ) (version : Version) (flags : ℕ) (e : Entr
   pub found : Patch
   pub reads : HasLine text version e found
   pub asked : p ≡ as_asked flags found
-  pub within : e.start + e.size ≤ length text
   pub block : e.block ≡ found.block
   pub number : e.number ≡ found.line
   pub met : e.blocks_met ≡ blocks_met found

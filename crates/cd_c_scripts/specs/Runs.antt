@@ -1,6 +1,6 @@
 -- A run that C leads by two calls: how far it has come, what it asks for, and what its client may have
 -- moved.
-use Rattle.std.specs.Prelude.{◌≡◌, ℕ, ◌+◌, ◌-◌, ◌*◌, ◌==◌, ◌<◌, ◌≤◌, ◌⊎◌, ◌++◌, nat_lt, Bool, true, false, List, [], ◌∷◌, Option, None, Some, length, take, drop, if◌then◌else◌}
+use Rattle.std.specs.Prelude.{◌≡◌, ◌≢◌, ℕ, ◌+◌, ◌-◌, ◌*◌, ◌==◌, ◌<◌, ◌≤◌, ◌⊎◌, ◌++◌, nat_lt, Bool, true, false, List, [], ◌∷◌, Option, None, Some, length, take, drop, if◌then◌else◌}
 use Rattle.std.specs.List.{slice_get, slice_index_or}
 use Rattle.cd_script.specs.FaultNumbers.{fault_of}
 use Rattle.cd_script.specs.Patch.{IsPatchList}
@@ -11,7 +11,7 @@ use Rattle.cd_sector.specs.Image.{base_limit, bytes_of, image_limit, sector_limi
 use Rattle.cd_sector.specs.declared.sector.TheConstants.{SECTOR_SIZE}
 use Rattle.cd_patch.specs.Blocks.{blocks_met}
 use Rattle.cd_patch.specs.declared.outcome.Outcome.{Outcome}
-use Rattle.cd_run.specs.Messages.{long_image, long_script, script_fault_line}
+use Rattle.cd_run.specs.Messages.{failed_read, long_image, long_script, script_fault_line}
 use Rattle.cd_run.specs.PatchLog.{log_line, log_lines, log_text, log_when_too_long, refused_count, sent_when_too_long}
 use Rattle.cd_run.specs.Patched.{EachPatching, IsPatched}
 use Rattle.cd_run.specs.Running.{IsRun, Reached, closed_at, sent_bytes, tail_at, tail_bytes, window_of}
@@ -76,13 +76,34 @@ pub record About (text : List ℕ) (es : List Entry) (patches : List Patch) (bas
   pub entries : AreEntries text named run.flags (take run.count es) patches
   pub list : IsPatchList patches
 
+-- the size of an image that is not known before its end: `CDPATCH_UNKNOWN_SIZE`
+abbrev pub unknown_size : ℕ
+unknown_size = 18446744073709551615
+
+-- all that is left of the image is asked for
+abbrev pub AsksForRest : ScriptRun → Type 0
+AsksForRest run =
+    (0 < run.size) × (SECTOR_SIZE * run.machine.sectors + run.size ≡ run.image_size)
+
+-- all that may be read at once is asked for: a sector, what is left of the image, or the byte after its
+-- largest size
+abbrev pub ReadsWhole : ScriptRun → Type 0
+ReadsWhole run =
+    (run.size ≡ SECTOR_SIZE)
+    ⊎ (AsksForRest run ⊎ ((run.machine.sectors ≡ sector_limit) × (run.size ≡ 1)))
+
+-- all that may be copied at once is asked for: as many sectors as may be, or what is left of the image
+abbrev pub CopiesWhole : ScriptRun → Type 0
+CopiesWhole run = (run.size ≡ SECTOR_SIZE * run.most) ⊎ AsksForRest run
+
 -- what a state asks for: the step that is next
 pub data Asks (patches : List Patch) (run : ScriptRun) : Type 0 where
   nothing : run.asked ≡ NOTHING → Asks patches run
   copying : run.asked ≡ COPYING → Steps patches run.machine (Copy run.most)
-      → run.size ≤ SECTOR_SIZE * run.most → Asks patches run
+      → run.size ≤ SECTOR_SIZE * run.most → CopiesWhole run → Asks patches run
   reading : run.asked ≡ READING → Steps patches run.machine Read → run.size ≤ SECTOR_SIZE
-      → (run.machine.sectors < sector_limit) ⊎ (run.size ≡ 1) → Asks patches run
+      → (run.machine.sectors < sector_limit) ⊎ (run.size ≡ 1) → ReadsWhole run
+      → Asks patches run
   writing : run.asked ≡ WRITING → Steps patches run.machine Send → run.size ≡ SECTOR_SIZE
       → Asks patches run
   writing_tail : run.asked ≡ WRITING_TAIL → Steps patches run.machine SendTail
@@ -130,6 +151,10 @@ pub data IsRunning (text : List ℕ) (es : List Entry) (patches : List Patch) (b
   long : run.asked ≡ STOPPED → IsTooLong (carries run.flags) patches base read sent log_bytes
       → IsRunning text es patches base read sent log_bytes run hand
 
+-- all that was asked for has come, or the size of the image is not known: then it may end with fewer
+abbrev pub IsAllToCome : ScriptRun → ℕ → Type 0
+IsAllToCome run done = (done ≡ run.size) ⊎ (run.image_size ≡ unknown_size)
+
 -- what a client did with the step of a state: `done` bytes were moved, and it passes this hand.
 -- `read` and `sent` have become `read'` and `sent'`
 pub data Moved (run : ScriptRun) (hand : List (List ℕ)) (done : ℕ)
@@ -137,9 +162,9 @@ pub data Moved (run : ScriptRun) (hand : List (List ℕ)) (done : ℕ)
   told : (run.asked ≡ NOTHING) ⊎ (OVER ≤ run.asked) → done ≡ run.size → read' ≡ read → sent' ≡ sent
       → Moved run hand done read sent read' sent'
   copied : run.asked ≡ COPYING → (bytes : List ℕ) → length bytes ≡ done → done ≤ run.size
-      → read' ≡ read ++ bytes → sent' ≡ sent ++ bytes
+      → IsAllToCome run done → read' ≡ read ++ bytes → sent' ≡ sent ++ bytes
       → Moved run hand done read sent read' sent'
-  given : run.asked ≡ READING → done ≤ run.size
+  given : run.asked ≡ READING → done ≤ run.size → IsAllToCome run done
       → read' ≡ read ++ take done (slice_index_or hand run.machine.held []) → sent' ≡ sent
       → Moved run hand done read sent read' sent'
   written : (run.asked ≡ WRITING) ⊎ (run.asked ≡ WRITING_TAIL) → done ≡ run.size → read' ≡ read
@@ -297,11 +322,28 @@ with_asked run asked most size = record run { asked = asked; most = most; size =
 abbrev pub EndsOr : ScriptRun → ℕ → Type 0
 EndsOr run stage = (run.asked ≡ STOPPED) ⊎ (stage ≤ run.machine.stage)
 
--- why the image may have ended: less came than was asked for, or all of its size
+-- bytes of the image were asked for
+abbrev pub AsksForImage : ScriptRun → Type 0
+AsksForImage run = (run.asked ≡ READING) ⊎ (run.asked ≡ COPYING)
+
+-- why the image may have ended: its size was not known, and fewer bytes came than were asked for; or
+-- what was left of its size has come; or nothing is left of it
 pub data MayEnd (before now : ScriptRun) (done : ℕ) : Type 0 where
-  given : before.asked ≡ READING → done < SECTOR_SIZE → MayEnd before now done
-  copied : before.asked ≡ COPYING → done < SECTOR_SIZE * before.most → MayEnd before now done
+  fewer : AsksForImage before → done < before.size → before.image_size ≡ unknown_size
+      → MayEnd before now done
+  whole : AsksForImage before → SECTOR_SIZE * before.machine.sectors + done ≡ before.image_size
+      → MayEnd before now done
   known : before.image_size ≤ SECTOR_SIZE * now.machine.sectors → MayEnd before now done
+
+-- fewer bytes came than were asked for of an image whose size was known
+abbrev pub IsShort : ScriptRun → ℕ → Type 0
+IsShort run done = AsksForImage run × (done < run.size) × (run.image_size ≢ unknown_size)
+
+-- the run says that reading the image failed, and ends with 2
+pub record FailsRead (run : ScriptRun) (step : RunStep) : Type 0 where
+  pub kind : step.kind ≡ log_kind
+  pub line : take step.size step.text ≡ failed_read
+  pub asked : run.asked ≡ STOPPED
 
 -- the run ends with 2
 pub record Stops (run : ScriptRun) (step : RunStep) : Type 0 where
@@ -314,14 +356,18 @@ abbrev pub KeepsToSize : ScriptRun → RunStep → Type 0
 KeepsToSize run step =
     (step.kind ≡ read_kind) ⊎ (step.kind ≡ copy_kind) → step.at + step.size ≤ run.image_size
 
--- a step asks for all that may come: a sector, or what is left of the image, or a byte after its largest
--- size; or as many sectors as may be copied, or what is left
+-- READ and COPY ask for all that may come at once
 abbrev pub AsksWhole : ScriptRun → RunStep → Type 0
 AsksWhole run step =
-    (step.kind ≡ read_kind → (step.size ≡ SECTOR_SIZE) ⊎ (step.at + step.size ≡ run.image_size)
-    ⊎ (run.machine.sectors ≡ sector_limit))
-    × (step.kind ≡ copy_kind
-    → (step.size ≡ SECTOR_SIZE * run.most) ⊎ (step.at + step.size ≡ run.image_size))
+    (step.kind ≡ read_kind → (step.size ≡ run.size) × ReadsWhole run)
+    × (step.kind ≡ copy_kind → (step.size ≡ run.size) × CopiesWhole run)
+
+-- the step reports no patch
+pub record IsPlain (step : RunStep) : Type 0 where
+  pub number : step.number ≡ 0
+  pub result : step.result ≡ 0
+  pub block : step.block ≡ 0
+  pub offset : step.offset ≡ 0
 
 -- a run over patches has begun: nothing was asked for, and nothing has come, gone out or been logged,
 -- whatever hand it is lent. The image has not ended

@@ -21,20 +21,20 @@ ghost use Rattle.cd_c_scripts.specs.declared.run_state.ScriptRun.{ScriptRun as T
 ghost use Rattle.cd_c_scripts.specs.declared.entries.Entry.{Entry as TheEntry};
 ghost use Rattle.cd_c_scripts.specs.declared.run_state.RunStep.{RunStep as TheStep};
 
+#[cfg(test)]
+mod tests;
+
 use crate::client_steps::{copy_step, finish_log, finish_output, log_step, read_step, write_step};
 use crate::entries::Entry;
 use crate::run_begin::cdpatch_run_begin;
 use crate::run_next::cdpatch_run_next;
-use crate::run_state::{CARRY, COPY, END, READ, Rooms, RunStep, ScriptRun, WRITE};
+use crate::run_state::{CARRY, COPY, END, READ, Rooms, RunStep, ScriptRun, UNKNOWN_SIZE, WRITE};
 use cd_line::LINE_SIZE;
 use cd_read::Fault;
 use cd_run::PatchRun;
 use cd_script::MAX_BYTES;
 use cd_sector::Sector;
 use cd_stream::{Sink, Source};
-
-/// No size of the image is known: C's `CDPATCH_UNKNOWN_SIZE`.
-const UNKNOWN_SIZE: u64 = 18_446_744_073_709_551_615;
 
 /// Moves the bytes that a step asks for, and returns how many.
 fn take_step<I: Source, O: Sink, L: Sink>(

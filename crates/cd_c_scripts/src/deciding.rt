@@ -58,6 +58,7 @@ pub(crate) fn entry_at(entries: &[Entry], place: u32) -> Option<&Entry>
 /// The bytes of a line in a text.
 fn line_at<'a>(text: &'a [u8], start: u32, size: u32) -> Option<&'a [u8]>
     ensures some { IfSome result (λ line. line.now ≡ take size (drop start text.now)) }
+    ensures within { IfSome result (λ _. start + size ≤ length text.now) }
     ensures none { IfNone result (length text.now < start + size) }
 {
     if start as usize > text.len() {
@@ -136,6 +137,7 @@ pub(crate) fn decide(
     requires hand { block_limit ≤ length hand.old }
     ensures sound { IsRun run.new.machine }
     ensures size { length hand.new ≡ length hand.old }
+    ensures rest { drop run.old.machine.held hand.new ≡ drop run.old.machine.held hand.old }
     ensures others { run.new ≡ record run.old { machine = run.new.machine } }
     ensures stage { run.new.machine.stage ≡ run.old.machine.stage }
     ensures held { run.new.machine.held ≡ run.old.machine.held }

@@ -1,6 +1,6 @@
 //! What was moved of the step that was told last.
 
-ghost use Rattle.std.specs.Prelude.{◌≡◌, ◌≢◌, ℕ, ◌+◌, ◌*◌, ◌<◌, ◌≤◌, ◌⊎◌, ◌++◌, [], Bool, List, length, take};
+ghost use Rattle.std.specs.Prelude.{◌≡◌, ◌≢◌, ℕ, ◌+◌, ◌*◌, ◌<◌, ◌≤◌, ◌⊎◌, ◌↔◌, ◌++◌, [], Bool, List, drop, false, length, take, true};
 ghost use Rattle.std.specs.List.{slice_index_or};
 ghost use Rattle.cd_script.specs.PatchForm.{Patch as ThePatch};
 ghost use Rattle.cd_patch.specs.Blocks.{block_limit};
@@ -8,12 +8,15 @@ ghost use Rattle.cd_sector.specs.Image.{sector_limit};
 ghost use Rattle.cd_run.specs.Running.{IsRun};
 ghost use Rattle.cd_run.specs.declared.run.Step.TheVariants.{Copy, Read, Send, SendTail};
 ghost use Rattle.cd_c_scripts.specs.declared.entries.Entry.{Entry as TheEntry};
-ghost use Rattle.cd_c_scripts.specs.declared.moving.Noted.TheVariants.{Done, TooLong, Wrong};
+ghost use Rattle.cd_c_scripts.specs.declared.moving.Noted.TheVariants.{Done, Short, TooLong, Wrong};
 ghost use Rattle.cd_c_scripts.specs.Flags.{carries};
-ghost use Rattle.cd_c_scripts.specs.Runs.{About, Going, IsBeyond, IsRunning, Moved, SameInHand, Steps, machine_steps};
+ghost use Rattle.cd_c_scripts.specs.Runs.{About, AsksForImage, AsksForRest, CopiesWhole, Going, IsBeyond, IsRunning, IsShort, MayEnd, Moved, ReadsWhole, SameInHand, Steps, machine_steps, unknown_size};
 
 use crate::deciding::see_place;
-use crate::run_state::{COPYING, NOTHING, OVER, READING, ScriptRun, WRITING, WRITING_TAIL};
+use crate::run_state::{
+    COPYING, NOTHING, OVER, READING, ScriptRun, UNKNOWN_SIZE, WRITING, WRITING_TAIL,
+};
+use crate::telling::bytes_left;
 use cd_patch::MAX_BLOCKS_MET;
 use cd_run::PatchRun;
 use cd_sector::{MAX_SECTORS, SECTOR_SIZE, Sector};
@@ -25,6 +28,8 @@ pub(crate) enum Noted {
     Done,
     /// The image goes on after its largest size.
     TooLong,
+    /// Fewer bytes came than were asked for, of an image whose size was known.
+    Short,
     /// No run has told such a step.
     Wrong,
 }
@@ -50,6 +55,8 @@ fn note_given(machine: &mut PatchRun, hand: &[Sector], done: usize) -> Noted
     ensures stays { result ≢ Done → machine.new ≡ machine.old }
     ensures ends { result ≡ Done → done < SECTOR_SIZE → machine.new.stage ≡ 1 }
     ensures ends_only { result ≡ Done → 0 < machine.new.stage → done < SECTOR_SIZE }
+    ensures last { result ≡ Done → machine.old.sectors ≡ sector_limit → done ≡ 0 }
+    ensures never_short { result ≢ Short }
     ensures tail { result ≡ Done → done < SECTOR_SIZE → machine.new.tail ≡ done }
     ensures goes_on { machine.old.stage ≤ machine.new.stage }
     ensures decided { machine.new.decided ≡ machine.old.decided }
@@ -93,6 +100,7 @@ fn note_copied(machine: &mut PatchRun, hand: &[Sector], most: u32, done: usize) 
         → Steps patches machine.old (Copy most) → done ≤ SECTOR_SIZE * most
         → 4294967296 ≤ machine.old.block + most }
     ensures beyond { result ≢ TooLong }
+    ensures never_short { result ≢ Short }
     ensures stays { result ≢ Done → machine.new ≡ machine.old }
     ensures ends { result ≡ Done → done < SECTOR_SIZE * most → machine.new.stage ≡ 2 }
     ensures ends_only { result ≡ Done → 0 < machine.new.stage → done < SECTOR_SIZE * most }
@@ -147,7 +155,10 @@ fn note_sent(machine: &mut PatchRun, hand: &mut [Sector]) -> Noted
         machine.new hand.new }
     ensures right { result ≡ Wrong → 0 < machine.old.held → 4294967295 ≤ machine.old.block }
     ensures beyond { result ≢ TooLong }
+    ensures never_short { result ≢ Short }
     ensures size { length hand.new ≡ length hand.old }
+    ensures rest { drop (machine.old.held + machine.old.stage) hand.new
+        ≡ drop (machine.old.held + machine.old.stage) hand.old }
     ensures stays { result ≢ Done → (machine.new ≡ machine.old) }
     ensures stage { machine.new.stage ≡ machine.old.stage }
     ensures decided { machine.new.decided ≡ machine.old.decided }
@@ -177,6 +188,7 @@ fn note_tail(machine: &mut PatchRun) -> Noted
         (sent ++ take machine.old.tail (slice_index_or hand 0 [])) log_bytes machine.new hand }
     ensures right { result ≡ Wrong → machine.old.held ≡ 0 → machine.old.stage ≢ 1 }
     ensures beyond { result ≢ TooLong }
+    ensures never_short { result ≢ Short }
     ensures stays { result ≢ Done → machine.new ≡ machine.old }
     ensures closed { result ≡ Done → (machine.old.stage ≡ 1) × (machine.new.stage ≡ 2) }
     ensures goes_on { machine.old.stage ≤ machine.new.stage }
@@ -194,12 +206,53 @@ fn note_tail(machine: &mut PatchRun) -> Noted
     Noted::Done
 }
 
+/// Whether all that is left of the image is asked for.
+fn asks_for_rest(run: &ScriptRun) -> bool
+    requires { IsRun run.now.machine }
+    ensures { result ≡ true ↔ AsksForRest run.now }
+{
+    let left = bytes_left(run);
+    left > 0 && run.size == left
+}
+
+/// Whether all that may be read at once is asked for.
+fn reads_whole(run: &ScriptRun) -> bool
+    requires { IsRun run.now.machine }
+    ensures { result ≡ true ↔ ReadsWhole run.now }
+{
+    run.size == SECTOR_SIZE as u64
+        || asks_for_rest(run)
+        || (run.machine.sectors == MAX_SECTORS && run.size == 1)
+}
+
+/// Whether all that may be copied at once is asked for.
+fn copies_whole(run: &ScriptRun) -> bool
+    requires { IsRun run.now.machine }
+    ensures { result ≡ true ↔ CopiesWhole run.now }
+{
+    run.size == SECTOR_SIZE as u64 * u64::from(run.most) || asks_for_rest(run)
+}
+
+/// Whether fewer bytes came than were asked for, of an image whose size is known.
+fn is_short(run: &ScriptRun, done: usize) -> bool
+    ensures short { result ≡ true → IsShort run.now done }
+    ensures other { result ≡ false → AsksForImage run.now → done < run.now.size
+        → run.now.image_size ≡ unknown_size }
+{
+    (run.asked == READING || run.asked == COPYING)
+        && (done as u64) < run.size
+        && run.image_size != UNKNOWN_SIZE
+}
+
 /// Notes that `done` bytes were moved of the step that was told last.
 pub(crate) fn note(run: &mut ScriptRun, hand: &mut [Sector], done: usize) -> Noted
     requires sound { IsRun run.old.machine }
     requires hand { block_limit ≤ length hand.old }
     ensures sound { IsRun run.new.machine }
     ensures size { length hand.new ≡ length hand.old }
+    ensures rest { drop (run.old.machine.held + run.old.machine.stage) hand.new
+        ≡ drop (run.old.machine.held + run.old.machine.stage) hand.old }
+    ensures few { run.old.machine.held + run.old.machine.stage ≤ block_limit }
     ensures others { run.new ≡ record run.old { machine = run.new.machine } }
     ensures goes { result ≡ Done → (text : List ℕ) (es : List TheEntry)
         (patches : List ThePatch) (base : ℕ) (read sent log_bytes read' sent' : List ℕ)
@@ -226,13 +279,14 @@ pub(crate) fn note(run: &mut ScriptRun, hand: &mut [Sector], done: usize) -> Not
     ensures above { run.old.size < done → result ≡ Wrong }
     ensures below { done < run.old.size → (result ≡ Wrong) ⊎ (run.old.asked ≡ COPYING)
         ⊎ (run.old.asked ≡ READING) }
+    ensures short { result ≡ Short → IsShort run.old done }
+    ensures fails { IsShort run.old done → result ≡ Short }
     ensures ends { run.old.asked ≡ READING → result ≡ Done → done < SECTOR_SIZE
         → run.new.machine.stage ≡ 1 }
     ensures ends_copy { run.old.asked ≡ COPYING → result ≡ Done
         → done < SECTOR_SIZE * run.old.most → run.new.machine.stage ≡ 2 }
     ensures ends_only { result ≡ Done → run.old.machine.stage ≡ 0 → 0 < run.new.machine.stage
-        → ((run.old.asked ≡ READING) × (done < SECTOR_SIZE))
-        ⊎ ((run.old.asked ≡ COPYING) × (done < SECTOR_SIZE * run.old.most)) }
+        → MayEnd run.old run.new done }
     ensures closes { run.old.asked ≡ WRITING_TAIL → result ≡ Done → run.new.machine.stage ≡ 2 }
     ensures goes_on { run.old.machine.stage ≤ run.new.machine.stage }
     ensures stays { result ≢ Done → run.new ≡ run.old }
@@ -244,10 +298,19 @@ pub(crate) fn note(run: &mut ScriptRun, hand: &mut [Sector], done: usize) -> Not
     if done as u64 > run.size {
         return Noted::Wrong;
     }
+    if is_short(run, done) {
+        return Noted::Short;
+    }
     if run.asked == COPYING {
+        if !copies_whole(run) {
+            return Noted::Wrong;
+        }
         return note_copied(&mut run.machine, hand, run.most, done);
     }
     if run.asked == READING {
+        if !reads_whole(run) {
+            return Noted::Wrong;
+        }
         return note_given(&mut run.machine, hand, done);
     }
     if (done as u64) < run.size {

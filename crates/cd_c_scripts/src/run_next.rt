@@ -1,17 +1,16 @@
 //! The call of C that leads a run: what was moved is noted, and the next step is told.
 
-ghost use Rattle.std.specs.Prelude.{◌≡◌, ◌≢◌, ℕ, ◌+◌, ◌-◌, ◌*◌, ◌<◌, ◌≤◌, ◌⊎◌, IfNone, IfSome, List, Some, length, take, true};
+ghost use Rattle.std.specs.Prelude.{◌≡◌, ◌≢◌, ℕ, ◌+◌, ◌-◌, ◌*◌, ◌<◌, ◌≤◌, ◌⊎◌, IfNone, IfSome, List, Some, drop, length, take, true};
 ghost use Rattle.cd_script.specs.PatchForm.{Patch as ThePatch};
 ghost use Rattle.cd_patch.specs.Blocks.{block_limit};
 ghost use Rattle.cd_sector.specs.Image.{sector_limit};
-ghost use Rattle.cd_run.specs.Messages.{long_image};
 ghost use Rattle.cd_run.specs.Running.{IsRun};
 ghost use Rattle.cd_run.specs.Steps.{IsReady};
 ghost use Rattle.cd_run.specs.declared.run.Step.{Step as TheStep};
 ghost use Rattle.cd_run.specs.declared.run.Step.TheVariants.{Decide, End, SendTail};
 ghost use Rattle.cd_c_scripts.specs.Entries.{Rereads};
 ghost use Rattle.cd_c_scripts.specs.Flags.{carries};
-ghost use Rattle.cd_c_scripts.specs.Runs.{About, AsksWhole, Comes, Going, Goes, IsFaulty, IsRunning, KeepsToSize, MayEnd, EndsOr, Moved, SameInHand, Stops, error_line, is_coming, machine_steps, steps_left, told_steps};
+ghost use Rattle.cd_c_scripts.specs.Runs.{About, AsksWhole, Comes, FailsRead, Going, Goes, IsFaulty, IsPlain, IsRunning, IsShort, KeepsToSize, MayEnd, EndsOr, Moved, SameInHand, Stops, error_line, is_coming, machine_steps, steps_left, told_steps};
 ghost use Rattle.cd_c_scripts.specs.StepKinds.{end_kind, log_kind};
 ghost use Rattle.cd_c_scripts.specs.StepRooms.{KeepsToRooms};
 ghost use Rattle.cd_c_scripts.specs.declared.entries.Entry.{Entry as TheEntry};
@@ -28,9 +27,9 @@ use crate::telling::{
     ask, ask_copy, ask_read, ask_write, bytes_left, error_line, status, stop, tell_end, tell_line,
     tell_outcome,
 };
-use cd_line::LINE_SIZE;
+use cd_line::{LINE_SIZE, Line};
 use cd_patch::MAX_BLOCKS_MET;
-use cd_run::{Step, counts_line, long_image_line};
+use cd_run::{Step, counts_line, failed_read_line, long_image_line};
 use cd_sector::{SECTOR_SIZE, Sector};
 
 /// The entries that are used.
@@ -58,6 +57,11 @@ fn tell_decided(
     requires hand { block_limit ≤ length hand.old }
     ensures stage { run.new.machine.stage ≡ run.old.machine.stage }
     ensures sectors { run.new.machine.sectors ≡ run.old.machine.sectors }
+    ensures held { run.new.machine.held ≡ run.old.machine.held }
+    ensures flags { run.new.flags ≡ run.old.flags }
+    ensures image_size { run.new.image_size ≡ run.old.image_size }
+    ensures rest { drop run.old.machine.held hand.new ≡ drop run.old.machine.held hand.old }
+    ensures plain { step.new.kind ≢ LOG → IsPlain step.new }
     ensures log { (step.new.kind ≡ END) ⊎ (step.new.kind ≡ LOG) }
     ensures status { step.new.status ≤ 2 }
     ensures rooms { KeepsToRooms step.new }
@@ -66,8 +70,6 @@ fn tell_decided(
     ensures rereads { step.new.kind ≡ LOG → Rereads script.now run.old.version entries.now
         run.old.machine.decided step.new.number }
     ensures count { run.new.count ≡ run.old.count }
-    ensures flags { run.new.flags ≡ run.old.flags }
-    ensures image_size { run.new.image_size ≡ run.old.image_size }
     ensures over { run.new.asked ≢ OVER }
     ensures falls { step.new.kind ≡ LOG → (run.new.machine.held ≡ run.old.machine.held)
         × (run.new.machine.sectors ≡ run.old.machine.sectors)
@@ -91,9 +93,10 @@ fn tell_decided(
 /// Tells the last line of the log.
 fn tell_last_line(run: &mut ScriptRun, step: &mut RunStep)
     ensures machine { run.new.machine ≡ run.old.machine }
-    ensures count { run.new.count ≡ run.old.count }
     ensures flags { run.new.flags ≡ run.old.flags }
     ensures image_size { run.new.image_size ≡ run.old.image_size }
+    ensures plain { IsPlain step.new }
+    ensures count { run.new.count ≡ run.old.count }
     ensures log { (step.new.kind ≡ END) ⊎ (step.new.kind ≡ LOG) }
     ensures status { step.new.status ≤ 2 }
     ensures rooms { KeepsToRooms step.new }
@@ -115,18 +118,21 @@ fn tell_last_line(run: &mut ScriptRun, step: &mut RunStep)
     ask(run, OVER, status(refused), step.size);
 }
 
-/// Says that the image is too long.
-fn tell_too_long(run: &mut ScriptRun, step: &mut RunStep)
+/// Tells the line that says why the run fails.
+fn tell_failure(run: &mut ScriptRun, line: &Line, step: &mut RunStep)
+    requires some { 0 < length line.now }
+    requires few { length line.now ≤ LINE_SIZE }
     ensures others { run.new ≡ record run.old { asked = STOPPED; most = 0; size = step.new.size } }
     ensures kind { step.new.kind ≡ LOG }
     ensures status { step.new.status ≡ 0 }
+    ensures plain { IsPlain step.new }
     ensures rooms { KeepsToRooms step.new }
     ensures number { step.new.number ≡ 0 }
     ensures some { 0 < step.new.size }
     ensures few { step.new.size ≤ LINE_SIZE }
-    ensures line { take step.new.size step.new.text ≡ long_image }
+    ensures line { take step.new.size step.new.text ≡ line.now }
 {
-    tell_line(step, &long_image_line());
+    tell_line(step, line);
     ask(run, STOPPED, 0, step.size);
 }
 
@@ -134,9 +140,10 @@ fn tell_too_long(run: &mut ScriptRun, step: &mut RunStep)
 fn tell_error(run: &mut ScriptRun, done: usize, step: &mut RunStep)
     ensures asked { run.new.asked ≡ STOPPED }
     ensures machine { run.new.machine ≡ run.old.machine }
-    ensures count { run.new.count ≡ run.old.count }
     ensures flags { run.new.flags ≡ run.old.flags }
     ensures image_size { run.new.image_size ≡ run.old.image_size }
+    ensures plain { IsPlain step.new }
+    ensures count { run.new.count ≡ run.old.count }
     ensures log { (step.new.kind ≡ END) ⊎ (step.new.kind ≡ LOG) }
     ensures status { step.new.status ≤ 2 }
     ensures rooms { KeepsToRooms step.new }
@@ -156,8 +163,7 @@ fn tell_error(run: &mut ScriptRun, done: usize, step: &mut RunStep)
         stop(run, step);
         return;
     }
-    tell_line(step, &line);
-    ask(run, STOPPED, 0, step.size);
+    tell_failure(run, &line, step);
 }
 
 /// Tells the end, once the last line was logged.
@@ -166,6 +172,7 @@ fn tell_over(run: &mut ScriptRun, done: usize, step: &mut RunStep)
     ensures machine { run.new.machine ≡ run.old.machine }
     ensures flags { run.new.flags ≡ run.old.flags }
     ensures image_size { run.new.image_size ≡ run.old.image_size }
+    ensures plain { IsPlain step.new }
     ensures kind { step.new.kind ≡ END }
     ensures status { step.new.status ≤ 2 }
     ensures rooms { KeepsToRooms step.new }
@@ -205,10 +212,13 @@ fn tell_step(
     requires used { length entries.now ≡ run.old.count }
     ensures stage { run.new.machine.stage ≡ run.old.machine.stage }
     ensures sectors { run.new.machine.sectors ≡ run.old.machine.sectors }
-    ensures flags { run.new.flags ≡ run.old.flags }
-    ensures image_size { run.new.image_size ≡ run.old.image_size }
     ensures over { run.new.asked ≡ OVER → (run.new.machine.stage ≡ 2)
         × (run.new.machine.sectors ≤ sector_limit) }
+    ensures held { run.new.machine.held ≡ run.old.machine.held }
+    ensures flags { run.new.flags ≡ run.old.flags }
+    ensures image_size { run.new.image_size ≡ run.old.image_size }
+    ensures rest { drop run.old.machine.held hand.new ≡ drop run.old.machine.held hand.old }
+    ensures plain { (step.new.kind ≢ LOG) ⊎ (run.new.asked ≢ NOTHING) → IsPlain step.new }
     ensures status { step.new.status ≤ 2 }
     ensures rooms { KeepsToRooms step.new }
     ensures known { KeepsToSize run.new step.new }
@@ -256,10 +266,13 @@ fn tell_next(
     requires hand { block_limit ≤ length hand.old }
     ensures stage { run.old.machine.stage ≤ run.new.machine.stage }
     ensures sectors { run.new.machine.sectors ≡ run.old.machine.sectors }
-    ensures flags { run.new.flags ≡ run.old.flags }
-    ensures image_size { run.new.image_size ≡ run.old.image_size }
     ensures over { run.new.asked ≡ OVER → (run.new.machine.stage ≡ 2)
         × (run.new.machine.sectors ≤ sector_limit) }
+    ensures held { run.new.machine.held ≡ run.old.machine.held }
+    ensures flags { run.new.flags ≡ run.old.flags }
+    ensures image_size { run.new.image_size ≡ run.old.image_size }
+    ensures rest { drop run.old.machine.held hand.new ≡ drop run.old.machine.held hand.old }
+    ensures plain { (step.new.kind ≢ LOG) ⊎ (run.new.asked ≢ NOTHING) → IsPlain step.new }
     ensures status { step.new.status ≤ 2 }
     ensures rooms { KeepsToRooms step.new }
     ensures known { KeepsToSize run.new step.new }
@@ -306,8 +319,8 @@ pub extern "C" fn cdpatch_run_next(
         → SameInHand run.old.machine before hand.old
         → Moved run.old hand.old done read sent read' sent'
         → Goes script.now entries.now patches base read' sent' log_bytes run.new hand.new step.new }
-    // The image ends where less came than was asked for, or nothing is left of its size, and only
-    // there.
+    // The image ends where fewer bytes came than were asked for, if its size was not known, or where
+    // nothing is left of its size, and only there. Fewer of a known size mean that a read has failed.
     ensures ends { run.old.asked ≡ READING → done < SECTOR_SIZE → EndsOr run.new 1 }
     ensures ends_copy { run.old.asked ≡ COPYING → done < SECTOR_SIZE * run.old.most
         → EndsOr run.new 2 }
@@ -317,15 +330,22 @@ pub extern "C" fn cdpatch_run_next(
     // It is over only once the image has ended.
     ensures over { run.new.asked ≡ OVER → (run.old.asked ≡ OVER)
         ⊎ ((run.new.machine.stage ≡ 2) × (run.new.machine.sectors ≤ sector_limit)) }
-    // What each state, hand and count of bytes gives.
-    ensures flags { run.new.flags ≡ run.old.flags }
+    ensures short { IsShort run.old done → IsRun run.old.machine → block_limit ≤ length hand.old
+        → FailsRead run.new step.new }
+    // What stays: the image, the flags, and what stands in the hand behind all that the run holds.
     ensures image_size { run.new.image_size ≡ run.old.image_size }
+    ensures flags { run.new.flags ≡ run.old.flags }
+    ensures rest { drop block_limit hand.new ≡ drop block_limit hand.old }
+    ensures behind { (place : ℕ) → run.old.machine.held + run.old.machine.stage ≤ place
+        → run.new.machine.held ≤ place → drop place hand.new ≡ drop place hand.old }
+    // What each state, hand and count of bytes gives.
     ensures goes_on { run.old.machine.stage ≤ run.new.machine.stage }
     ensures falls { step.new.kind ≢ end_kind → steps_left run.new < steps_left run.old }
     ensures status { step.new.status ≤ 2 }
     ensures known { KeepsToSize run.new step.new }
     ensures whole { AsksWhole run.new step.new }
     ensures rooms { KeepsToRooms step.new }
+    ensures plain { (step.new.kind ≢ log_kind) ⊎ (run.new.asked ≢ NOTHING) → IsPlain step.new }
     ensures rereads { step.new.kind ≡ log_kind → step.new.number ≢ 0
         → Rereads script.now run.old.version entries.now run.old.machine.decided step.new.number }
     ensures faulty { (line : List ℕ) → IsFaulty line run.old → 0 < length line → done ≡ 0
@@ -360,7 +380,8 @@ pub extern "C" fn cdpatch_run_next(
     }
     match note(run, hand, done) {
         Noted::Done => tell_next(run, script, entries, hand, rooms, step),
-        Noted::TooLong => tell_too_long(run, step),
+        Noted::TooLong => tell_failure(run, &long_image_line(), step),
+        Noted::Short => tell_failure(run, &failed_read_line(), step),
         Noted::Wrong => stop(run, step),
     }
 }

@@ -35,6 +35,9 @@ pub(crate) const FAULTY: u32 = 8;
 /// The number of a script that is too long: no content of a line has it.
 pub(crate) const TOO_LONG: u32 = 16;
 
+/// The size of an image that is not known before its end.
+pub(crate) const UNKNOWN_SIZE: u64 = u64::MAX;
+
 /// Damage is carried.
 pub(crate) const CARRY: u32 = 1;
 

@@ -8,7 +8,7 @@ ghost use Rattle.cd_run.specs.Running.{IsRun};
 ghost use Rattle.cd_run.specs.Steps.{IsReady};
 ghost use Rattle.cd_run.specs.declared.run.Step.TheVariants.{Copy};
 ghost use Rattle.cd_patch.specs.OutcomeNumbers.{outcome_block, outcome_number, outcome_offset};
-ghost use Rattle.cd_c_scripts.specs.Runs.{error_line, status_of};
+ghost use Rattle.cd_c_scripts.specs.Runs.{CopiesWhole, IsPlain, ReadsWhole, error_line, status_of};
 
 use crate::run_state::{
     COPY, COPYING, END, LOG, READ, READING, RunStep, STOPPED, ScriptRun, TOO_LONG, WRITE,
@@ -26,7 +26,7 @@ fn tell(step: &mut RunStep, kind: u32, at: u64, place: usize, size: usize)
     ensures place { step.new.place ≡ place }
     ensures size { step.new.size ≡ size }
     ensures status { step.new.status ≡ 0 }
-    ensures number { step.new.number ≡ 0 }
+    ensures plain { IsPlain step.new }
     ensures text { step.new.text ≡ step.old.text }
 {
     step.kind = kind;
@@ -44,6 +44,7 @@ fn tell(step: &mut RunStep, kind: u32, at: u64, place: usize, size: usize)
 pub(crate) fn tell_line(step: &mut RunStep, line: &Line)
     requires { length line.now ≤ LINE_SIZE }
     ensures kind { step.new.kind ≡ LOG }
+    ensures plain { IsPlain step.new }
     ensures number { step.new.number ≡ 0 }
     ensures status { step.new.status ≡ 0 }
     ensures size { step.new.size ≡ length line.now }
@@ -57,6 +58,7 @@ pub(crate) fn tell_line(step: &mut RunStep, line: &Line)
 pub(crate) fn tell_end(step: &mut RunStep, status: u32)
     ensures kind { step.new.kind ≡ END }
     ensures status { step.new.status ≡ status }
+    ensures plain { IsPlain step.new }
     ensures number { step.new.number ≡ 0 }
     ensures size { step.new.size ≡ 0 }
 {
@@ -69,6 +71,7 @@ pub(crate) fn stop(run: &mut ScriptRun, step: &mut RunStep)
     ensures others { run.new ≡ record run.old { asked = STOPPED; size = 0 } }
     ensures kind { step.new.kind ≡ END }
     ensures status { step.new.status ≡ 2 }
+    ensures plain { IsPlain step.new }
     ensures number { step.new.number ≡ 0 }
 {
     run.asked = STOPPED;
@@ -99,14 +102,16 @@ pub(crate) fn ask_copy(run: &mut ScriptRun, most: u32, left: u64, step: &mut Run
     requires sound { IsRun run.old.machine }
     requires ready { IsReady run.old.machine (Copy most) }
     requires some { 0 < left }
+    requires left { left ≡ run.old.image_size - SECTOR_SIZE * run.old.machine.sectors }
     ensures kind { step.new.kind ≡ COPY }
     ensures status { step.new.status ≡ 0 }
+    ensures plain { IsPlain step.new }
     ensures at { step.new.at ≡ SECTOR_SIZE * run.old.machine.sectors }
     ensures size { step.new.size ≡ run.new.size }
     ensures some { 0 < step.new.size }
     ensures most { run.new.size ≤ SECTOR_SIZE * most }
     ensures left { run.new.size ≤ left }
-    ensures cut { (run.new.size ≡ SECTOR_SIZE * most) ⊎ (run.new.size ≡ left) }
+    ensures whole { CopiesWhole run.new }
     ensures others { run.new ≡ record run.old { asked = COPYING; most = most; size = run.new.size } }
 {
     let at = SECTOR_SIZE as u64 * u64::from(run.machine.sectors);
@@ -119,16 +124,17 @@ pub(crate) fn ask_copy(run: &mut ScriptRun, most: u32, left: u64, step: &mut Run
 pub(crate) fn ask_read(run: &mut ScriptRun, left: u64, step: &mut RunStep)
     requires sound { IsRun run.old.machine }
     requires some { 0 < left }
+    requires left { left ≡ run.old.image_size - SECTOR_SIZE * run.old.machine.sectors }
     ensures kind { step.new.kind ≡ READ }
     ensures status { step.new.status ≡ 0 }
+    ensures plain { IsPlain step.new }
     ensures at { step.new.at ≡ SECTOR_SIZE * run.old.machine.sectors }
     ensures place { step.new.place ≡ SECTOR_SIZE * run.old.machine.held }
     ensures size { step.new.size ≡ run.new.size }
     ensures some { 0 < step.new.size }
     ensures most { run.new.size ≤ SECTOR_SIZE }
     ensures left { run.new.size ≤ left }
-    ensures cut { (run.new.size ≡ SECTOR_SIZE) ⊎ (run.new.size ≡ left)
-        ⊎ (run.old.machine.sectors ≡ sector_limit) }
+    ensures whole { ReadsWhole run.new }
     ensures beyond { (run.old.machine.sectors < sector_limit) ⊎ (run.new.size ≡ 1) }
     ensures others { run.new ≡ record run.old { asked = READING; most = 0; size = run.new.size } }
 {
@@ -149,6 +155,7 @@ pub(crate) fn ask_write(run: &mut ScriptRun, asked: u32, size: usize, step: &mut
     requires sound { IsRun run.old.machine }
     ensures kind { step.new.kind ≡ WRITE }
     ensures status { step.new.status ≡ 0 }
+    ensures plain { IsPlain step.new }
     ensures at { step.new.at ≡ SECTOR_SIZE * (run.old.machine.sectors - run.old.machine.held) }
     ensures place { step.new.place ≡ 0 }
     ensures size { step.new.size ≡ size }

@@ -40,7 +40,8 @@ impl Line {
     /// assert_eq!(rt; line.as_slice(), b"sectors 8".as_slice());
     /// ```
     pub fn new() -> Self
-        ensures { result ≡ [] }
+        ensures empty { result ≡ [] }
+        ensures room { LINE_SIZE ≡ 96 }
     {
         Line {
             bytes: ArrayVec::new(),

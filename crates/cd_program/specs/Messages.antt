@@ -1,10 +1,10 @@
 -- The lines that the program itself prints. The line for want of memory is cd_args's, those of a
--- script's fault and of an image that is too long are cd_run's.
+-- script's fault, of a failed read, and of an image that is too long are cd_run's.
 use Rattle.std.specs.Prelude.{ℕ, List, [], codes}
 use Rattle.cd_args.specs.Fault.{no_memory}
 use Rattle.cd_read.specs.declared.fault.Fault.{Fault}
 use Rattle.cd_read.specs.declared.fault.Fault.TheVariants as fault
-use Rattle.cd_run.specs.Messages.{long_image, long_script}
+use Rattle.cd_run.specs.Messages.{failed_read, long_image, long_script}
 use Rattle.cd_program.specs.declared.host.OpenFault.{OpenFault}
 use Rattle.cd_program.specs.declared.host.OpenFault.TheVariants as open_fault
 use Rattle.cd_program.specs.declared.script.LoadFault.{LoadFault}
@@ -40,7 +40,7 @@ load_fault_line load_fault.NoMemory = no_memory
 
 -- the line of a call's fault; a log that failed has none
 unfoldable pub fault_line : Fault → List ℕ
-fault_line fault.Read = codes "cdpatch: reading the image failed\n"
+fault_line fault.Read = failed_read
 fault_line fault.Write = codes "cdpatch: writing the output failed\n"
 fault_line fault.Log = []
 fault_line fault.TooLong = long_image

@@ -9,7 +9,7 @@ use crate::script::LoadFault;
 use cd_args::NO_MEMORY;
 use cd_image::Fault;
 use cd_line::Line;
-use cd_run::{long_image_line, long_script_line, text_line};
+use cd_run::{failed_read_line, long_image_line, long_script_line, text_line};
 
 /// There is no file of a script, or a read of it failed.
 pub(crate) const NO_SCRIPT: &str = "cdpatch: cannot read the script\n";
@@ -58,7 +58,7 @@ pub(crate) fn fault_line(fault: Fault) -> Line
     ensures { result ≡ fault_line fault }
 {
     match fault {
-        Fault::Read => text_line(b"cdpatch: reading the image failed\n"),
+        Fault::Read => failed_read_line(),
         Fault::Write => text_line(b"cdpatch: writing the output failed\n"),
         Fault::Log => Line::new(),
         Fault::TooLong => long_image_line(),

@@ -17,6 +17,10 @@ unfoldable pub long_image : List ℕ
 long_image =
     codes "cdpatch: the image has more than " ++ decimal sector_limit ++ codes " sectors\n"
 
+-- a read of an image failed
+abbrev pub failed_read : List ℕ
+failed_read = codes "cdpatch: reading the image failed\n"
+
 -- `script line`, the number, and what is wrong there
 unfoldable pub numbered_line : ℕ → List ℕ → List ℕ
 numbered_line number text =

@@ -1,7 +1,7 @@
 //! The lines of a run that does not come to its end, each with its line feed.
 
 ghost use Rattle.std.specs.Prelude.{◌≡◌, ◌<◌, ◌≤◌, length};
-ghost use Rattle.cd_run.specs.Messages.{long_image, long_script, numbered_line, script_fault_line};
+ghost use Rattle.cd_run.specs.Messages.{failed_read, long_image, long_script, numbered_line, script_fault_line};
 
 use cd_line::{LINE_SIZE, Line};
 use cd_script::{MAX_TEXT, ScriptFault};
@@ -63,6 +63,22 @@ pub fn long_image_line() -> Line
     line.push_number(MAX_SECTORS);
     line.push_text(b" sectors\n");
     line
+}
+
+/// The line for an image of which a read failed.
+///
+/// # Examples
+///
+/// ```
+/// let line = failed_read_line();
+/// assert_eq!(rt; line.as_slice(), b"cdpatch: reading the image failed\n".as_slice());
+/// ```
+pub fn failed_read_line() -> Line
+    ensures line { result ≡ failed_read }
+    ensures some { 0 < length result }
+    ensures room { length result ≤ LINE_SIZE }
+{
+    text_line(b"cdpatch: reading the image failed\n")
 }
 
 /// `script line NUMBER: TEXT`, of which the text has at most 40 bytes.

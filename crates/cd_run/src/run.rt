@@ -338,6 +338,7 @@ impl PatchRun {
         ensures size { length hand.new ≡ length hand.old }
         ensures place { slice_index_or hand.new self.old.held []
             ≡ slice_index_or hand.old self.old.held [] }
+        ensures rest { drop self.old.held hand.new ≡ drop self.old.held hand.old }
         ensures tail_stays { tail_of self.new hand.new ≡ tail_of self.old hand.old }
         ensures missing { self.old.held ≡ 0 → result ≡ NoBlock patch.now.block }
         ensures held { self.new.held ≡ self.old.held }
@@ -392,6 +393,8 @@ impl PatchRun {
             → Holds carry taken left base seen (done ++ slice_index_or hand.old 0 [] ∷ [])
             outcomes self.new hand.new }
         ensures size { length hand.new ≡ length hand.old }
+        ensures rest { drop (self.old.held + self.old.stage) hand.new
+            ≡ drop (self.old.held + self.old.stage) hand.old }
         ensures tail_stays { tail_of self.new hand.new ≡ tail_of self.old hand.old }
         ensures held { self.new.held + 1 ≡ self.old.held }
         ensures sectors { self.new.sectors ≡ self.old.sectors }
@@ -470,6 +473,7 @@ fn remove_first(hand: &mut [Sector], held: u32, stage: u32)
     ensures sectors { take (held - 1) hand.new ≡ drop 1 (take held hand.old) }
     ensures tail { 0 < stage
         → slice_index_or hand.new (held - 1) [] ≡ slice_index_or hand.old held [] }
+    ensures rest { drop (held + stage) hand.new ≡ drop (held + stage) hand.old }
     ensures size { length hand.new ≡ length hand.old }
 {
     let used = (held + stage) as usize;
@@ -487,6 +491,7 @@ fn apply_among(hand: &mut [Sector], held: u32, patch: &Patch<LentBytes<'_>>, car
         (take held hand.old) (take held hand.new) }
     ensures size { length hand.new ≡ length hand.old }
     ensures others { slice_index_or hand.new held [] ≡ slice_index_or hand.old held [] }
+    ensures rest { drop held hand.new ≡ drop held hand.old }
 {
     apply_lent(&mut hand[..held as usize], patch, carry)
 }

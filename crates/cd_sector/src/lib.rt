@@ -36,6 +36,7 @@ mod parity;
 mod sector;
 mod sums;
 
+pub use cd_address::{MAX_BLOCK, address_of};
 pub use cd_code::{
     COLUMNS, DIAGONAL_SIZE, DIAGONALS, FIRST_P, FIRST_P_ROW, FIRST_Q, PLANE_COLUMNS, ROWS,
     SECOND_P, SECOND_P_ROW, SECOND_Q,

@@ -463,4 +463,13 @@ void cdpatch_run_next(struct cdpatch_run *run, size_t done, const uint8_t *scrip
     if (step->kind == CDPATCH_LOG && step->result != CDPATCH_OK)
         right_run_next(run, step->size, script, script_size, entries, room, hand, sectors, rooms, step);
 }
+#elif defined RUN_NEXT_DROPS_THE_LINE_OF_A_FAILED_READ
+void right_run_next(struct cdpatch_run *run, size_t done, const uint8_t *script, size_t script_size, const struct cdpatch_entry *entries,
+                    size_t room, uint8_t *hand, size_t sectors, struct cdpatch_rooms *rooms, struct cdpatch_step *step);
+void cdpatch_run_next(struct cdpatch_run *run, size_t done, const uint8_t *script, size_t script_size, const struct cdpatch_entry *entries,
+                      size_t room, uint8_t *hand, size_t sectors, struct cdpatch_rooms *rooms, struct cdpatch_step *step) {
+    right_run_next(run, done, script, script_size, entries, room, hand, sectors, rooms, step);
+    if (step->kind == CDPATCH_LOG && !memcmp(step->text, "cdpatch: reading", 16))
+        right_run_next(run, step->size, script, script_size, entries, room, hand, sectors, rooms, step);
+}
 #endif

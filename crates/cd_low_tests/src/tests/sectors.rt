@@ -1,8 +1,9 @@
 //! Worked addresses, and what is wrong with worked sectors.
 
 use super::holds;
-use cd_address::address_of;
-use cd_sector::{DefectReport, SECTOR_SIZE, Sector, USER_SIZE, defect, encode, is_consistent};
+use cd_sector::{
+    DefectReport, SECTOR_SIZE, Sector, USER_SIZE, address_of, defect, encode, is_consistent,
+};
 use std::process::Abort;
 
 /// A block, and its address.

@@ -19,7 +19,7 @@ returns-clause-led c = λ ps short is room start.
     led_next t c.cdpatch_run_next.new.run c.cdpatch_run_next.new.hand c.cdpatch_run_next.new.step
     (next.goes (order ps) c.args.base c.args.hand.now t.read t.sent t.log_bytes t.read' t.sent'
     c.requires.hand t.running t.same t.took)
-    next.flags next.image_size next.whole next.ends_only next.over
+    next.flags next.image_size next.ends_only next.over
 
 pub returns-clause-too_long : goal.returns-clause-too_long
 returns-clause-too_long c = λ long start.

@@ -35,7 +35,7 @@ loop-step-preserved g c = record {
       led_next t c.cdpatch_run_next.new.run c.cdpatch_run_next.new.hand c.cdpatch_run_next.new.step
       (next.goes patches base c.loop-step.hand t.read t.sent t.log_bytes t.read' t.sent'
       (omega (arith, c.loop-step.invariant.places, c.in_ok-done.ensures.hand)) t.running t.same t.took)
-      next.flags next.image_size next.whole next.ends_only next.over;
+      next.flags next.image_size next.ends_only next.over;
   saying = λ line start saying.
       said_next
       (streams (g.I.Source.seen c.take_step.new.image) (g.O.Sink.seen c.take_step.new.out)

@@ -19,7 +19,7 @@ returns-then-run-clause-right c = λ patches base read sent log_bytes named is_v
 pub returns-in_default-line_at-clause-right : goal.returns-in_default-line_at-clause-right
 returns-in_default-line_at-clause-right c = λ patches base read sent log_bytes named is_version entries list inside h.
     let next = next_by c.args.run.now.machine.decided c.in-Some.entry.now entries c.in-Some.ensures.some in
-    absurd (omega (arith, c.in_default-line_at.ensures.none, next.entry.within))
+    absurd (omega (arith, c.in_default-line_at.ensures.none, next.entry.reads.0))
 
 pub returns-in_default-patch_in-clause-right : goal.returns-in_default-patch_in-clause-right
 returns-in_default-patch_in-clause-right c = λ patches base read sent log_bytes named is_version entries list inside h.

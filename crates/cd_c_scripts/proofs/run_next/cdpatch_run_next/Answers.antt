@@ -1,9 +1,10 @@
 use Rattle.std.proofs.Common.{◌<◌, inl, inr, refl, arith, sym, ap, ◌∙◌}
+use Rattle.cd_patch.specs.Blocks.{block_limit}
 use Rattle.cd_c_scripts.specs.declared.run_state.TheConstants.{OVER}
 use Rattle.std.proofs.lemmas.Bool.{cases_lt}
 use Rattle.cd_c_scripts.specs.Runs.{MayEnd}
 use Rattle.cd_c_scripts.proofs.EntryLemmas.{rereads_as}
-use Rattle.cd_c_scripts.proofs.MovedLemmas.{found, is_over, is_stopped, not_faulty}
+use Rattle.cd_c_scripts.proofs.MovedLemmas.{drop_more, ends_as, found, is_over, is_stopped, not_faulty, not_short}
 use Rattle.cd_c_scripts.proofs.TellingLemmas.{Goes-long, Goes-over, Goes-stopped, status_few}
 use Rattle.cd_c_scripts.proofs.run_next.cdpatch_run_next.Goals as goal
 
@@ -52,11 +53,16 @@ returns-in-TooLong-clause-goes c =
     let beyond =
     c.in-TooLong.ensures.long refl c.args.script.now c.args.entries.now patches base read sent log_bytes read'
     sent' before running same moved in
-    let told = c.tell_too_long.ensures in
+    let told = c.tell_failure.ensures in
     Goes-long c.args.run.now beyond (ap (λ r. r.asked) told.others)
     (ap (λ r. r.flags) told.others ∙ ap (λ r. r.flags) c.in-TooLong.ensures.others)
     (record { kind = told.kind; size = sym (ap (λ r. r.size) told.others); some = told.some; few = told.few })
-    told.line told.number
+    (told.line ∙ c.long_image_line.ensures.line) told.number
+
+pub returns-in-Short-clause-goes : goal.returns-in-Short-clause-goes
+returns-in-Short-clause-goes c =
+    λ patches base before read sent log_bytes read' sent' room running same moved.
+    absurd (not_short moved (c.in-Short.ensures.short refl))
 
 pub returns-in-Wrong-clause-goes : goal.returns-in-Wrong-clause-goes
 returns-in-Wrong-clause-goes c =
@@ -73,10 +79,7 @@ returns-in-Done-clause-rereads c = λ log some.
 pub returns-in-Done-clause-ends_only : goal.returns-in-Done-clause-ends_only
 returns-in-Done-clause-ends_only c = λ early late.
     elim (cases_lt 0 c.note.new.run.machine.stage) [
-      | inl some ↦ elim (c.in-Done.ensures.ends_only refl early some) [
-        | inl given ↦ MayEnd.given given.0 given.1
-        | inr copied ↦ MayEnd.copied copied.0 copied.1
-      ]
+      | inl some ↦ ends_as c.tell_next.ensures.sectors (c.in-Done.ensures.ends_only refl early some)
       | inr none ↦
           MayEnd.known
           (omega (
@@ -86,3 +89,39 @@ returns-in-Done-clause-ends_only c = λ early late.
             ap (λ r. r.image_size) c.in-Done.ensures.others,
           ))
     ]
+
+pub returns-in-Done-clause-rest : goal.returns-in-Done-clause-rest
+returns-in-Done-clause-rest c =
+    drop_more c.note.new.run.machine.held block_limit c.tell_next.new.hand c.note.new.hand
+    c.in-Done.ensures.sound.held c.tell_next.ensures.rest
+    ∙ drop_more _ block_limit c.note.new.hand c.args.hand.now c.in-Done.ensures.few c.in-Done.ensures.rest
+
+pub returns-in-Done-clause-behind : goal.returns-in-Done-clause-behind
+returns-in-Done-clause-behind c = λ place old new.
+    drop_more c.note.new.run.machine.held place c.tell_next.new.hand c.note.new.hand
+    (omega (arith, new, c.tell_next.ensures.held)) c.tell_next.ensures.rest
+    ∙ drop_more _ place c.note.new.hand c.args.hand.now old c.in-Done.ensures.rest
+
+pub returns-in-TooLong-clause-rest : goal.returns-in-TooLong-clause-rest
+returns-in-TooLong-clause-rest c =
+    drop_more _ block_limit c.note.new.hand c.args.hand.now c.in-TooLong.ensures.few c.in-TooLong.ensures.rest
+
+pub returns-in-TooLong-clause-behind : goal.returns-in-TooLong-clause-behind
+returns-in-TooLong-clause-behind c = λ place old new.
+    drop_more _ place c.note.new.hand c.args.hand.now old c.in-TooLong.ensures.rest
+
+pub returns-in-Short-clause-rest : goal.returns-in-Short-clause-rest
+returns-in-Short-clause-rest c =
+    drop_more _ block_limit c.note.new.hand c.args.hand.now c.in-Short.ensures.few c.in-Short.ensures.rest
+
+pub returns-in-Short-clause-behind : goal.returns-in-Short-clause-behind
+returns-in-Short-clause-behind c = λ place old new.
+    drop_more _ place c.note.new.hand c.args.hand.now old c.in-Short.ensures.rest
+
+pub returns-in-Wrong-clause-rest : goal.returns-in-Wrong-clause-rest
+returns-in-Wrong-clause-rest c =
+    drop_more _ block_limit c.note.new.hand c.args.hand.now c.in-Wrong.ensures.few c.in-Wrong.ensures.rest
+
+pub returns-in-Wrong-clause-behind : goal.returns-in-Wrong-clause-behind
+returns-in-Wrong-clause-behind c = λ place old new.
+    drop_more _ place c.note.new.hand c.args.hand.now old c.in-Wrong.ensures.rest

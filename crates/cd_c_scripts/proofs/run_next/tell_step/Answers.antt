@@ -9,7 +9,7 @@ returns-then-copies-clause-goes c = λ es patches base read sent log_bytes used 
     let told = c.ask_copy.ensures in
     Goes-copy about h (same_run _ _ _ _ _ told.others) c.in-Copy.most next.0
     (ap (λ r. r.asked) told.others) (ap (λ r. r.most) told.others) told.most told.kind told.at told.size
-    told.some (sym c.copies.ensures ∙ c.if-copies.true)
+    told.some (sym c.copies.ensures ∙ c.if-copies.true) told.whole
 
 pub returns-else-copies-clause-goes : goal.returns-else-copies-clause-goes
 returns-else-copies-clause-goes c = λ es patches base read sent log_bytes used about comes h.
@@ -17,7 +17,7 @@ returns-else-copies-clause-goes c = λ es patches base read sent log_bytes used 
     let told = c.ask_read.ensures in
     Goes-read about h (same_run _ _ _ _ _ told.others) (read_for_copy patches c.args.run.now.machine c.in-Copy.most next.0)
     (ap (λ r. r.asked) told.others) told.most told.beyond told.kind told.at told.place told.size told.some
-    (inr (inr (sym c.copies.ensures ∙ c.if-copies.false)))
+    (inr (inr (sym c.copies.ensures ∙ c.if-copies.false))) told.whole
 
 pub returns-in-Read-clause-goes : goal.returns-in-Read-clause-goes
 returns-in-Read-clause-goes c = λ es patches base read sent log_bytes used about comes h.
@@ -25,7 +25,7 @@ returns-in-Read-clause-goes c = λ es patches base read sent log_bytes used abou
     let told = c.ask_read-in-Read.ensures in
     Goes-read about h (same_run _ _ _ _ _ told.others) next.0
     (ap (λ r. r.asked) told.others) told.most told.beyond told.kind told.at told.place told.size told.some
-    (elim next.1 [ inl last ↦ inl last | inr meets ↦ inr (inl meets) ])
+    (elim next.1 [ inl last ↦ inl last | inr meets ↦ inr (inl meets) ]) told.whole
 
 pub returns-in-Decide-clause-goes : goal.returns-in-Decide-clause-goes
 returns-in-Decide-clause-goes c = λ es patches base read sent log_bytes used about comes h.
