@@ -1,6 +1,6 @@
 -- What a client has done with a step, and what it leaves where that fails: as `apply` of cd_image.
 use Rattle.std.proofs.Common.{◌≡◌, ◌≢◌, ℕ, zero, suc, ◌+◌, ◌*◌, ◌/◌, ◌<◌, ◌≤◌, ◌⊎◌, inl, inr, Bool, true, false, List, [], ◌∷◌, ◌++◌, length, take, drop, Option, None, Some, Result, Ok, Err, refl, sym, ap, ◌∙◌, subst, arith, append_assoc, append-nil, length-append, take-append-drop, take_all}
-use Rattle.std.specs.Prelude.{All, IsSome, codes, decimal, ◌-◌, if◌then◌else◌, nat_eq}
+use Rattle.std.specs.Prelude.{All, IsSome, codes, decimal, ◌-◌, nat_eq}
 use Rattle.std.specs.List.{slice_index_or}
 use Rattle.std.specs.Io.KnownBytes.{IsAtEnd}
 use Rattle.std.proofs.KnownBytes.{Consumes-nil}
@@ -51,7 +51,7 @@ use Rattle.cd_image.proofs.KnownLemmas.{StopsAtLog-within, applies, cut_at}
 use Rattle.cd_c_scripts.specs.Client.{AppliesAs, HasEnded, HasMoved, HasTaken, IsLed, IsSaying, LeadsToLine, Passes, Refuses, ReportsAs, Says}
 use Rattle.cd_c_scripts.specs.Flags.{carries}
 use Rattle.cd_c_scripts.specs.InOrder.{MayCome, logged_by}
-use Rattle.cd_c_scripts.specs.Runs.{AsksForImage, Goes, Going, IsBegun, IsDone, IsRunning, MayEnd, Moved, Stops, Tells, steps_left, unknown_size}
+use Rattle.cd_c_scripts.specs.Runs.{AsksForImage, Goes, Going, IsBegun, IsDone, IsRunning, MayEnd, Moved, Stops, Tells, unknown_size}
 use Rattle.cd_c_scripts.specs.StepKinds.{copy_kind, end_kind, log_kind, read_kind, write_kind}
 use Rattle.cd_c_scripts.specs.declared.entries.Entry.{Entry}
 use Rattle.cd_c_scripts.specs.declared.run_state.RunStep.{RunStep}
@@ -296,22 +296,22 @@ module _ {carry : Bool} {text : List ℕ} {es : List Entry} {patches : List Patc
         length-take-le n place (omega (arith, few, sized, told.size, may_come.1)) in
         let within_limit : length (l.read ++ take n place) ≤ image_limit =
         elim may_come.0 [
+          | inl less ↦
+              omega (arith, length-append l.read (take n place), long, come, few, told.size, may_come.1, less)
+          | inr one ↦ elim (cases_lt run.machine.sectors sector_limit) [
             | inl less ↦
-                omega (arith, length-append l.read (take n place), long, come, few, told.size, may_come.1, less)
-            | inr one ↦ elim (cases_lt run.machine.sectors sector_limit) [
-              | inl less ↦
-                  omega (arith, length-append l.read (take n place), long, come, few, told.size, one, less)
-              | inr full ↦
-                  omega (
-                    arith,
-                    length-append l.read (take n place),
-                    long,
-                    come,
-                    none (omega (arith, told.at, come, full, h.sound.sectors)),
-                    h.sound.sectors,
-                  )
-            ]
-          ] in
+                omega (arith, length-append l.read (take n place), long, come, few, told.size, one, less)
+            | inr full ↦
+                omega (
+                  arith,
+                  length-append l.read (take n place),
+                  long,
+                  come,
+                  none (omega (arith, told.at, come, full, h.sound.sectors)),
+                  h.sound.sectors,
+                )
+          ]
+        ] in
         let gives : Gives now.image image (take n place) = rw front at came.given in
         record {
           read = l.read;

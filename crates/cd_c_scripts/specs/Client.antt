@@ -18,7 +18,7 @@ use Rattle.cd_c_scripts.specs.StepKinds.{end_kind, log_kind}
 use Rattle.cd_c_scripts.specs.declared.entries.Entry.{Entry}
 use Rattle.cd_c_scripts.specs.declared.run_state.RunStep.{RunStep}
 use Rattle.cd_c_scripts.specs.declared.run_state.ScriptRun.{ScriptRun}
-use Rattle.cd_c_scripts.specs.declared.run_state.TheConstants.{COPYING, OVER, READING, STOPPED}
+use Rattle.cd_c_scripts.specs.declared.run_state.TheConstants.{OVER, STOPPED}
 
 -- ---- what a client does, whole
 

@@ -56,7 +56,10 @@ const SCRIPTS: &[&str] = &[
 fn image() -> [u8; SIZE] {
     let mut bytes = [0xA5; SIZE];
     for block in 0..4_u32 {
-        let sector = encode(address_of(block).unwrap_or([0, 0, 0]), &[block as u8; USER_SIZE]);
+        let sector = encode(
+            address_of(block).unwrap_or([0, 0, 0]),
+            &[block as u8; USER_SIZE],
+        );
         for (place, byte) in sector.bytes().iter().enumerate() {
             let at = block as usize * SECTOR_SIZE + place;
             if at < SIZE {
@@ -150,8 +153,10 @@ fn beside_apply(rt: HostRuntime) {
                 let Ok(script) = parse(rt.alloc(), text.as_bytes()) else {
                     panic!(&rt; "a script");
                 };
-                let (ours, theirs) =
-                    (led(&bytes, text, base, *passing), applied(&bytes, &script, base, *passing));
+                let (ours, theirs) = (
+                    led(&bytes, text, base, *passing),
+                    applied(&bytes, &script, base, *passing),
+                );
                 assert_eq!(&rt; ours.answer, theirs.answer);
                 assert_eq!(&rt; (ours.sent, ours.logged), (theirs.sent, theirs.logged));
                 assert_eq!(&rt; ours.out, theirs.out);
