@@ -71,6 +71,7 @@ fn image() -> [u8; SIZE] {
 }
 
 /// What a run has given: its status or fault, its output and its log.
+#[derive(Drop)]
 struct Run {
     answer: Result<u32, Fault>,
     out: [u8; SIZE],
