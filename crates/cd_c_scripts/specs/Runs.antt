@@ -356,11 +356,14 @@ abbrev pub KeepsToSize : ScriptRun → RunStep → Type 0
 KeepsToSize run step =
     (step.kind ≡ read_kind) ⊎ (step.kind ≡ copy_kind) → step.at + step.size ≤ run.image_size
 
--- READ and COPY ask for all that may come at once
+-- a step asks for all that may come: a sector, or what is left of the image, or a byte after its largest
+-- size; or as many sectors as may be copied, or what is left
 abbrev pub AsksWhole : ScriptRun → RunStep → Type 0
 AsksWhole run step =
-    (step.kind ≡ read_kind → (step.size ≡ run.size) × ReadsWhole run)
-    × (step.kind ≡ copy_kind → (step.size ≡ run.size) × CopiesWhole run)
+    (step.kind ≡ read_kind → (step.size ≡ SECTOR_SIZE) ⊎ (step.at + step.size ≡ run.image_size)
+    ⊎ (run.machine.sectors ≡ sector_limit))
+    × (step.kind ≡ copy_kind
+    → (step.size ≡ SECTOR_SIZE * run.most) ⊎ (step.at + step.size ≡ run.image_size))
 
 -- the step reports no patch
 pub record IsPlain (step : RunStep) : Type 0 where

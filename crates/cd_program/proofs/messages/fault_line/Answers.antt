@@ -3,4 +3,4 @@ use Rattle.cd_program.proofs.messages.fault_line.Goals as goal
 
 pub returns-in-Read : goal.returns-in-Read
 unfolding fault_line
-returns-in-Read c = rw c.in-Read.is c.text_line.ensures
+returns-in-Read c = rw c.in-Read.is c.failed_read_line.ensures.line
