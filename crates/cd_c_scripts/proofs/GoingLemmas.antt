@@ -461,6 +461,15 @@ Going-done {patches = patches} {log_bytes = log_bytes} {machine = run} line stat
       h.known,
     ) in
     record {
+      within =
+          omega (
+            arith,
+            ap length (h.came ∙ ap (λ t. bytes_of h.seen ++ tail_bytes t) tail),
+            length-append (bytes_of h.seen) h.tail,
+            length-bytes_of h.seen h.state.seen_sizes,
+            h.state.counts.count,
+            (rw tail at h.state.counts).within,
+          );
       outcomes = h.outcomes;
       patched =
           rw (

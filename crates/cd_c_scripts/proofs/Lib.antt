@@ -1,4 +1,5 @@
 mod BeyondLemmas
+mod ClientLemmas
 mod EntryLemmas
 mod GoingLemmas
 mod InOrderLemmas

@@ -142,7 +142,7 @@ module _ {patches : List Patch} {run : ScriptRun} where
 
 -- ---- a run that asks for no more
 
-asks_few : {patches : List Patch} {run : ScriptRun} → Asks patches run → run.asked < OVER
+pub asks_few : {patches : List Patch} {run : ScriptRun} → Asks patches run → run.asked < OVER
 asks_few (Asks.nothing asked) = omega (arith, asked)
 asks_few (Asks.copying asked steps few whole) = omega (arith, asked)
 asks_few (Asks.reading asked steps few size whole) = omega (arith, asked)

@@ -1,3 +1,4 @@
+pub mod Client
 pub mod Entries
 pub mod Flags
 pub mod FlatPatch

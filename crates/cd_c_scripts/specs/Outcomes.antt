@@ -1,5 +1,4 @@
 -- What C is told of a patch. The numbers are those of `enum cdpatch_result`.
-use Rattle.std.specs.Prelude.{ℕ}
 use Rattle.cd_patch.specs.declared.outcome.Outcome.{Outcome}
 use Rattle.cd_patch.specs.declared.outcome.Outcome.TheVariants.{Applied, Damaged, Differs, NoBlock, NotMode1}
 use Rattle.cd_c_scripts.specs.declared.patches.Place.{Place}

@@ -113,9 +113,11 @@ pub data Asks (patches : List Patch) (run : ScriptRun) : Type 0 where
 abbrev pub status_of : ℕ → ℕ
 status_of refused = if refused == 0 then 0 else 1
 
--- at the end: what was sent is the patched image, and what was logged its log
+-- at the end: the image is not too long, what was sent is the patched image, and what was logged its
+-- log
 pub record IsDone (carry : Bool) (patches : List Patch) (base : ℕ) (read sent log_bytes : List ℕ)
     (status : ℕ) : Type 0 where
+  pub within : length read ≤ image_limit
   pub outcomes : List Outcome
   pub patched : IsPatched carry patches outcomes base read sent
   pub log_right : log_bytes ≡ log_text patches outcomes
@@ -370,7 +372,9 @@ pub record IsPlain (step : RunStep) : Type 0 where
   pub block : step.block ≡ 0
   pub offset : step.offset ≡ 0
 
--- a run over patches has begun: nothing has come, gone out or been logged, whatever hand it is lent
+-- a run over patches has begun: nothing was asked for, and nothing has come, gone out or been logged,
+-- whatever hand it is lent. The image has not ended
 abbrev pub IsBegun : List ℕ → List Entry → List Patch → ℕ → ScriptRun → Type 0
 IsBegun text es patches base run =
-    (run.size ≡ 0) × ((hand : List (List ℕ)) → IsRunning text es patches base [] [] [] run hand)
+    (run.size ≡ 0) × (run.asked ≡ NOTHING) × (run.machine.stage ≡ 0)
+    × ((hand : List (List ℕ)) → IsRunning text es patches base [] [] [] run hand)

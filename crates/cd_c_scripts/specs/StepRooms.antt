@@ -11,11 +11,12 @@ hand_room = 3 * 2352
 abbrev pub line_room : ℕ
 line_room = 96
 
--- the step is one of the five. What it moves stands in the first three sectors of the hand, and its
--- line in its text; only the end moves nothing
+-- the step is one of the five. What it moves stands in the first three sectors of the hand, at most a
+-- sector of it, and its line in its text; only the end moves nothing
 pub record KeepsToRooms (step : RunStep) : Type 0 where
   pub known : step.kind ≤ log_kind
   pub hand : (step.kind ≡ read_kind) ⊎ (step.kind ≡ write_kind)
       → step.place + step.size ≤ hand_room
+  pub sector : (step.kind ≡ read_kind) ⊎ (step.kind ≡ write_kind) → step.size ≤ 2352
   pub line : step.kind ≡ log_kind → step.size ≤ line_room
   pub some : end_kind < step.kind → 0 < step.size

@@ -7,6 +7,8 @@
 #![tactic(auto)]
 
 mod asking;
+mod client;
+mod client_steps;
 mod cutting;
 mod deciding;
 mod entries;

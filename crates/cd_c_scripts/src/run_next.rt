@@ -70,6 +70,7 @@ fn tell_decided(
     ensures rereads { step.new.kind ≡ LOG → Rereads script.now run.old.version entries.now
         run.old.machine.decided step.new.number }
     ensures count { run.new.count ≡ run.old.count }
+    ensures over { run.new.asked ≢ OVER }
     ensures falls { step.new.kind ≡ LOG → (run.new.machine.held ≡ run.old.machine.held)
         × (run.new.machine.sectors ≡ run.old.machine.sectors)
         × (run.new.machine.decided ≡ run.old.machine.decided + 1) }
@@ -211,6 +212,8 @@ fn tell_step(
     requires used { length entries.now ≡ run.old.count }
     ensures stage { run.new.machine.stage ≡ run.old.machine.stage }
     ensures sectors { run.new.machine.sectors ≡ run.old.machine.sectors }
+    ensures over { run.new.asked ≡ OVER → (run.new.machine.stage ≡ 2)
+        × (run.new.machine.sectors ≤ sector_limit) }
     ensures held { run.new.machine.held ≡ run.old.machine.held }
     ensures flags { run.new.flags ≡ run.old.flags }
     ensures image_size { run.new.image_size ≡ run.old.image_size }
@@ -263,6 +266,8 @@ fn tell_next(
     requires hand { block_limit ≤ length hand.old }
     ensures stage { run.old.machine.stage ≤ run.new.machine.stage }
     ensures sectors { run.new.machine.sectors ≡ run.old.machine.sectors }
+    ensures over { run.new.asked ≡ OVER → (run.new.machine.stage ≡ 2)
+        × (run.new.machine.sectors ≤ sector_limit) }
     ensures held { run.new.machine.held ≡ run.old.machine.held }
     ensures flags { run.new.flags ≡ run.old.flags }
     ensures image_size { run.new.image_size ≡ run.old.image_size }
@@ -322,6 +327,9 @@ pub extern "C" fn cdpatch_run_next(
     ensures closes { run.old.asked ≡ WRITING_TAIL → EndsOr run.new 2 }
     ensures ends_only { run.old.machine.stage ≡ 0 → 0 < run.new.machine.stage
         → MayEnd run.old run.new done }
+    // It is over only once the image has ended.
+    ensures over { run.new.asked ≡ OVER → (run.old.asked ≡ OVER)
+        ⊎ ((run.new.machine.stage ≡ 2) × (run.new.machine.sectors ≤ sector_limit)) }
     ensures short { IsShort run.old done → IsRun run.old.machine → block_limit ≤ length hand.old
         → FailsRead run.new step.new }
     // What stays: the image, the flags, and what stands in the hand behind all that the run holds.

@@ -39,7 +39,7 @@ pub(crate) const TOO_LONG: u32 = 16;
 pub(crate) const UNKNOWN_SIZE: u64 = u64::MAX;
 
 /// Damage is carried.
-const CARRY: u32 = 1;
+pub(crate) const CARRY: u32 = 1;
 
 /// COPY is not asked for.
 const NO_COPY: u32 = 2;

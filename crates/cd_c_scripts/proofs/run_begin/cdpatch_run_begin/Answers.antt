@@ -32,6 +32,8 @@ returns-else-index-entries-clause-begins c = λ small few short room.
     let new = c.new.ensures in
     rw i.is_script (
       refl,
+      refl,
+      new.stage,
       λ hand.
           IsRunning.going
           (record {

@@ -1,0 +1,179 @@
+-- A client of the two calls of a run over a source and two sinks: what it has moved, and what it has
+-- done when it ends.
+use Rattle.std.specs.Prelude.{◌≡◌, ◌↔◌, ℕ, ◌+◌, ◌*◌, ◌<◌, ◌≤◌, ◌⊎◌, Bool, false, true, List, Result, Ok, Err, OnOk, IfOk, length, take}
+use Rattle.std.specs.Io.KnownBytes.{IsAtEnd}
+use Rattle.cd_script.specs.PatchForm.{Patch}
+use Rattle.cd_sector.specs.Image.{image_limit}
+use Rattle.cd_stream.specs.Stream.{Incoming, Outgoing}
+use Rattle.cd_stream.specs.Transfer.{Gives, Sends, Takes}
+use Rattle.cd_read.specs.Ends.{AnswersByEnd, AnswersByLength, AnswersTooLong, EndsWell}
+use Rattle.cd_read.specs.declared.fault.Fault.{Fault}
+use Rattle.cd_read.specs.declared.fault.Fault.TheVariants as fault
+use Rattle.cd_sector.specs.declared.sector.TheConstants.{SECTOR_SIZE}
+use Rattle.cd_image.specs.Applying.{Applies, Failed, Flushed, HoldsFew, HoldsFewCounted, Streams, WritesCarried, WritesLog, WritesPatched, streams}
+use Rattle.cd_image.specs.declared.patch_log.Tally.{Tally}
+use Rattle.cd_c_scripts.specs.Flags.{carries}
+use Rattle.cd_c_scripts.specs.Runs.{AsksForImage, Goes, IsRunning, Moved, SameInHand, status_of, unknown_size}
+use Rattle.cd_c_scripts.specs.StepKinds.{end_kind, log_kind}
+use Rattle.cd_c_scripts.specs.declared.entries.Entry.{Entry}
+use Rattle.cd_c_scripts.specs.declared.run_state.RunStep.{RunStep}
+use Rattle.cd_c_scripts.specs.declared.run_state.ScriptRun.{ScriptRun}
+use Rattle.cd_c_scripts.specs.declared.run_state.TheConstants.{OVER, STOPPED}
+
+-- ---- what a client does, whole
+
+-- what `apply` returns where a client ends so: the status is 0 if no patch was refused, else 1
+abbrev pub EndsAs : Result ℕ Fault → Result Tally Fault → Type 0
+EndsAs (Ok status) (Ok tally) = status ≡ status_of tally.refused
+EndsAs (Ok status) (Err told) = ⊥
+EndsAs (Err fault) (Ok tally) = ⊥
+EndsAs (Err fault) (Err told) = fault ≡ told
+
+-- the clauses of `apply`, word for word
+pub record AppliesWhole (carry : Bool) (patches : List Patch) (base : ℕ) (image image' : Incoming)
+    (out out' log log' : Outgoing) (result : Result Tally Fault) : Type 0 where
+  pub report : Applies carry patches base (streams image out log) (streams image' out' log') result
+  pub output : OnOk result (WritesPatched carry patches base image image' out out')
+  pub carried : carry ≡ true → OnOk result (WritesCarried patches base image out out')
+  pub log_bytes : IfOk result (WritesLog carry patches base image log log')
+  pub output_ends_well : OnOk result (EndsWell image image' out out')
+  pub log_ends_well : OnOk result (EndsWell image image' log log')
+  pub read_failed : (result ≡ Err fault.Read) ↔ (image'.failures ≡ image.failures + 1)
+  pub write_failed : (result ≡ Err fault.Write) ↔ (out'.failures ≡ out.failures + 1)
+  pub log_failed : (result ≡ Err fault.Log) ↔ (log'.failures ≡ log.failures + 1)
+  pub too_long : AnswersTooLong image image' result
+  pub by_length : image'.failures ≡ image.failures → out'.failures ≡ out.failures
+      → log'.failures ≡ log.failures → AnswersByLength image result
+  pub ended : OnOk result (image'.ended ≡ true)
+  pub by_end : image'.failures ≡ image.failures → out'.failures ≡ out.failures
+      → log'.failures ≡ log.failures → AnswersByEnd image' result
+  pub holds_few : HoldsFew (streams image out log) (streams image' out' log')
+  pub holds_few_counted : HoldsFewCounted (streams image out log) (streams image' out' log')
+
+-- a client has done what `apply` does, and returned what fits it
+abbrev pub AppliesAs : Bool → List Patch → ℕ → Incoming → Incoming → Outgoing → Outgoing
+    → Outgoing → Outgoing → Result ℕ Fault → Type 0
+AppliesAs carry patches base image image' out out' log log' result =
+    (told : Result Tally Fault) × EndsAs result told
+    × AppliesWhole carry patches base image image' out out' log log' told
+
+-- the same, by the report alone
+abbrev pub ReportsAs : Bool → List Patch → ℕ → Streams → Streams → Result ℕ Fault → Type 0
+ReportsAs carry patches base start now result =
+    (told : Result Tally Fault) × EndsAs result told × Applies carry patches base start now told
+
+-- the log after the line of a text that is not a script, by what was returned
+abbrev pub RefusesBy : List ℕ → Outgoing → Outgoing → Result ℕ Fault → Type 0
+RefusesBy line log log' (Ok status) = (status ≡ 2) × Takes log log' line × (log'.finished ≡ true)
+RefusesBy line log log' (Err f) = (f ≡ fault.Log) × (log'.failures ≡ log.failures + 1)
+
+-- a text that is not a script: nothing was read, nothing has gone out, and the log has got the line,
+-- or a front of it if it has failed
+abbrev pub Refuses : List ℕ → Streams → Streams → Result ℕ Fault → Type 0
+Refuses line start now result =
+    (now.image ≡ start.image) × (now.out ≡ start.out) × RefusesBy line start.log now.log result
+
+-- the source has nothing left, and has said so
+abbrev pub HasEnded : Incoming → Type 0
+HasEnded image = IsAtEnd image.rest × (image.ended ≡ true)
+
+-- a line has gone to the log, or the log has failed
+abbrev pub Says : {X : Type 0} → List ℕ → Outgoing → Outgoing → Result X Fault → Type 0
+Says line log log' (Ok done) =
+    Takes log log' line × (log'.failures ≡ log.failures) × (log'.flushes ≡ log.flushes)
+Says line log log' (Err f) = (f ≡ fault.Log) × (log'.failures ≡ log.failures + 1)
+
+-- some bytes have gone from the image to the output, fewer than asked for only at its end; or a part of
+-- them, where one of the two has failed
+abbrev pub Passes : ℕ → Incoming → Incoming → Outgoing → Outgoing → Result ℕ Fault → Type 0
+Passes asked image image' out out' (Ok done) =
+    (bytes : List ℕ) × (length bytes ≡ done) × (done ≤ asked) × Gives image image' bytes
+    × Sends {X = ℕ} {E = Fault} out out' bytes (Ok done) × (image'.failures ≡ image.failures)
+    × (done < asked → HasEnded image')
+Passes asked image image' out out' (Err fault.Read) =
+    (came : List ℕ) × (length came < asked) × Gives image image' came
+    × (image'.failures ≡ image.failures + 1) × (image'.ended ≡ false) × (out' ≡ out)
+Passes asked image image' out out' (Err fault.Write) =
+    (bytes : List ℕ) × (length bytes ≤ asked) × Gives image image' bytes
+    × Sends {X = ℕ} out out' bytes (Err fault.Write) × (image'.failures ≡ image.failures)
+    × (length bytes < asked → HasEnded image')
+Passes asked image image' out out' (Err fault.Log) = ⊥
+Passes asked image image' out out' (Err fault.TooLong) = ⊥
+
+-- ---- between two calls
+
+-- what came, went out and was logged since `start`: nothing failed, and no sink was flushed
+pub record HasMoved (start now : Streams) (read sent log_bytes : List ℕ) : Type 0 where
+  pub gives : Gives start.image now.image read
+  pub sends : Takes start.out now.out sent
+  pub logs : Takes start.log now.log log_bytes
+  pub unfailed : Failed start now 0 0 0
+  pub unflushed : Flushed start now 0 0
+
+-- a call has told a step of a run, and its client has moved what the steps before it asked for
+pub record IsLed (carry : Bool) (text : List ℕ) (es : List Entry) (patches : List Patch) (base : ℕ)
+    (start now : Streams) (run : ScriptRun) (hand : List (List ℕ)) (step : RunStep) : Type 0 where
+  pub read : List ℕ
+  pub sent : List ℕ
+  pub log_bytes : List ℕ
+  pub moved : HasMoved start now read sent log_bytes
+  pub goes : Goes text es patches base read sent log_bytes run hand step
+  pub within : length read ≤ image_limit
+  pub ended : (run.asked ≡ OVER) ⊎ (0 < run.machine.stage) → HasEnded now.image
+  pub carried : carries run.flags ≡ carry
+  pub unknown : run.image_size ≡ unknown_size
+
+-- and it has moved what this step asks for: `done` bytes
+pub record HasTaken (carry : Bool) (text : List ℕ) (es : List Entry) (patches : List Patch)
+    (base : ℕ) (start now : Streams) (run : ScriptRun) (hand hand' : List (List ℕ)) (done : ℕ)
+    : Type 0 where
+  pub read : List ℕ
+  pub sent : List ℕ
+  pub read' : List ℕ
+  pub sent' : List ℕ
+  pub log_bytes : List ℕ
+  pub moved : HasMoved start now read' sent' log_bytes
+  pub running : IsRunning text es patches base read sent log_bytes run hand
+  pub took : Moved run hand' done read sent read' sent'
+  pub same : SameInHand run.machine hand hand'
+  pub within : length read' ≤ image_limit
+  pub ended : (run.asked ≡ OVER) ⊎ (0 < run.machine.stage) → HasEnded now.image
+  pub short : AsksForImage run → done < run.size → HasEnded now.image
+  pub little : AsksForImage run → SECTOR_SIZE * run.machine.sectors + done ≤ image_limit
+  pub carried : carries run.flags ≡ carry
+  pub unknown : run.image_size ≡ unknown_size
+
+-- nothing was begun: the line of the script's error is told, and then its end
+pub data IsSaying (line : List ℕ) (start now : Streams) (run : ScriptRun) (step : RunStep)
+    : Type 0 where
+  to_say : run.asked ≡ STOPPED → step.kind ≡ log_kind → take step.size step.text ≡ line
+      → now.image ≡ start.image → now.out ≡ start.out → now.log ≡ start.log
+      → IsSaying line start now run step
+  said : step.kind ≡ end_kind → step.status ≡ 2 → now.image ≡ start.image → now.out ≡ start.out
+      → Says {X = ℕ} line start.log now.log (Ok 0) → IsSaying line start now run step
+
+-- by what leading returned: the line was said, or the log has failed
+abbrev pub LeadsToLine : List ℕ → Streams → Streams → Result ℕ Fault → Type 0
+LeadsToLine line start now (Ok status) =
+    (status ≡ 2) × (now.image ≡ start.image) × (now.out ≡ start.out)
+    × Says {X = ℕ} line start.log now.log (Ok 0)
+LeadsToLine line start now (Err f) =
+    (f ≡ fault.Log) × (now.image ≡ start.image) × (now.out ≡ start.out)
+    × (now.log.failures ≡ start.log.failures + 1)
+
+-- by what a step returned: it was taken, or the client ends by a fault as `apply` does
+abbrev pub TakesStep : Bool → List ℕ → List Entry → List Patch → ℕ → Streams → Streams → ScriptRun
+    → List (List ℕ) → List (List ℕ) → Result ℕ Fault → Type 0
+TakesStep carry text es patches base start now run hand hand' (Ok done) =
+    HasTaken carry text es patches base start now run hand hand' done
+TakesStep carry text es patches base start now run hand hand' (Err fault) =
+    Applies carry patches base start now (Err fault)
+
+-- by what leading returned: the run has ended, or the client ends by a fault as `apply` does
+abbrev pub LeadsTo : Bool → List ℕ → List Entry → List Patch → ℕ → Streams → Streams → ScriptRun
+    → List (List ℕ) → RunStep → Result ℕ Fault → Type 0
+LeadsTo carry text es patches base start now run hand step (Ok status) =
+    IsLed carry text es patches base start now run hand step × (step.kind ≡ end_kind)
+    × (status ≡ step.status)
+LeadsTo carry text es patches base start now run hand step (Err fault) =
+    Applies carry patches base start now (Err fault)
