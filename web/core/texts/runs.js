@@ -1,6 +1,6 @@
 // Long texts: what belongs to one text is joined, and what is too long for a row is cut where a reader would.
 
-import { plainTo, sizeAt, wholeText } from './plain.js';
+import { plainTo, sizeAt, plainBounds } from './plain.js';
 
 /** @typedef {import('./candidates.js').Candidate} Candidate */
 /** @typedef {import('./scores.js').Scores} Scores */
@@ -71,7 +71,7 @@ function wholeOf(bytes, texts, shift) {
     const own = texts.filter(it => it.scores === scores);
     const longest = own.reduce((last, it) => it.to - it.from > last.to - last.from ? it : last);
     // The longest text is most likely read from the right byte on. At the beginning of a file there is no doubt.
-    const bounds = wholeText(scores, bytes, shift === 0 ? [0, longest.from] : [longest.from], count, shift === 0);
+    const bounds = plainBounds(scores, bytes, shift === 0 ? [0, longest.from] : [longest.from], count, shift === 0);
     if (bounds === null) return null;
     const score = own.reduce((best, it) => Math.max(best, it.score), 0);
     return { ...longest, ...bounds, from: bounds.start, to: bounds.end, score, near: false, text: '' };
