@@ -84,7 +84,7 @@ export function plainBounds(scores, bytes, begins, covered, isFirst) {
         const end = Math.min(bytes.length, scores.wide ? last + (last - from & 1) : last);
         const read = plainTo(scores, bytes, from, end);
         if (read !== end && (end < bytes.length || read < end - MOST_BESIDE)) continue;
-        const start = firstOfHere(scores, bytes, from, isFirst);
+        const start = firstPlain(scores, bytes, from, isFirst);
         if (start >= 0 && 2 * covered >= countOthers(scores, bytes.subarray(start, read))) return { start, end: read };
     }
     return null;
@@ -97,7 +97,7 @@ export function plainBounds(scores, bytes, begins, covered, isFirst) {
  * @param {number} from
  * @param {boolean} isFirst
  */
-function firstOfHere(scores, bytes, from, isFirst) {
+function firstPlain(scores, bytes, from, isFirst) {
     const hasMark = isFirst && scores.encoding.text(bytes.subarray(0, MOST_BESIDE)).startsWith('\uFEFF');
     const first = hasMark ? sizeAt(scores, bytes, 0) : 0;
     for (let start = first; start <= (isFirst ? first : Math.min(MOST_BESIDE, from)); start++) {

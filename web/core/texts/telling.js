@@ -19,7 +19,7 @@ const REACH_WITHOUT_ZERO = 4;
  * So many texts with 00 on both sides, each this many bytes from the next one at most, are sure together, as a list of short words is. So
  * many of them have to begin with different characters, and end with different ones: those of addresses do not.
  */
-const MANY = 10;
+const OWN_MANY = 10;
 const APART = 8;
 const DIFFERENT = 6;
 
@@ -28,7 +28,7 @@ const MOST_BY_CHANCE = 0.4;
 
 /** Beside a text, over this many bytes of filling, others up to 00 are accepted from a few bits on, by a game's own table from 0 on. */
 const BETWEEN = 8;
-const LEAST_BESIDE = 4;
+const OWN_LEAST_BESIDE = 4;
 const LONGEST_BESIDE = 256;
 
 /** What kanji score there at least, in quarter bits: a table of names has many that stand in no sentence. */
@@ -112,8 +112,8 @@ function listedOf(bytes, candidates) {
         const before = lists.get(it.scores) || [];
         const list = before.length > 0 && it.start - before[before.length - 1].end <= APART ? before : [];
         list.push(it);
-        lists.set(it.scores, list.slice(-MANY));
-        const isUnsure = list.length >= MANY && list.some(({ score }) => score < SURE);
+        lists.set(it.scores, list.slice(-OWN_MANY));
+        const isUnsure = list.length >= OWN_MANY && list.some(({ score }) => score < SURE);
         if (isUnsure && areDifferent(bytes, list)) list.forEach(other => listed.add(other));
     }
     return listed;
@@ -198,7 +198,7 @@ function textsBeside(bytes, { start, end, scores }, limit, isAfter) {
         const from = Math.min(near, far);
         const to = Math.max(near, far);
         const score = isBound ? bitsOf(scores, bytes, from, to) : -1;
-        if (score < (scores.own ? 0 : LEAST_BESIDE)) return found;
+        if (score < (scores.own ? 0 : OWN_LEAST_BESIDE)) return found;
         found.push({ start: from, end: to, from, to, score, scores, zeros: 2, near: true, text: '' });
         edge = far;
     }
