@@ -8,8 +8,8 @@ import { readTo } from './candidates.js';
 /** @typedef {{ filling: number[], from: number, to: number }} Filled what fills up the field of a record, and from where to where */
 
 /** Of this many texts on each side of one, so many begin at a multiple of the distance of records. */
-const BESIDE = 6;
-const LEAST_BESIDE = 3;
+const NEIGHBOURS = 6;
+const LEAST_IN_COLUMN = 3;
 
 /** Between two records there are this many bytes at least that are not of a text. */
 const LEAST_BETWEEN = 3;
@@ -47,9 +47,9 @@ export function withRecords(bytes, texts) {
  * @param {number} i
  */
 function distanceAt(distances, i) {
-    const from = Math.max(i - BESIDE, 0);
-    const to = Math.min(i + BESIDE, distances.length);
-    let [best, most] = [0, LEAST_BESIDE - 1];
+    const from = Math.max(i - NEIGHBOURS, 0);
+    const to = Math.min(i + NEIGHBOURS, distances.length);
+    let [best, most] = [0, LEAST_IN_COLUMN - 1];
     for (let k = from; k < to; k++) {
         const distance = distances[k];
         if (distance === 0 || distance === best) continue;
@@ -80,10 +80,10 @@ function distancesOf(texts) {
  */
 function isInColumn(texts, i, distance) {
     let count = 0;
-    for (let k = Math.max(i - BESIDE, 0); k <= Math.min(i + BESIDE, texts.length - 1); k++) {
+    for (let k = Math.max(i - NEIGHBOURS, 0); k <= Math.min(i + NEIGHBOURS, texts.length - 1); k++) {
         count += Number(k !== i && texts[k].scores === texts[i].scores && (texts[k].from - texts[i].from) % distance === 0);
     }
-    return count >= LEAST_BESIDE;
+    return count >= LEAST_IN_COLUMN;
 }
 
 /**

@@ -28,7 +28,7 @@ const MOST_BY_CHANCE = 0.4;
 
 /** Beside a text, over this many bytes of filling, others up to 00 are accepted from a few bits on, by a game's own table from 0 on. */
 const BETWEEN = 8;
-const OWN_LEAST_BESIDE = 4;
+const LEAST_BESIDE = 4;
 const LONGEST_BESIDE = 256;
 
 /** What kanji score there at least, in quarter bits: a table of names has many that stand in no sentence. */
@@ -198,7 +198,7 @@ function textsBeside(bytes, { start, end, scores }, limit, isAfter) {
         const from = Math.min(near, far);
         const to = Math.max(near, far);
         const score = isBound ? bitsOf(scores, bytes, from, to) : -1;
-        if (score < (scores.own ? 0 : OWN_LEAST_BESIDE)) return found;
+        if (score < (scores.own ? 0 : LEAST_BESIDE)) return found;
         found.push({ start: from, end: to, from, to, score, scores, zeros: 2, near: true, text: '' });
         edge = far;
     }

@@ -4,8 +4,8 @@
 export const SURE = 27;
 
 /** Texts go over borders of ranges: one begins after these sectors, which it sees of the one before it, and sees as many after itself. */
-export const OWN_BESIDE = 4;
-export const BEYOND = 2 * OWN_BESIDE;
+export const BESIDE = 4;
+export const BEYOND = 2 * BESIDE;
 
 /** A text in another encoding than most of its file has to have this many bits more, and most is this share. */
 const FOREIGN = 8;
