@@ -6,8 +6,8 @@ import { plainTo, sizeAt, plainBounds } from './plain.js';
 /** @typedef {import('./scores.js').Scores} Scores */
 
 /**
- * A row has at most LONGEST_ROW bytes. A longer text is cut before places that are GRID bytes apart in the file, so that all ranges that see it
- * cut it alike: at the last line end within WINDOW bytes before such a place, or else at the end of a sentence.
+ * A row has at most LONGEST_ROW bytes. A longer text is cut before places that are GRID bytes apart in the file, so that all ranges that
+ * see it cut it alike: at the last line end within WINDOW bytes before such a place, or else at the end of a sentence.
  */
 const LONGEST_ROW = 4096;
 const WINDOW = 1024;
