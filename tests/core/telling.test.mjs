@@ -257,11 +257,18 @@ test('letters, marks, and half-width kana at the beginning belong to a text', ()
     }
 });
 
+test('letters and half-width kana at the end belong to a text that a 00 ends', () => {
+    for (const text of ['まほうの薬をAB', '城の地下に宝があるHP', 'つづきからﾒﾓﾘｰ']) {
+        const bytes = Buffer.concat([Buffer.of(0x80, 0), bytesOf('CP932', text), Buffer.of(0, 0x80)]);
+        assert.deepEqual(foundIn('CP932', bytes), [bytesOf('CP932', text).toString('hex')], text);
+    }
+});
+
 test('short words of Big5 one after the other are texts, and addresses are not', () => {
     const words = ['長劍', '短弓', '木盾', '鐵盔', '藥草', '毒草', '聖水', '地圖', '鑰匙', '火把', '金幣', '寶石', '戒指', '項鍊', '披風'];
     assert.ok(foundIn('Big5', Buffer.concat([Buffer.of(0), endedBy('Big5', words, 0)])).length >= words.length - 1);
     assert.deepEqual(foundIn('Big5', Buffer.concat([Buffer.of(0), endedBy('Big5', words.slice(0, 4), 0)])), []);
-    const addresses = Buffer.concat(Array.from({ length: 40 }, (_, i) => Buffer.of(0x60 + i, 0xA4, 0x6A, 0xAB, 0, 0)));
+    const addresses = Buffer.concat(Array.from({ length: 40 }, (_, i) => Buffer.of(0xA4, 0x40 + i, 0xA4, 0x6A, 0)));
     assert.deepEqual(foundIn('Big5', addresses), []);
 });
 

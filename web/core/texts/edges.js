@@ -61,7 +61,7 @@ export function withEdges(bytes, texts) {
         const low = i > 0 ? texts[i - 1].end : 0;
         const high = i + 1 < texts.length ? texts[i + 1].start : bytes.length;
         const last = ends.get(it.scores) ?? -1;
-        const [start, end] = [startOf(bytes, it, low, last), endOf(bytes, it, high, last)];
+        const [start, end] = [startWithMarks(bytes, it, low, last), endWithMarks(bytes, it, high, last)];
         return start === it.start && end === it.end ? it : { ...it, start, end, text: '' };
     });
 }
@@ -72,7 +72,7 @@ export function withEdges(bytes, texts) {
  * @param {number} high where the next one begins
  * @param {number} last what ends texts
  */
-function endOf(bytes, { end, scores }, high, last) {
+function endWithMarks(bytes, { end, scores }, high, last) {
     if (scores.own || isZero(scores, bytes, end)) return end;
     const limit = Math.min(high, end + MOST_EXTENSION);
     const read = readTo(scores, bytes, end, limit);
@@ -88,7 +88,7 @@ function endOf(bytes, { end, scores }, high, last) {
  * @param {number} low where the text before it ends
  * @param {number} last what ends texts
  */
-function startOf(bytes, { start, from, scores }, low, last) {
+function startWithMarks(bytes, { start, from, scores }, low, last) {
     if (scores.own || scores.wide) return start;
     const least = Math.max(low, from - MOST_EXTENSION);
     let begin = from;

@@ -11,7 +11,7 @@ import { plainTo } from './plain.js';
  * So many texts, each right after the one before it, show that there are lengths before them: if these are control codes or have several
  * bytes; if the last one ends where all ends; or else. Letters, too, may look like lengths.
  */
-const LEAST_TEXTS = 3;
+const LEAST_CHAINED = 3;
 const LEAST_TO_END = 6;
 const LEAST_OF_LETTERS = 24;
 const CONTROL_SHARE = 0.1;
@@ -127,7 +127,7 @@ function isChain(bytes, chain, width, at, { start, end, scores }) {
     const isByte = width === 1 || (scores.wide && width === 2);
     const codes = isByte ? chain.filter(([from]) => isCode(bytes[from - 1] || bytes[from - 2])).length : chain.length;
     const isSure = codes > CONTROL_SHARE * chain.length && codes > 1;
-    return chain.length >= (isSure ? LEAST_TEXTS : toEnd ? LEAST_TO_END : LEAST_OF_LETTERS);
+    return chain.length >= (isSure ? LEAST_CHAINED : toEnd ? LEAST_TO_END : LEAST_OF_LETTERS);
 }
 
 /** @param {number} byte whether it is a control code, and not a tab or a line end */
@@ -144,7 +144,7 @@ function isCode(byte) {
  */
 function areLengths(bytes, from, width, read) {
     let at = from;
-    for (let count = 0; count < LEAST_TEXTS; count++) {
+    for (let count = 0; count < LEAST_CHAINED; count++) {
         const length = at + width <= bytes.length ? read(bytes, at) : 0;
         if (length < LEAST_LENGTH || length > MOST_LENGTH) return count > 1 && at === bytes.length;
         at += width + length;
@@ -168,7 +168,7 @@ function chainFrom(bytes, scores, from, width, read, left) {
         const start = at + width;
         const length = read(bytes, at);
         const end = start + length;
-        left.bytes -= chain.length < (width > 1 ? LEAST_TEXTS : LEAST_OF_LETTERS) ? length : 0;
+        left.bytes -= chain.length < (width > 1 ? LEAST_CHAINED : LEAST_OF_LETTERS) ? length : 0;
         if (length < LEAST_LENGTH || length > MOST_LENGTH || end > bytes.length || !isText(bytes, scores, at, start, end)) break;
         chain.push([start, end]);
         at = end;

@@ -77,14 +77,14 @@ const MOST_BESIDE = 3;
  * @param {number} covered how many bytes are known to be text
  * @param {boolean} isFirst whether the first byte is that of a file
  */
-export function wholeText(scores, bytes, begins, covered, isFirst) {
+export function plainBounds(scores, bytes, begins, covered, isFirst) {
     let last = bytes.length;
     while (last > 0 && AFTER_TEXT.includes(bytes[last - 1])) last -= 1;
     for (const from of begins) {
         const end = Math.min(bytes.length, scores.wide ? last + (last - from & 1) : last);
         const read = plainTo(scores, bytes, from, end);
         if (read !== end && (end < bytes.length || read < end - MOST_BESIDE)) continue;
-        const start = firstOf(scores, bytes, from, isFirst);
+        const start = firstPlain(scores, bytes, from, isFirst);
         if (start >= 0 && 2 * covered >= countOthers(scores, bytes.subarray(start, read))) return { start, end: read };
     }
     return null;
@@ -97,7 +97,7 @@ export function wholeText(scores, bytes, begins, covered, isFirst) {
  * @param {number} from
  * @param {boolean} isFirst
  */
-function firstOf(scores, bytes, from, isFirst) {
+function firstPlain(scores, bytes, from, isFirst) {
     const hasMark = isFirst && scores.encoding.text(bytes.subarray(0, MOST_BESIDE)).startsWith('\uFEFF');
     const first = hasMark ? sizeAt(scores, bytes, 0) : 0;
     for (let start = first; start <= (isFirst ? first : Math.min(MOST_BESIDE, from)); start++) {

@@ -8,8 +8,8 @@ import { readTo } from './candidates.js';
 /** @typedef {{ filling: number[], from: number, to: number }} Filled what fills up the field of a record, and from where to where */
 
 /** Of this many texts on each side of one, so many begin at a multiple of the distance of records. */
-const BESIDE = 6;
-const LEAST_BESIDE = 3;
+const NEIGHBOURS = 6;
+const LEAST_IN_COLUMN = 3;
 
 /** Between two records there are this many bytes at least that are not of a text. */
 const LEAST_BETWEEN = 3;
@@ -17,7 +17,7 @@ const LEAST_BETWEEN = 3;
 /** A distance of records: the least, and the most. A table has so many texts, and no more records without one between two. */
 const LEAST_DISTANCE = 6;
 const MOST_DISTANCE = 1024;
-const LEAST_TEXTS = 5;
+const LEAST_RECORDS = 5;
 const MOST_MISSING = 16;
 
 /** How far from the column of a table a text may begin that begins there in truth. */
@@ -27,7 +27,7 @@ const OFF = 6;
 const LEAST_FILLED = 2;
 
 /** What fills up fields: in UTF-16 each is a character. Numbers are often 00 or FF themselves, but seldom spaces. */
-const SPACES = [[0x20], [0x81, 0x40], [0xA1, 0xA1]];
+const BLANKS = [[0x20], [0x81, 0x40], [0xA1, 0xA1]];
 const NUMBERS = [[0x00], [0xFF]];
 
 /**
@@ -47,9 +47,9 @@ export function withRecords(bytes, texts) {
  * @param {number} i
  */
 function distanceAt(distances, i) {
-    const from = Math.max(i - BESIDE, 0);
-    const to = Math.min(i + BESIDE, distances.length);
-    let [best, most] = [0, LEAST_BESIDE - 1];
+    const from = Math.max(i - NEIGHBOURS, 0);
+    const to = Math.min(i + NEIGHBOURS, distances.length);
+    let [best, most] = [0, LEAST_IN_COLUMN - 1];
     for (let k = from; k < to; k++) {
         const distance = distances[k];
         if (distance === 0 || distance === best) continue;
@@ -80,10 +80,10 @@ function distancesOf(texts) {
  */
 function isInColumn(texts, i, distance) {
     let count = 0;
-    for (let k = Math.max(i - BESIDE, 0); k <= Math.min(i + BESIDE, texts.length - 1); k++) {
+    for (let k = Math.max(i - NEIGHBOURS, 0); k <= Math.min(i + NEIGHBOURS, texts.length - 1); k++) {
         count += Number(k !== i && texts[k].scores === texts[i].scores && (texts[k].from - texts[i].from) % distance === 0);
     }
-    return count >= LEAST_BESIDE;
+    return count >= LEAST_IN_COLUMN;
 }
 
 /**
@@ -103,7 +103,7 @@ function tablesOf(texts) {
         if (goesOn) last.members.push(i);
         else tables.push({ distance, column: from % distance, members: [i] });
     });
-    return tables.filter(({ members }) => members.length >= LEAST_TEXTS);
+    return tables.filter(({ members }) => members.length >= LEAST_RECORDS);
 }
 
 /**
@@ -165,7 +165,7 @@ function columnNear(bytes, { start, end, scores }, low, distance, column) {
 function fitted(bytes, text, start, { filling, field, room }) {
     const own = { ...text, start, from: Math.max(start, text.from) };
     const filled = filledBy(bytes, own, field, filling);
-    const isFilled = filled !== null && SPACES.includes(filling) && filled.from >= Math.min(text.to, start + field);
+    const isFilled = filled !== null && BLANKS.includes(filling) && filled.from >= Math.min(text.to, start + field);
     const end = isFilled ? Math.min(text.end, filled.from) : text.end > start + field ? Math.min(text.to, start + field) : text.end;
     const isSame = start === text.start && end === text.end;
     return { ...own, end, to: Math.min(text.to, end), text: isSame ? text.text : '', limit: start + room };
@@ -180,7 +180,7 @@ function fitted(bytes, text, start, { filling, field, room }) {
 function filledIn(bytes, text, distance) {
     /** @type {Filled | null} */
     let first = null;
-    for (const filling of [...SPACES, ...NUMBERS]) {
+    for (const filling of [...BLANKS, ...NUMBERS]) {
         const filled = filledBy(bytes, text, distance, filling);
         if (filled !== null && (first === null || filled.from < first.from)) first = filled;
     }
@@ -234,7 +234,7 @@ function unitOf({ wide, encoding }, filling) {
  * @param {Filled[]} all
  */
 function usualFilling(all) {
-    const counts = [...SPACES, ...NUMBERS].map(filling => ({ filling, count: all.filter(it => it.filling === filling).length }));
+    const counts = [...BLANKS, ...NUMBERS].map(filling => ({ filling, count: all.filter(it => it.filling === filling).length }));
     const [{ filling, count }] = counts.sort((a, b) => b.count - a.count);
-    return count >= LEAST_TEXTS ? filling : null;
+    return count >= LEAST_RECORDS ? filling : null;
 }

@@ -1,17 +1,17 @@
 // Long texts: what belongs to one text is joined, and what is too long for a row is cut where a reader would.
 
-import { plainTo, sizeAt, wholeText } from './plain.js';
+import { plainTo, sizeAt, plainBounds } from './plain.js';
 
 /** @typedef {import('./candidates.js').Candidate} Candidate */
 /** @typedef {import('./scores.js').Scores} Scores */
 
 /**
- * A row has at most MOST bytes. A longer text is cut before places that are GRID bytes apart in the file, so that all ranges that see it
- * cut it alike: at the last line end within WINDOW bytes before such a place, or else at the end of a sentence.
+ * A row has at most LONGEST_ROW bytes. A longer text is cut before places that are GRID bytes apart in the file, so that all ranges that
+ * see it cut it alike: at the last line end within WINDOW bytes before such a place, or else at the end of a sentence.
  */
-const MOST = 4096;
+const LONGEST_ROW = 4096;
 const WINDOW = 1024;
-const GRID = MOST - WINDOW;
+const GRID = LONGEST_ROW - WINDOW;
 
 /** The most bytes between two texts that are one, as a line in a language that is not counted. */
 const MOST_BETWEEN = 512;
@@ -28,7 +28,7 @@ const LF = '\n';
  * @param {number} shift how many bytes of the file come before them
  */
 export function joinedTexts(bytes, texts, shift) {
-    const whole = wholeOf(bytes, texts, shift);
+    const whole = allText(bytes, texts, shift);
     if (whole !== null) return [whole];
     /** @type {Candidate[]} */
     const joined = [];
@@ -61,7 +61,7 @@ function isOneWith(bytes, { end, scores }, next) {
  * @param {Candidate[]} texts
  * @param {number} shift
  */
-function wholeOf(bytes, texts, shift) {
+function allText(bytes, texts, shift) {
     /** @type {Map<Scores, number>} */
     const covered = new Map();
     for (const { start, end, scores } of texts) covered.set(scores, (covered.get(scores) || 0) + end - start);
@@ -71,7 +71,7 @@ function wholeOf(bytes, texts, shift) {
     const own = texts.filter(it => it.scores === scores);
     const longest = own.reduce((last, it) => it.to - it.from > last.to - last.from ? it : last);
     // The longest text is most likely read from the right byte on. At the beginning of a file there is no doubt.
-    const bounds = wholeText(scores, bytes, shift === 0 ? [0, longest.from] : [longest.from], count, shift === 0);
+    const bounds = plainBounds(scores, bytes, shift === 0 ? [0, longest.from] : [longest.from], count, shift === 0);
     if (bounds === null) return null;
     const score = own.reduce((best, it) => Math.max(best, it.score), 0);
     return { ...longest, ...bounds, from: bounds.start, to: bounds.end, score, near: false, text: '' };
@@ -88,7 +88,7 @@ export function piecesOf(bytes, text, shift, byLines) {
     /** @type {Candidate[]} */
     const pieces = [];
     for (const { start, end } of byLines ? linesOf(bytes, text) : [text]) {
-        const cuts = end - start > MOST ? cutsOf(bytes, text.scores, start, end, shift) : [];
+        const cuts = end - start > LONGEST_ROW ? cutsOf(bytes, text.scores, start, end, shift) : [];
         [start, ...cuts].forEach((from, i) => {
             const to = cuts[i] ?? end;
             const isWhole = from === text.start && to === text.end;

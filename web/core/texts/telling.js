@@ -19,7 +19,7 @@ const REACH_WITHOUT_ZERO = 4;
  * So many texts with 00 on both sides, each this many bytes from the next one at most, are sure together, as a list of short words is. So
  * many of them have to begin with different characters, and end with different ones: those of addresses do not.
  */
-const MANY = 10;
+const LISTED = 10;
 const APART = 8;
 const DIFFERENT = 6;
 
@@ -112,8 +112,8 @@ function listedOf(bytes, candidates) {
         const before = lists.get(it.scores) || [];
         const list = before.length > 0 && it.start - before[before.length - 1].end <= APART ? before : [];
         list.push(it);
-        lists.set(it.scores, list.slice(-MANY));
-        const isUnsure = list.length >= MANY && list.some(({ score }) => score < SURE);
+        lists.set(it.scores, list.slice(-LISTED));
+        const isUnsure = list.length >= LISTED && list.some(({ score }) => score < SURE);
         if (isUnsure && areDifferent(bytes, list)) list.forEach(other => listed.add(other));
     }
     return listed;
