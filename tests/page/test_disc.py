@@ -34,10 +34,10 @@ Worker.prototype.postMessage = function (message, ...given) {
     return postMessage.call(this, message, ...given);
 };'''
 
-# Reads of one sector wait, by which the page looks for files.
+# Reads of one sector, by which the page looks for files, wait once findings are shown.
 HELD_SECTORS = '''const { arrayBuffer } = Blob.prototype, gate = new Promise(done => { globalThis.openGate = done; });
 Blob.prototype.arrayBuffer = async function () {
-    if (this.size === 2352) await gate;
+    if (this.size === 2352 && document.querySelector('#findings tbody td')) await gate;
     return arrayBuffer.call(this);
 };'''
 
