@@ -9,6 +9,7 @@ made: the prose below each is by hand, and a new one begins with what help says.
 import re
 import subprocess
 import sys
+import textwrap
 from collections.abc import Callable, Iterable, Sequence
 from dataclasses import dataclass
 from pathlib import Path
@@ -318,7 +319,8 @@ def examples_list(program: Program) -> list[str]:
 
 def statuses_list(program: Program) -> list[str]:
     """What status 1 means, for each command that may return it."""
-    return [line for command in program.commands if command.found for line in [f'.It Cm {command.name}', f'{command.found[0].upper()}{command.found[1:]}.']]
+    return [line for command in program.commands if command.found
+            for line in [f'.It Cm {command.name}', *textwrap.wrap(f'{command.found[0].upper()}{command.found[1:]}.', 78)]]
 
 
 def commands_table(program: Program) -> list[str]:
