@@ -3,6 +3,7 @@
 import re
 from collections.abc import Iterator
 from dataclasses import dataclass, field
+from functools import cache
 from pathlib import Path
 
 TOP = Path(__file__).resolve().parent.parent
@@ -53,6 +54,12 @@ class Type:
 def crates() -> list[str]:
     """The crates of crates.txt, in its order."""
     return re.findall(r'(?m)^([a-z_]+)(?: staticlib)?:', (TOP / 'crates.txt').read_text())
+
+
+@cache
+def static_crates() -> frozenset[str]:
+    """The libraries for C, which pass nothing on: all their public functions are calls."""
+    return frozenset(re.findall(r'(?m)^([a-z_]+) staticlib:', (TOP / 'crates.txt').read_text()))
 
 
 def code_of(crate: str) -> list[Path]:
@@ -142,7 +149,8 @@ def calls_of(crate: str) -> Iterator[Call]:
             found = FUNCTION.match(lines[place])
             if found and (found.group(2) or trait and found.group(1)):
                 name = (f'{owner}::' if found.group(1) else '') + found.group(3)
-                if name.split('::')[0] in known or 'extern "C"' in lines[place] or file.stem == 'laws' or lines[0].startswith('//! Laws'):
+                is_own = crate in static_crates() and not found.group(1)
+                if name.split('::')[0] in known or is_own or file.stem == 'laws' or lines[0].startswith('//! Laws'):
                     taken = signature(lines, place, found.group(1))
                     doc = comment_above(bare, place, ' *///') or (f'As `{trait}::{found.group(3)}`' if trait not in ('', owner) else '')
                     yield Call(name, doc, clauses_in(taken, 'ensures'),

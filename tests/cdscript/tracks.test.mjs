@@ -34,7 +34,7 @@ test('damage in a later data track is not passed off as none', () => inDirectory
 
 test('info says which track does not give its first block', () => inDirectory(async room => {
     const last = writeSet(room);
-    write(room, { 'three.bin': Buffer.concat([last.subarray(0, 2352 * 10), last.subarray(0, 2352 * 10)]) });
+    write(room, { 'three.bin': Buffer.concat(Array(10).fill(last.subarray(0, 2352 * 2))) });
     const { errors } = await run(['info', 'game.cue'], { cwd: room });
     assert.equal(errors, 'cdscript: the addresses in three.bin do not say its first block; its first block counts as 180 here, see --base\n');
 }));

@@ -113,8 +113,8 @@ class Random(PageTest):
     # ---- opening
 
     def another(self) -> str:
-        """The name of an image that is not the second one: only then it is seen when it has come."""
-        return self.dice.choice(sorted(set(self.images) - {self.model.second}))
+        """The name of an image that is not open: only then it is seen when it has come, and can repair the open one."""
+        return self.dice.choice(sorted(set(self.images) - {self.model.image, self.model.second}))
 
     def give_image(self) -> None:
         name = self.another()

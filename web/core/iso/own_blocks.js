@@ -9,7 +9,7 @@ export const FIRST_DESCRIPTOR = 16;
 
 /** Where a descriptor has the bytes of a path table, and the sectors of four, of which the last two count with the high byte first. */
 const TABLE_SIZE = 132;
-const TABLES = 140;
+const PATH_TABLES = 140;
 
 /** The most sectors of a path table that are taken for it: 8 MiB. */
 const MOST_TABLE = 4096;
@@ -43,7 +43,7 @@ function tablesOf(volume, descriptor) {
     const view = new DataView(descriptor.buffer, descriptor.byteOffset, descriptor.length);
     const count = Math.min(Math.ceil(view.getUint32(TABLE_SIZE, true) / USER_SIZE), MOST_TABLE);
     return [0, 1, 2, 3].flatMap(i => {
-        const extent = view.getUint32(TABLES + 4 * i, i < 2);
+        const extent = view.getUint32(PATH_TABLES + 4 * i, i < 2);
         const there = extent === 0 ? 0 : volume.available(extent, count);
         return Array.from({ length: there }, (_, k) => volume.blockOf(extent + k));
     });

@@ -2,8 +2,8 @@
 
 use cd_patch::Outcome;
 use cd_run::{
-    Ahead, PatchRun, Step, counts_line, long_image_line, long_script_line, outcome_line,
-    script_fault_line, text_line,
+    Ahead, PatchRun, Step, counts_line, failed_read_line, long_image_line, long_script_line,
+    outcome_line, script_fault_line, text_line,
 };
 use cd_script::{Edit, LentBytes, Patch, ScriptFault, is_patch};
 use cd_sector::{SECTOR_SIZE, Sector, USER_SIZE, encode};
@@ -104,4 +104,6 @@ fn lines_of_a_run_that_ends_early(rt: HostRuntime) {
         line.as_slice()
             .starts_with(b"cdpatch: the image has more than ")
     );
+    let line = failed_read_line();
+    assert_eq!(rt; line.as_slice(), b"cdpatch: reading the image failed\n".as_slice());
 }
