@@ -21,9 +21,6 @@ ghost use Rattle.cd_c_scripts.specs.declared.run_state.ScriptRun.{ScriptRun as T
 ghost use Rattle.cd_c_scripts.specs.declared.entries.Entry.{Entry as TheEntry};
 ghost use Rattle.cd_c_scripts.specs.declared.run_state.RunStep.{RunStep as TheStep};
 
-#[cfg(test)]
-mod tests;
-
 use crate::client_steps::{copy_step, finish_log, finish_output, log_step, read_step, write_step};
 use crate::entries::Entry;
 use crate::run_begin::cdpatch_run_begin;
