@@ -32,14 +32,14 @@ export function ownBlocks(volume, descriptors, directories) {
  * @param {Uint8Array[]} descriptors
  */
 export function tableBlocks(volume, descriptors) {
-    return descriptors.flatMap(it => tablesOf(volume, it));
+    return descriptors.flatMap(it => pathTablesOf(volume, it));
 }
 
 /**
  * @param {VolumeReader} volume
  * @param {Uint8Array} descriptor
  */
-function tablesOf(volume, descriptor) {
+function pathTablesOf(volume, descriptor) {
     const view = new DataView(descriptor.buffer, descriptor.byteOffset, descriptor.length);
     const count = Math.min(Math.ceil(view.getUint32(TABLE_SIZE, true) / USER_SIZE), MOST_TABLE);
     return [0, 1, 2, 3].flatMap(i => {

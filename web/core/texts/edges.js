@@ -16,7 +16,7 @@ const LEAST_LETTERS = 2;
 const BEGINS = /[A-Za-z0-9([<"'`]/;
 
 /** What ends a sentence in a language that has spaces. */
-const MARKS = Array.from('.!?)"\'', mark => mark.charCodeAt(0));
+const EDGE_MARKS = Array.from('.!?)"\'', mark => mark.charCodeAt(0));
 
 /**
  * By encodings the byte, of those that are not a character, that ends most texts without a 00; -1 if there is none.
@@ -78,7 +78,7 @@ function endWithMarks(bytes, { end, scores }, high, last) {
     const read = readTo(scores, bytes, end, limit);
     if (read < bytes.length && bytes[read] === last) return read;
     let at = end;
-    while (scores.encoding.usual && at < limit && MARKS.includes(bytes[at])) at += 1;
+    while (scores.encoding.usual && at < limit && EDGE_MARKS.includes(bytes[at])) at += 1;
     return at;
 }
 
