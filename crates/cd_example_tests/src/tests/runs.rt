@@ -105,5 +105,8 @@ fn lines_of_a_run_that_ends_early(rt: HostRuntime) {
             .starts_with(b"cdpatch: the image has more than ")
     );
     let line = failed_read_line();
-    assert_eq!(rt; line.as_slice(), b"cdpatch: reading the image failed\n".as_slice());
+    assert_eq!(rt;
+        line.as_slice(),
+        b"cdpatch: reading the image failed\n".as_slice()
+    );
 }
