@@ -11,6 +11,7 @@ if ! missing python3 python3 'the rustdoc of the crates'; then
 
     # An example with another line than its test, and a call that names the example of none.
     mkdir -p other/{crates,tools,tests/pages}
+    cp "$top/crates.txt" other
     cp "$top/tools/contracts.py" other/tools
     cp "$top/tests/pages/rustdoc.py" other/tests/pages
     (cd "$top/crates" && tar -c --exclude=out cd_{line,low_tests,example_tests}) | tar -x -C other/crates
