@@ -201,7 +201,8 @@ enum cdpatch_result cdpatch_apply_patch(const struct cdpatch_patch patch[CDPATCH
 
 /** @}
  * @name A run of patches
- * A script on an image whose bytes the caller moves: of a pipe, a file, a part of one, to wherever it likes. This is a whole client:
+ * A script on an image whose bytes the caller moves: of a pipe, a file, a part of one, to wherever it likes. With stdio.h two functions
+ * are enough; examples/patch_pipe.c is a program. This is a whole client:
  *
  *     static size_t pass_on(FILE *in, FILE *out, size_t size) {
  *         static char piece[65536];
