@@ -33,8 +33,6 @@ STATE = '''const text = css => document.querySelector(css)?.textContent ?? '';
         second: second && !second.closest('[hidden]:not(.panel)') ? second.textContent.replace('Second image: ', '') : '', unsaved: tag,
         asks: asked.defaultPrevented, bars: document.querySelectorAll('.progress').length, errors: caught.length,
         name: text('#panel-script header h2') }'''
-# Whether a script that fits in part was checked.
-SAVES = "[...document.querySelectorAll('#panel-script .side button')].some(it => it.checkVisibility() && it.innerText.startsWith('Save with'))"
 SPOTS = {'disc': ['#map', '.hex', '#findings button'], 'text': ['#find-text'], 'script': ['.editor textarea'],
          'publish': ['#patcher-title', '#patcher-note']}
 
@@ -113,8 +111,8 @@ class Random(PageTest):
     # ---- opening
 
     def another(self) -> str:
-        """The name of an image that is not the second one: only then it is seen when it has come."""
-        return self.dice.choice(sorted(set(self.images) - {self.model.second}))
+        """The name of an image that is not open: only then it is seen when it has come."""
+        return self.dice.choice(sorted(set(self.images) - {self.model.image, self.model.second}))
 
     def give_image(self) -> None:
         name = self.another()
@@ -289,7 +287,7 @@ class Random(PageTest):
         self.hold()
         due = applied(self.paths[self.model.image], self.script_file())[2]
         self.back_to_check()
-        self.press('Save with' if self.browser.run(f'return {SAVES}') else 'Apply and save')
+        self.press_save()
         self.begun()
         self.model.begin('script', due)
 
