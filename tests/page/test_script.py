@@ -199,7 +199,7 @@ class Script(PageTest):
         self.assertEqual([row.split('|')[1] for row in self.rows()], ['# end'])
         self.browser.press('z', held=Keys.CONTROL)
         self.browser.press(Keys.ENTER, held=Keys.CONTROL)
-        self.browser.wait('#panel-script .say.good', '2 changes, all fit')
+        self.browser.wait('#panel-script .say.warn', 'Nothing shows whether the 2 changes')
         self.assertEqual(self.script_text(), 'cdpatch 1\nrebuild 1\nrebuild 2\n# end')
 
     def type_script(self) -> None:
