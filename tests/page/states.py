@@ -169,7 +169,7 @@ class States(PageTest):
         """A dump that a list names as verified."""
         self.begin(discs.game())
         self.open_files(self.dumps())
-        self.browser.wait('#disc-line .tag.good', 'verified')
+        self.browser.wait('#disc-line .tag.good', 'known dump')
 
     # ---- a second image
 
