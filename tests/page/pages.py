@@ -95,6 +95,10 @@ UNSEEN = '''const { top, bottom, left, right } = document.querySelector(argument
 BUTTON = '''return [...document.querySelectorAll('button, summary')].find(it =>
     it.checkVisibility() && it.innerText.trim().startsWith(arguments[0]))'''
 
+# The button of the panel Script that saves, by what it says that it saves.
+SAVE = '''return [...document.querySelectorAll('#panel-script .side button')].find(it =>
+    it.checkVisibility() && /^(Apply and save|Save with the)/.test(it.innerText.trim()))?.innerText'''
+
 
 class PageTest(unittest.TestCase):
     """Tests in one window of Chromium, which opens the page anew for each."""
@@ -172,15 +176,22 @@ class PageTest(unittest.TestCase):
     def wait_for_focus(self, css: str) -> None:
         self.assertTrue(self.browser.awaited('document.activeElement.matches(given[0])', css), f'{css} has no focus')
 
-    def begins(self, button: str) -> None:
-        """Presses a button that saves, and waits until a write is held."""
+    def begins(self, button: str = '') -> None:
+        """Presses a button that saves, that of the panel Script if none is named, and waits until a write is held."""
         self.browser.run('chosen.hold()')
-        self.press(button)
+        if button:
+            self.press(button)
+        else:
+            self.press_save()
         common.waited(lambda: self.browser.run('return chosen.begun > 0'), 'nothing is written')
 
     def press(self, text: str) -> None:
         """Presses the first button that is shown and begins with this text."""
         self.browser.click_found(f'(it => {{ it?.scrollIntoView({{ block: "center" }}); return it; }})((function () {{ {BUTTON} }})(...given))', text)
+
+    def press_save(self) -> None:
+        """Presses the button of the panel Script that saves, be it all changes or some."""
+        self.press(str(common.waited(lambda: self.browser.run(SAVE), 'nothing saves')))
 
     def is_off(self, text: str) -> bool:
         said = self.browser.awaited(f'(it => it && `off: ${{it.getAttribute("aria-disabled")}}`)((function () {{ {BUTTON} }})(...given))', text)

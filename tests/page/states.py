@@ -169,7 +169,7 @@ class States(PageTest):
         """A dump that a list names as verified."""
         self.begin(discs.game())
         self.open_files(self.dumps())
-        self.browser.wait('#disc-line .tag.good', 'verified')
+        self.browser.wait('#disc-line .tag.good', 'known dump')
 
     # ---- a second image
 
@@ -252,13 +252,13 @@ class States(PageTest):
     def to_script_saving(self) -> None:
         """The patched image is being saved."""
         self.begin(discs.scratched(), discs.refused())
-        self.begins('Apply and save')
+        self.begins()
         self.browser.wait('#panel-script .progress')
 
     def to_script_saved(self) -> None:
         """It was saved, and its hashes are known."""
         self.begin(discs.scratched(), discs.refused())
-        self.press('Apply and save')
+        self.press_save()
         self.browser.wait('#panel-script .say.warn', 'Saved: ')
         self.browser.wait('#saved-sha1', common.sha1(self.chosen_bytes()))
 
@@ -268,7 +268,7 @@ class States(PageTest):
         self.open_files(self.sheet(files), files['game'], files['english'])
         self.browser.wait('#panel-script .say.good', 'all fit')
         self.wait_for_hash()
-        self.press('Apply and save')
+        self.press_save()
         self.browser.wait('#panel-script .side', 'Your emulator opens a cue sheet')
         self.browser.wait('#saved-sha1', common.sha1(self.chosen_bytes()))
 

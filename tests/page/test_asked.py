@@ -133,7 +133,7 @@ class Asked(PageTest):
     def test_an_image_is_not_closed_while_it_is_saved(self) -> None:
         files = self.begin(discs.game(), discs.game())
         self.open_script(files['english'])
-        self.begins('Apply and save')
+        self.begins()
         self.close()
         self.browser.wait('#messages .say.warn', 'An image is being saved.')
         self.browser.run('chosen.release()')
@@ -164,7 +164,7 @@ class Asked(PageTest):
         self.open_script(files['english'])
         self.says('A script: it is opened in place of the one that is open, and checked.', files['english'])
         self.browser.wait('#panel-script .say.good')
-        self.begins('Apply and save')
+        self.begins()
         self.says('An image is being saved: nothing is opened before that has ended.', files['other'])
         self.browser.run('chosen.release()')
         self.browser.open(self.written_page(patcher(discs.game(), discs.game(), discs.script())))

@@ -38,7 +38,7 @@ class Kept(PageTest):
         files = discs.written(game=discs.game(), english=discs.script(), other=common.damaged(discs.game(), 90))
         self.open_image(files['game'])
         self.open_script(files['english'])
-        self.begins('Apply and save')
+        self.begins()
         return files
 
     def ends_well(self, due: bytes) -> None:
@@ -102,7 +102,7 @@ class Kept(PageTest):
     def test_a_slow_choice_of_a_file_is_not_asked_for_twice(self) -> None:
         files = self.open_both(discs.game(), discs.script())
         self.browser.run('chosen.pickLater()')
-        self.press('Apply and save')
+        self.press_save()
         self.browser.wait('#panel-script .progress')
         self.browser.click('.editor textarea')
         self.browser.press(Keys.ENTER, held=Keys.CONTROL)
@@ -241,7 +241,7 @@ class Kept(PageTest):
         self.open_image(files['scratches'])
         self.open_script(files['many'])
         self.browser.run('chosen.pickLater()')
-        self.press('Apply and save')
+        self.press_save()
         self.browser.wait('#panel-script .progress')
         self.browser.run('chosen.hold(); chosen.pick()')
         self.browser.click('#tab-text')

@@ -3,7 +3,8 @@
 import common
 import discs
 from chromium import WIDTHS
-from pages import CLIPBOARD, UNSEEN, PageTest
+from keys import Keys
+from pages import CLIPBOARD, GATE, UNSEEN, PageTest
 
 # The words of the notes that are seen now, by their numbers among all.
 WORDS = '''return [...document.querySelectorAll('.term')].flatMap((it, i) => it.checkVisibility() && !it.closest('[popover]') ? i : [])'''
@@ -140,3 +141,32 @@ class Messages(PageTest):
                     far, out = self.browser.run(OPENED, number)
                     self.assertLessEqual(far, 12, (width, panel, number))
                     self.assertLessEqual(out, 0, (width, panel, number))
+
+    def test_the_focus_comes_back_when_what_had_it_is_closed(self) -> None:
+        focused = 'const { id, tagName } = document.activeElement; return id || tagName'
+        self.open_files(discs.written(junk=b'PK\3\4' + bytes(99))['junk'])
+        self.browser.wait('#start-message .say')
+        self.browser.run("document.querySelector('#start-message button:last-child').focus()")
+        self.browser.press(Keys.ENTER)
+        self.assertEqual(self.browser.run(focused), 'open-files')
+        files = discs.written(game=discs.scratched(), other=discs.game())
+        self.open_image(files['game'])
+        self.open_files(files['other'])
+        self.browser.answer('Compare')
+        self.browser.wait('#second-body .tally')
+        self.browser.run("document.querySelector('[aria-labelledby=second-title] header button:last-child').focus()")
+        self.browser.press(Keys.ENTER)
+        self.assertEqual(self.browser.run(focused), 'map')
+
+    def test_a_job_that_is_asked_for_while_another_one_runs_is_refused_with_words(self) -> None:
+        self.open_image(discs.written(game=discs.game())['game'])
+        self.browser.click('#tab-text')
+        self.browser.run(GATE)
+        self.browser.run('Worker.prototype.postMessage = () => {}')
+        self.press('Export texts')
+        self.browser.wait('#panel-text .progress')
+        self.press('Export texts')
+        self.browser.wait('#panel-text .is-busy', 'Another job runs here. Do it again when that has ended, or press Cancel first.')
+        self.press('Cancel')
+        self.browser.run('openGate()')
+        common.waited(lambda: self.browser.run("return document.querySelector('.is-busy') === null"), 'a job that has ended runs')

@@ -76,7 +76,7 @@ class Script(PageTest):
 
     def test_apply_saves_what_the_program_writes(self) -> None:
         files = self.open_both(discs.scratched() + b'tail', discs.refused())
-        self.press('Apply and save')
+        self.press_save()
         saved = self.browser.downloaded('game (patched).bin')
         status, text, out = applied(files['game'], files['english'])
         self.assertEqual(saved.read_bytes(), out)
@@ -100,11 +100,11 @@ class Script(PageTest):
         self.open_files(sheet, *[files[name] for name in ('first', 'music', 'last')])
         self.wait_for_hash()
         self.open_script(files['both'])
-        self.press('Apply and save')
+        self.press_save()
         self.browser.downloaded('first (patched).bin')
         self.browser.choose('#disc-line select', '3')
         self.browser.wait('#disc-line .name', 'last.bin')
-        self.press('Apply and save')
+        self.press_save()
         self.browser.downloaded('last (patched).bin')
         self.browser.wait('#panel-script .side', 'The cue sheet names files too that you saved before: first (patched).bin')
         self.press('Save a cue sheet')
@@ -117,14 +117,14 @@ class Script(PageTest):
         self.press('Check')
         self.browser.wait('.tally', '1\ndoes not fit')
         self.browser.click('#panel-script input[type=checkbox]')
-        self.press('Apply and save')
+        self.press_save()
         saved = self.browser.downloaded('game (patched).bin')
         status, _, out = applied(files['game'], files['english'], '--carry')
         self.assertEqual((status, saved.read_bytes()), (0, out))
 
     def test_a_saved_file_that_is_dropped_again_is_checked(self) -> None:
         files = self.open_both(discs.game(), discs.script())
-        self.press('Apply and save')
+        self.press_save()
         saved = self.browser.downloaded('game (patched).bin')
         self.browser.wait('#saved-sha1', common.sha1(saved.read_bytes()))
         self.browser.drop('#panel-script', [saved])
@@ -144,7 +144,7 @@ class Script(PageTest):
         self.open_image(files['game'])
         self.open_script(files['english'])
         for typed in (False, True):
-            self.press('Apply and save')
+            self.press_save()
             self.browser.downloaded('game (patched).bin').unlink()
             self.browser.wait('#panel-script .side h2', 'Saving by your browser')
             if typed:
@@ -157,7 +157,7 @@ class Script(PageTest):
     def test_a_saved_file_is_not_judged_before_the_sum_of_the_image_is_known(self) -> None:
         self.open_both(discs.game(), discs.script())
         self.browser.run(f'{GATE} Object.assign(globalThis, {{ held: 1, least: {len(discs.game())} }})')
-        self.press('Apply and save')
+        self.press_save()
         self.browser.drop('#panel-script', [self.browser.downloaded('game (patched).bin')])
         common.waited(lambda: self.browser.run('return globalThis.reads') == 2, 'the dropped file is not read')
         self.browser.run('openGate()')
@@ -199,7 +199,7 @@ class Script(PageTest):
         self.assertEqual([row.split('|')[1] for row in self.rows()], ['# end'])
         self.browser.press('z', held=Keys.CONTROL)
         self.browser.press(Keys.ENTER, held=Keys.CONTROL)
-        self.browser.wait('#panel-script .say.good', '2 changes, all fit')
+        self.browser.wait('#panel-script .say.warn', 'Nothing shows whether the 2 changes')
         self.assertEqual(self.script_text(), 'cdpatch 1\nrebuild 1\nrebuild 2\n# end')
 
     def type_script(self) -> None:
@@ -235,7 +235,7 @@ class Script(PageTest):
     def test_the_focus_stays_in_the_card_that_works(self) -> None:
         self.open_both(discs.scratched(), discs.script())
         self.browser.wait('.tally')
-        for name, shown, then in (('Check', '.tally', 'Check: Go to line'), ('Apply and save', '#saved-sha1', 'Check: Save a cue sheet')):
+        for name, shown, then in (('Check', '.tally', 'Check: Go to line'), ('Save with the', '#saved-sha1', 'Check: Save a cue sheet')):
             self.browser.run(f'{BUTTON}.focus()', name)
             self.browser.press(Keys.ENTER)
             self.browser.wait(shown)
@@ -331,7 +331,7 @@ class Script(PageTest):
             URL.createObjectURL = it => { made.push(createObjectURL(it)); return made.at(-1); };
             URL.revokeObjectURL = it => { forgotten.push(made.indexOf(it)); return revokeObjectURL(it); };''')
         for count, due in enumerate(([], [0], [0, 1])):
-            self.press('Apply and save')
+            self.press_save()
             name = f'game (patched){f" ({count})" if count else ""}.bin'
             self.assertEqual(self.browser.downloaded(name).read_bytes(), applied(files['game'], files['english'])[2])
             self.assertEqual(self.browser.run('return forgotten'), due)
@@ -391,7 +391,7 @@ class Script(PageTest):
     def test_a_file_that_shrinks_saves_nothing(self) -> None:
         files = self.open_both(discs.game(), discs.script())
         files['game'].write_bytes(discs.game()[:100000])
-        self.press('Apply and save')
+        self.press_save()
         self.browser.wait('#panel-script .say.bad', 'cannot be read any more')
         self.assertIn('No image was kept', self.browser.text('#panel-script .side'))
         self.assertEqual(list(self.browser.downloads.glob('game*')), [])
@@ -424,7 +424,7 @@ class Streaming(PageTest):
 
     def test_what_is_streamed_is_what_the_program_writes(self) -> None:
         files = self.begin()
-        self.press('Apply and save')
+        self.press_save()
         self.browser.wait('#panel-script .say.good', 'Saved: game (patched).bin')
         self.assertEqual(self.browser.run('return chosen.state'), 'closed')
         self.assertEqual(self.chosen_bytes(), applied(files['game'], files['english'])[2])
@@ -438,27 +438,27 @@ class Streaming(PageTest):
     def test_a_saved_file_that_cannot_be_read_again_is_saved_all_the_same(self) -> None:
         self.begin()
         self.browser.run('chosen.gone = true')
-        self.press('Apply and save')
+        self.press_save()
         self.browser.wait('#panel-script .say.good', 'Saved: game (patched).bin')
         self.browser.wait('#saved-sha1', 'not known')
 
     def test_a_failure_at_each_write_keeps_no_image(self) -> None:
         self.begin(40)
-        self.press('Apply and save')
+        self.press_save()
         self.browser.wait('#panel-script .say.good')
         count = int(self.browser.run('return chosen.writes.length'))
         self.assertGreater(count, 1)
         for failing in [*range(count), 'close']:
             self.press('Back')
             self.browser.run('Object.assign(chosen, { writes: [], state: "none", failing: arguments[0], removed: false })', failing)
-            self.press('Apply and save')
+            self.press_save()
             self.browser.wait('#panel-script .say.bad', 'The disk is full')
             self.assertIn('No image was kept', self.browser.text('#panel-script .side'))
             self.assertEqual(self.browser.run('return [chosen.state, chosen.removed]'), ['aborted', True], f'write {failing}')
 
     def test_cancel_in_the_middle_keeps_no_image(self) -> None:
         self.begin()
-        self.begins('Apply and save')
+        self.begins()
         self.press('Cancel')
         self.browser.run('chosen.release()')
         self.browser.wait('#panel-script .say', 'Cancelled.')
@@ -470,14 +470,14 @@ class Streaming(PageTest):
         self.browser.run("document.body.insertAdjacentElement('beforeend', Object.assign(document.createElement('input'), { type: 'file', id: 'own' }))")
         self.browser.give('#own', [game])
         self.browser.run('chosen.own = document.querySelector("#own").files[0]')
-        self.press('Apply and save')
+        self.press_save()
         self.browser.wait('#panel-script .say.bad', 'is the open image itself')
         self.assertEqual(self.browser.run('return [chosen.state, chosen.writes.length]'), ['none', 0])
 
     def test_who_chooses_no_file_is_back_at_check(self) -> None:
         self.begin()
         self.browser.run('chosen.none = true')
-        self.press('Apply and save')
+        self.press_save()
         common.waited(lambda: self.browser.run('return chosen.asked') == 1, 'nobody was asked')
         self.browser.wait('#panel-script .side h2', 'Check')
         self.assertEqual(self.browser.run('return chosen.state'), 'none')

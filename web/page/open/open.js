@@ -54,6 +54,7 @@ async function openFiles(app, files, aim, waiting) {
     try {
         /** @type {string[]} */
         const kinds = [];
+        const earlier = new Set(waiting);
         for (const file of files) kinds.push(await takenAs(app, file, waiting));
         const others = files.filter((_, i) => kinds[i] === '');
         // A patcher among them is shown in place of the panels now, and takes the image.
@@ -63,6 +64,7 @@ async function openFiles(app, files, aim, waiting) {
         sayLeftOut(others, sheet);
         if (second !== null) await takeSecond(app, second, aim);
         await useWaiting(app, waiting);
+        if (waiting.some(it => !earlier.has(it))) sayWaiting(app, waiting);
     } catch (error) {
         await showOpeningFailure(app, files, error);
     }
@@ -70,7 +72,7 @@ async function openFiles(app, files, aim, waiting) {
 }
 
 /**
- * Uses the files that were waiting for an image, or says that they still wait for it. A list of known dumps says itself what it waits for.
+ * Uses the files that wait for nothing any more. A list of known dumps says itself what it waits for.
  * @param {App} app
  * @param {Waiting[]} waiting
  */
@@ -80,7 +82,14 @@ async function useWaiting(app, waiting) {
         waiting.splice(waiting.indexOf(it), 1);
         await it.use();
     }
-    if (waiting.length === 0) return;
+}
+
+/**
+ * Says which files wait for an image.
+ * @param {App} app
+ * @param {Waiting[]} waiting
+ */
+function sayWaiting(app, waiting) {
     const [names, n] = [waiting.map(({ name }) => name), waiting.length];
     showNotice('plain', say(texts.waitForImage, { names: namesOf(names), n }), told(texts.thenTheyAreUsed, { n }),
         element('div', { class: 'row' }, button('slim', () => app.choose(''), texts.openTheImage)));
