@@ -249,7 +249,7 @@ class TextsTable(PageTest):
         self.open_files(path)
         self.browser.wait('#start-message .say.good', 'known dump')
         self.open_image(discs.written(game=game)['game'])
-        self.browser.wait('#disc-line .tag.good', 'verified: game.bin')
+        self.browser.wait('#disc-line .tag.good', 'known dump: game.bin')
 
     def test_a_list_that_is_opened_later_names_the_open_disc(self) -> None:
         self.open_image(discs.written(game=discs.game())['game'])
