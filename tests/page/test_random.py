@@ -108,7 +108,8 @@ class Random(PageTest):
             differing = {key: (found[key], value) for key, value in due.items() if found[key] != value}
             raise AssertionError(f'the page has, and the model: {differing}') from error
         if self.model.panel == 'script':
-            self.assertEqual('\n'.join(row.split('|')[1] for row in self.rows()), self.model.text())
+            # A script that is opened again, with the name of the last one, takes a moment.
+            common.waited(lambda: '\n'.join(row.split('|')[1] for row in self.rows()) == self.model.text(), 'the lines of the script differ')
 
     # ---- opening
 
