@@ -78,6 +78,7 @@ test('a scan tells each image of a collection once, with what a list of dumps kn
     const some = await run(['scan', 'one/game 00.cue', 'two/game 23.bin', '-o', 'list'], { cwd: room });
     assert.deepEqual([some.status, some.out], [0, '']);
     assert.deepEqual(read(room, 'list').toString(), [rows[0], rows[23]].map(row => `${withoutDat(row)}\n`).join(''));
+    assert.equal((await run(['scan', 'one/game 01.bin'], { cwd: room })).status, 1);
 }));
 
 test('in a directory what is called like a raw image, and is none, is named', () => inDirectory(async room => {
