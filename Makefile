@@ -1,6 +1,6 @@
 # What `make` can do: `make help` prints the targets, which are the lines with ## here.
 .PHONY: program
-.PHONY: all help try check quick test test-outside mutants fuzz bench wasm web pages design map contracts audit clean
+.PHONY: all help try check quick test test-outside must-fail mutants fuzz bench wasm web pages design map contracts audit clean
 
 # Goals come one after the other, as they are given. Crates are proved side by side, at most as many as `make -j N` says.
 .NOTPARALLEL:
@@ -9,7 +9,9 @@ CPU =
 SIMPLE =
 LIBRARY_CRATES = $(shell bash tools/library_crates.sh)
 
-distdir = .
+# Where `make dist` puts what it makes.
+distdir = dist
+PROGRAM = cdpatch
 
 all: cdpatch                ## prove and build the program and the library and, if wasm-opt and esbuild are there, cdscript and the page
 
@@ -18,9 +20,6 @@ MODULES = $(if $(shell command -v wasm-opt),wasm)
 DOORS = $(if $(MODULES),$(if $(shell command -v esbuild),web))
 
 include install.mk
-
-# The README of the sources is for those who build; the tarball has this one under that name.
-README = tools/README.tarball.md
 
 # The README's first command, after which everybody has seen the program work. It can be run again.
 try: program                ## prove and build only the program, then patch and audit a sample image in try/
@@ -62,7 +61,7 @@ endif
 FORCE:
 
 help:                       ## print this
-	@sed -nE 's/^([a-z-]+):[^#]*## /  make \1\t/p' $(firstword $(MAKEFILE_LIST)) | expand -t 22
+	@sed -nE 's/^([a-z0-9-]+):[^#]*## /  make \1\t/p' $(firstword $(MAKEFILE_LIST)) | expand -t 22
 	@printf '%s\n' '' 'Beside a target: CPU=x86-64-v3 and SIMPLE=1 (make), WRONG_VERSIONS=1 and WHOLE=1 (make check),' \
 	    '  PREFIX=DIRECTORY (make install and make uninstall, which also are targets).'
 
@@ -77,6 +76,14 @@ web: wasm                   ## make cdscript and cdpatch.html, and the modules i
 	bash tools/web.sh library .
 	python3 -B tools/options.py completions completions ./cdscript
 
+# The program and the library for other systems, in windows/ and arm64/.
+.PHONY: windows arm64
+windows:                    ## build the program and the library for Windows, in windows/, from what `make` has proved
+	@python3 -B tools/targets.py windows
+
+arm64:                      ## prove and build them for Linux on aarch64, in arm64/, over what `make` has proved
+	@python3 -B tools/targets.py arm64
+
 check:                      ## test what was built and the pages; proves nothing, and skips what wants a missing command
 	@test -x '$(PROGRAM)' || { echo 'There is no $(PROGRAM) to test: run make first.' >&2; exit 1; }
 	bash tests/run '$(PROGRAM)'
@@ -88,6 +95,11 @@ test:                       ## the merge gate: all proofs, wrong bodies and test
 
 test-outside:               ## test pages, completions and installing, and skip nothing
 	WHOLE=1 bash tests/pages/run '$(PROGRAM)'
+
+# `make test` tries what this has not recorded, and a fifth of the rest.
+must-fail:                  ## try all wrong bodies and wrong versions, and record those that were refused
+	python3 -B tests/wrong/bodies.py
+	WRONG_VERSIONS=all bash tests/run '$(PROGRAM)' core cdscript page python pack targets
 
 # By hand before a release: COUNT changes of the sources of JavaScript and Python that nobody wrote, and input that nobody wrote, for so many
 # SECONDS of each kind. SEED repeats what an earlier one has tried.
@@ -123,29 +135,20 @@ contracts:                  ## print what each crate promises: its calls, their 
 audit:                      ## print what to read to know what is promised
 	@python3 -B tools/pages.py audit
 
-# A tarball of what `make` left and the pages, with its checksum, in which `make install` works without the toolchain. Beside it stand
-# cdscript.js and cdpatch.html, which need nothing else, and packages of the same files. It builds nothing: so it is of what was tested.
+# What a release has, of what `make` left: it builds nothing, so it is of what was tested.
 .PHONY: dist
-dist:                       ## make a tarball of what was built, which installs without a toolchain
-	@test -x '$(PROGRAM)' || { echo 'There is no $(PROGRAM) to pack: run make first.' >&2; exit 1; }
-	@test -f '$(LIBRARY)/libcdpatch.a' || { echo 'There is no $(LIBRARY) to pack: run make first.' >&2; exit 1; }
-	@test -f '$(COMPLETIONS)/cdpatch.bash' || { echo 'There is no $(COMPLETIONS) to pack: run make first.' >&2; exit 1; }
-	@COMPLETIONS='$(COMPLETIONS)' bash tools/dist.sh '$(PROGRAM)' '$(LIBRARY)' '$(JOINED)' '$(distdir)'
+dist:                       ## pack what was built: a tarball that installs without a toolchain, packages for Debian, pip, and npm
+	@bash tools/dist.sh '$(distdir)'
 
 # The same, of what is fit to be released: a commit, of its version, made by the tools that tools/versions.txt names, and with what only the
 # owner can fill in (tools/owner.txt). `make release SIGN=KEY` signs what it makes with a key of ssh.
-.PHONY: release fit
+.PHONY: release
 SIGN =
-RELEASED = $(addprefix $(distdir)/,cdpatch-$(VERSION)-x86_64-linux.tar.gz cdpatch_$(VERSION)-1_amd64.deb \
-    cdpatch-$(VERSION)-py3-none-manylinux_2_34_x86_64.whl cdpatch-$(VERSION).tgz cdpatch.html cdscript.js)
-
-release: fit dist           ## the same, if it is fit to be released
-	@$(if $(SIGN),bash tools/sign.sh '$(SIGN)' $(RELEASED:%='%'),echo 'Nothing was signed: SIGN=KEY signs it.' >&2)
-
-fit:
-	@bash tools/fit.sh '$(PROGRAM)' '$(LIBRARY)' '$(JOINED)' '$(VERSION)'
+release:                    ## the same, if it is fit to be released
+	@bash tools/fit.sh '$(VERSION)'
+	@bash tools/dist.sh '$(distdir)' '$(SIGN)'
+	@$(if $(SIGN),,echo 'Nothing was signed: SIGN=KEY signs it.' >&2)
 
 clean:                      ## remove what was made
-	rm -rf try cdpatch cdscript cdpatch.html library completions bench/cd_bench crates/*/out
-	rm -f $(foreach made,cdpatch-*.tar.gz cdpatch_*.deb cdpatch-*.whl cdpatch-*.tgz cdscript.js,$(made) $(made).sha256 $(made).sig)
-	rm -f cdpatch.html.sha256 cdpatch.html.sig web/core/module/numbers.js python/cdpatch/_numbers.py
+	rm -rf try dist cdpatch cdscript cdpatch.html library windows arm64 completions bench/cd_bench crates/*/out
+	rm -f web/core/module/numbers.js python/cdpatch/_numbers.py

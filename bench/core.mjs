@@ -3,15 +3,15 @@
 
 import { fstatSync, openSync, readFileSync, readSync, writeSync } from 'node:fs';
 import { Worker } from 'node:worker_threads';
-import { openDisc } from '../web/core/disc/disc.js';
-import { compareImages } from '../web/core/images/compare.js';
-import { mergeImages } from '../web/core/images/merge.js';
-import { filesOf } from '../web/core/iso/files.js';
-import { Crew, localHand } from '../web/core/jobs.js';
-import { Calls } from '../web/core/module/calls.js';
-import { auditText } from '../web/core/sectors/survey.js';
-import { encodingOf } from '../web/core/texts/encodings.js';
-import { joinFound, sectorsBeyond } from '../web/core/texts/find.js';
+import { Crew, localHand } from '../web/core/crew/index.js';
+import { openDisc } from '../web/core/disc/index.js';
+import { encodingOf } from '../web/core/encodings/index.js';
+import { filesOf } from '../web/core/iso/index.js';
+import { JOBS } from '../web/core/jobs/index.js';
+import { Calls } from '../web/core/module/index.js';
+import { auditText } from '../web/core/sectors/index.js';
+import { compareTrack, openTrack, repairTrack } from '../web/core/tasks/index.js';
+import { joinFound, sectorsBeyond } from '../web/core/texts/index.js';
 
 const [threads, job, ...paths] = process.argv.slice(2);
 const module = new WebAssembly.Module(readFileSync(new URL('../library/cdpatch.wasm', import.meta.url)));
@@ -40,39 +40,39 @@ function threadHand() {
 }
 
 const step = Number(process.env.STEP || 1024);
-const disc = () => Promise.all(paths.map(async path => (await openDisc(calls, [{ name: path, reader: readerOf(path) }])).tracks[0].image));
+const tracks = () => Promise.all(paths.map(async path => openTrack(await openDisc(calls, [{ name: path, reader: readerOf(path) }]))));
 const out = process.env.OUT ? openSync(process.env.OUT, 'w') : null;
 const write = bytes => { if (out !== null) writeSync(out, bytes); };
 
-/** @type {Record<string, (crew: Crew, images: any[]) => Promise<unknown>>} */
+/** @type {Record<string, (crew: Crew, tracks: any[]) => Promise<unknown>>} */
 const JOBS_TIMED = {
-    async files(crew, [image]) {
+    async files(crew, [{ image }]) {
         return (await filesOf(image.reader, image.base)).files.length;
     },
-    async find(crew, [image]) {
+    async find(crew, [{ image }]) {
         const wanted = encodingOf('CP932').units(process.env.TEXT || 'number 004242');
         const parts = [];
         const how = { base: image.base, step, beyond: sectorsBeyond(wanted) };
         await crew.share('find', [image.reader], { texts: [wanted], limit: 100 }, how, ([answer]) => { parts.push(answer); });
         return joinFound(parts, 100).count;
     },
-    async survey(crew, [image]) {
+    async survey(crew, [{ image }]) {
         const parts = [];
         await crew.share('survey', [image.reader], {}, { base: image.base, step }, answer => { parts.push(answer); });
         const records = Buffer.concat(parts.map(part => part.records));
         return auditText(calls, { block: image.base, records }, image.tail).text.length;
     },
-    async diff(crew, [old, fresh]) {
-        const { script, left } = await compareImages(calls, crew, old.reader, fresh.reader, { base: old.base, step });
+    async diff(crew, [old, { image: fresh }]) {
+        const { script, left } = await compareTrack({ calls, crew }, old, fresh.reader, {}, { step });
         if (script) script.pieces.forEach(write);
         return { left: left.length, bytes: script && script.size, patches: script && script.patches, long: script && script.long };
     },
     async merge(crew, [old, ...others]) {
         let pieces = 0;
-        const { taken, damaged, disputed, different } = await mergeImages(crew, old, others, { step }, () => { pieces += 1; });
+        const { taken, damaged, disputed, different } = await repairTrack({ calls, crew }, old, others, () => { pieces += 1; }, { step });
         return { taken: taken.length, damaged: damaged.length, disputed: disputed.length, different, pieces };
     },
-    async user(crew, [image]) {
+    async user(crew, [{ image }]) {
         await crew.share('user', [image.reader], {}, { base: image.base, step }, answer => { write(answer.user); });
     },
     async raw(crew, [image]) {
@@ -80,10 +80,10 @@ const JOBS_TIMED = {
     },
 };
 
-const images = job === 'raw' ? paths.map(path => ({ reader: readerOf(path) })) : await disc();
+const opened = job === 'raw' ? paths.map(path => ({ reader: readerOf(path) })) : await tracks();
 const begin = process.hrtime.bigint();
-const crew = new Crew(Number(threads) === 0 ? [localHand(calls)] : Array.from({ length: Number(threads) }, threadHand));
-const result = await JOBS_TIMED[job](crew, images);
+const crew = new Crew(Number(threads) === 0 ? [localHand(calls, JOBS)] : Array.from({ length: Number(threads) }, threadHand));
+const result = await JOBS_TIMED[job](crew, opened);
 const seconds = Number(process.hrtime.bigint() - begin) / 1e9;
 const { user, system } = process.cpuUsage();
 console.log(`${job} ${threads} threads: ${seconds.toFixed(2)} s, ${((user + system) / 1e6).toFixed(2)} s of the processor (${(system / 1e6).toFixed(2)} of the system), ${Math.round(process.resourceUsage().maxRSS / 1024)} MB`, JSON.stringify(result) ?? '');

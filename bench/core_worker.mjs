@@ -1,10 +1,11 @@
 // A worker of bench/core.mjs.
 
 import { parentPort, workerData } from 'node:worker_threads';
-import { serving, transfersOf } from '../web/core/jobs.js';
-import { Calls } from '../web/core/module/calls.js';
+import { serving, transfersOf } from '../web/core/crew/index.js';
+import { JOBS } from '../web/core/jobs/index.js';
+import { Calls } from '../web/core/module/index.js';
 
-const serve = serving(new Calls(workerData));
+const serve = serving(new Calls(workerData), JOBS);
 parentPort.on('message', message => {
     const reply = serve(message);
     parentPort.postMessage(reply, transfersOf(reply));

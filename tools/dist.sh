@@ -1,73 +1,153 @@
 #!/usr/bin/env bash
-# `tools/dist.sh PROGRAM LIBRARY JOINED DIRECTORY` makes the tarball of a release in DIRECTORY: the program, the library with its header
-# and its modules, the notices of the crates in them, cdscript and cdpatch.html if they are in JOINED, the Python package, the man pages, the
-# completions, which are in `completions` or where COMPLETIONS says, the pages for users, the examples, and a Makefile that only installs
-# them. The README is README.tarball.md, and INSTALL lacks what only works in the sources.
-# The bytes follow from those of these files only. Beside the tarball stand the command as cdscript.js, which node takes on any system,
-# the page, a Debian package if dpkg-deb is there, a wheel for pip if python3 is, and a package for npm if tsc is; and the checksum of each.
-# What only the owner can fill in, and has not, is printed on standard error.
+# `tools/dist.sh DIRECTORY [KEY]` makes what a release has, of what `make` left in this tree: in DIRECTORY the tarball, in which `make
+# install` works without a toolchain, cdscript as cdscript.js, which node runs on any system, the page, packages for Debian, pip, and npm,
+# and the source packages of the first two; each with its checksum, and, with a KEY of ssh, its signature. What `make windows` and `make arm64`
+# left is packed too: an archive for Windows, a tarball, and packages for Debian and pip. What needs a missing command is not made, and said. The bytes follow from those of the files and from the tools, wherever, whenever, and by whom it is run.
 set -euo pipefail
 umask 022
-program=$(realpath "$1")
-library=$(realpath "$2")
-joined=$(realpath "$3")
-mkdir -p "$4"
-directory=$(realpath "$4")
+mkdir -p "$1"
+directory=$(realpath "$1")
+key=${2:+$(realpath "$2")}
 cd "$(dirname "$0")/.."
-completions=${COMPLETIONS:-completions}
-version=$("$program" --help | tail -n 1)
-name=cdpatch-${version#cdpatch }-x86_64-linux
+version=$(sed -n 's/^## \([0-9.]*\) .*/\1/p' CHANGELOG.md | head -n 1)
+export SOURCE_DATE_EPOCH=${SOURCE_DATE_EPOCH:-0} LC_ALL=C
 scratch=$(mktemp -d)
 trap 'rm -rf "$scratch"' EXIT
-mkdir -p "$scratch/$name"/{docs,man,completions,examples,include,python/cdpatch,library/x86-64-v3}
-cp "$program" "$scratch/$name/cdpatch"
-{ printf '%s\n' 'all:' "	@echo 'Everything is built: make install installs it.'" ''; cat install.mk; } > "$scratch/$name/Makefile"
-cp CHANGELOG.md "$scratch/$name"
-cp docs/{SCRIPTS,TRANSLATE,REPAIR,FAQ,MODULES,TRUST}.md docs/{parts,sector,apply}.svg docs/page.png "$scratch/$name/docs"
-cp tools/README.tarball.md "$scratch/$name/README.md"
-sed '/^<!-- sources -->$/,/^<!-- end of sources -->$/d' docs/INSTALL.md > "$scratch/$name/docs/INSTALL.md"
-cp examples/{audit.c,patch_pipe.c,patch_map.c,fixlist.py,damaged.rs} "$scratch/$name/examples"
-cp python/pyproject.toml python/backend.py "$scratch/$name/python"
-cp python/cdpatch/*.py python/cdpatch/py.typed "$scratch/$name/python/cdpatch"
-cp man/cdpatch.1 man/libcdpatch.3 "$scratch/$name/man"
-cp include/cdpatch.h include/*.in "$scratch/$name/include"
-cp "$library"/libcdpatch.{a,so.1} "$library/NOTICES" "$scratch/$name/library"
-cp "$library/x86-64-v3/libcdpatch.so.1" "$scratch/$name/library/x86-64-v3"
-[ ! -f "$library/cdpatch.wasm" ] || cp "$library"/cdpatch{,-wasm64}.wasm "$scratch/$name/library"
-cp "$completions"/{_cdpatch,cdpatch.bash,cdpatch.fish} "$scratch/$name/completions"
-made=("$name.tar.gz")
-if [ -f "$joined/cdscript" ]; then
-    cp "$joined/cdscript" "$joined/cdpatch.html" "$scratch/$name"
-    cp man/cdscript.1 "$scratch/$name/man"
-    cp "$completions"/{_cdscript,cdscript.bash,cdscript.fish} "$scratch/$name/completions"
-    install -m 644 "$joined/cdscript" "$directory/cdscript.js"
-    [ "$joined" = "$directory" ] || install -m 644 "$joined/cdpatch.html" "$directory"
-    made+=(cdpatch.html cdscript.js)
+tree=$scratch/cdpatch-$version-x86_64-linux
+made=()
+
+# has WHAT COMMAND PACKAGE..: whether there are these commands. Else it says what is not made.
+has() {
+    local what=$1
+    shift
+    while [ $# != 0 ]; do
+        command -v "$1" > /dev/null || { echo "There is no $1 (Debian's package $2), so $what not made." >&2; return 1; }
+        shift 2
+    done
+}
+
+# archive DIRECTORY FILE: a tar file of a directory, in which nobody's name and no time stands.
+archive() {
+    tar -C "$(dirname "$1")" --format=ustar --sort=name --mtime="@$SOURCE_DATE_EPOCH" --owner=0 --group=0 --numeric-owner --mode=u=rwX,go=rX \
+        -cf - "$(basename "$1")" | gzip -9n > "$2"
+}
+
+release_tree() {
+    LEAVE_OUT=sources sh tools/files.sh copy "$tree"
+    mv "$tree/tools/README.tarball.md" "$tree/README.md"
+    sed 's,^tools/README.tarball.md,README.md              ,' dist.list > "$tree/dist.list"
+    cp tools/files.sh "$tree/tools"
+    { printf '%s\n' 'all:' "	@echo 'Everything is built: make install installs it.'" ''; cat install.mk; } > "$tree/Makefile"
+}
+
+# debian_packages TREE WORD..: those of a tree, by dpkg-buildpackage with these words.
+debian_packages() {
+    local room
+    room=$(mktemp -d -p "$scratch")
+    cp -r "$1" "$room/tree"
+    cp -r debian "$room/tree"
+    fill_in_address "$room/tree"
+    (cd "$room/tree" && unset SOURCE_DATE_EPOCH && dpkg-buildpackage --no-sign "${@:2}") > "$scratch/log" 2>&1 ||
+        { cat "$scratch/log" >&2; return 1; }
+    take "$room"/*.deb
+}
+
+fill_in_address() { sed -i "s/ <>/ <$(bash tools/owner.sh address)>/" "$1/debian/control" "$1/debian/changelog"; }
+
+# Of the sources as git knows them.
+debian_sources() {
+    local sources=$scratch/cdpatch-$version
+    mkdir "$sources"
+    git ls-files -z | tar --null -T - -cf - | tar -C "$sources" -xf -
+    fill_in_address "$sources"
+    chmod -R u=rwX,go=rX "$sources"
+    find "$sources" -exec touch -h -d "@$SOURCE_DATE_EPOCH" {} +
+    mv "$sources/debian" "$scratch/kept"
+    archive "$sources" "$scratch/cdpatch_$version.orig.tar.gz"
+    mv "$scratch/kept" "$sources/debian"
+    (cd "$scratch" && unset SOURCE_DATE_EPOCH && dpkg-source --build "$sources") > "$scratch/log" 2>&1 ||
+        { cat "$scratch/log" >&2; return 1; }
+    take "$scratch"/cdpatch_*.{dsc,orig.tar.gz,debian.tar.xz}
+}
+
+# python_packages LIBRARY WHAT..: the wheel with a library, and, with `sdist`, the archive of the sources.
+python_packages() {
+    local room
+    room=$(mktemp -d -p "$scratch")
+    cp -r "$tree/python" "$room/python"
+    cp "$1" library/NOTICES "$room/python/cdpatch"
+    mkdir "$room/pip"
+    (cd "$room/python" && python3 -B -c 'import backend, sys; [getattr(backend, f"build_{it}")(sys.argv[1]) for it in sys.argv[2:]]' \
+        "$room/pip" "${@:2}")
+    take "$room"/pip/*
+}
+
+# The tree of the tarball, with the program and the library for aarch64.
+arm64_tree() {
+    cp -r "$tree" "$arm64"
+    rm -r "$arm64/library/x86-64-v3"
+    cp arm64/cdpatch "$arm64"
+    cp arm64/libcdpatch.* "$arm64/library"
+}
+
+# For people who have never used a shell. The lines of its README end as Windows ends them.
+windows_archive() {
+    local room=$scratch/cdpatch-$version-windows-x86_64
+    mkdir "$room"
+    cp windows/* include/cdpatch.h CHANGELOG.md "$room"
+    [ ! -e "$tree/cdscript" ] || cp "$scratch/cdscript.js" "$tree/cdpatch.html" "$room"
+    sed "s/@version@/$version/; s/\$/\r/" tools/README.windows.txt > "$room/README.txt"
+    python3 -B - "$room" << 'EOF_ZIP'
+import sys
+from pathlib import Path
+from zipfile import ZIP_DEFLATED, ZipFile, ZipInfo
+room = Path(sys.argv[1])
+with ZipFile(f'{room}.zip', 'w', ZIP_DEFLATED) as made:
+    for file in sorted(room.iterdir()):
+        made.writestr(ZipInfo(f'{room.name}/{file.name}'), file.read_bytes(), ZIP_DEFLATED)
+EOF_ZIP
+    take "$room.zip"
+}
+
+# take FILE..: puts what was made into the directory.
+take() {
+    install -m 644 "$@" "$directory"
+    made+=("${@##*/}")
+}
+
+release_tree
+archive "$tree" "$scratch/${tree##*/}.tar.gz"
+take "$tree.tar.gz"
+if [ -e "$tree/cdscript" ]; then
+    cp "$tree/cdscript" "$scratch/cdscript.js"
+    take "$scratch/cdscript.js" "$tree/cdpatch.html"
 else
     echo 'cdscript and cdpatch.html were not made, so they are not packed.' >&2
 fi
-chmod -R u=rwX,go=rX "$scratch/$name"
-tar -C "$scratch" --format=ustar --sort=name --mtime="@${SOURCE_DATE_EPOCH:-0}" --owner=0 --group=0 --numeric-owner -cf - "$name" |
-    gzip -9n > "$directory/$name.tar.gz"
-if command -v dpkg-deb > /dev/null; then
-    made+=("$(bash tools/deb.sh "$scratch/$name" "$directory")")
-else
-    echo 'There is no dpkg-deb, so no Debian package is made.' >&2
+if has 'the packages for Debian are' dh debhelper dh_python3 dh-python; then debian_packages "$tree" --build=binary; fi
+if [ -e .git ] && has "Debian's source package is" git git dpkg-source dpkg-dev; then debian_sources; fi
+if has 'the packages for pip are' python3 python3; then python_packages "$tree/library/libcdpatch.so.1" wheel sdist; fi
+if [ -e "$tree/cdscript" ] && has 'the package for npm is' tsc node-typescript esbuild esbuild; then
+    name=$(bash tools/npm.sh library cdscript "$version" "$scratch")
+    take "$scratch/$name"
 fi
-if command -v python3 > /dev/null; then
-    cp -r python "$scratch/python"
-    cp "$library"/{libcdpatch.so.1,NOTICES} "$scratch/python/cdpatch"
-    made+=("$(cd "$scratch/python" && python3 -B -c 'import backend, sys; print(backend.build_wheel(sys.argv[1]))' "$directory")")
-else
-    echo 'There is no python3, so no wheel is made.' >&2
+if [ -e windows/cdpatch.exe ] && has 'the archive and the wheel for Windows are' python3 python3; then
+    windows_archive
+    python_packages windows/cdpatch.dll wheel
 fi
-if [ ! -f "$joined/cdscript" ] || [ ! -f "$library/cdpatch.wasm" ] || ! command -v tsc > /dev/null; then
-    echo 'There is no cdscript, no module or no tsc, so no package for npm is made.' >&2
-else
-    made+=("$(bash tools/npm.sh "$library" "$joined/cdscript" "${version#cdpatch }" "$directory")")
+if [ -e arm64/cdpatch ]; then
+    arm64=$scratch/cdpatch-$version-aarch64-linux
+    arm64_tree
+    archive "$arm64" "$arm64.tar.gz"
+    take "$arm64.tar.gz"
+    if has 'the packages for Debian on arm64 are' dh debhelper aarch64-linux-gnu-objdump binutils-aarch64-linux-gnu; then
+        debian_packages "$arm64" --build=any --host-arch=arm64 --no-check-builddeps
+    fi
+    if has 'the wheel for aarch64 is' python3 python3; then python_packages arm64/libcdpatch.so.1 wheel; fi
 fi
 cd "$directory"
 for file in "${made[@]}"; do
     sha256sum "$file" | tee "$file.sha256"
 done
-bash "$OLDPWD/tools/owner.sh" >&2 || true
+[ -z "$key" ] || bash "$OLDPWD/tools/sign.sh" "$key" "${made[@]}"
+{ bash "$OLDPWD/tools/owner.sh" || true; } | sed 's/^/warning: this is not fit to be released: /' >&2

@@ -1,11 +1,8 @@
 #!/usr/bin/env bash
-# `tools/fit.sh PROGRAM LIBRARY JOINED VERSION` prints why what `make` left is unfit to be released as a version, a reason in each line, and
-# has status 1 if there is one. A page or a cdscript is fit if these sources make just its bytes, by the tools of tools/versions.txt.
+# `tools/fit.sh VERSION` prints why what `make` left is unfit to be released as a version, a reason in each line, and has status 1 if there
+# is one. A page or a cdscript is fit if these sources make just its bytes, by the tools of tools/versions.txt.
 set -u
-program=$(realpath "$1")
-library=$(realpath "$2")
-joined=$(realpath "$3")
-version=$4
+version=$1
 cd "$(dirname "$0")/.." || exit 1
 scratch=$(mktemp -d)
 trap 'rm -rf "$scratch"' EXIT
@@ -19,24 +16,31 @@ fit() {
 }
 
 committed() { git status --porcelain > "$scratch/changes" && [ ! -s "$scratch/changes" ]; }
-has_version() { [ "$("$program" --help | tail -n 1)" = "cdpatch $version" ] && grep -m 1 '^## ' CHANGELOG.md | grep -q "^## $version (20[0-9-]*)$"; }
-has_tools() { { python3 -B tools/pack.py --versions && cat "$library/cdpatch.wasm.txt"; } | cmp -s tools/versions.txt -; }
+has_version() {
+    [ "$(./cdpatch --help | tail -n 1)" = "cdpatch $version" ] && grep -m 1 '^## ' CHANGELOG.md | grep -q "^## $version (20[0-9-]*)$"
+}
+has_tools() { { python3 -B tools/pack.py --versions && cat library/cdpatch.wasm.txt; } | cmp -s tools/versions.txt -; }
 # made FILE COMMAND..: whether a command makes a file like this one in the scratch directory.
 made() { "${@:2}" && cmp -s "$1" "$scratch/$(basename "$1")"; }
 
 fit 'the sources have changes that are not committed, or no commit' committed
-unfilled=$(bash tools/owner.sh | sed 's/.* has no //' | paste -sd , | sed 's/,/, /g')
-fit "tools/owner.txt has no $unfilled" test -z "$unfilled"
+unfilled=$(bash tools/owner.sh)
+fit "$unfilled" test -z "$unfilled"
 fit 'there is no LICENSE with the terms that tools/owner.txt names' test -s LICENSE
+while read -r page; do
+    fit "$page says that there is no licence, or no release" false
+done < <(grep -rliE 'no licence has been chosen|no public release' README.md CONTRIBUTING.md docs man \
+    tools/README.tarball.md debian/copyright)
 fit "the program, or the first heading of CHANGELOG.md, is not of version $version with a date" has_version
+fit "the first entry of debian/changelog is not of version $version" grep -q -m 1 "^cdpatch ($version-" <(head -n 1 debian/changelog)
 for page in README.md docs/TRUST.md; do
     fit "the toolchain's logic is not the one that $page names" bash tools/toolchain.sh "$page"
 done
 fit "other tools made it than tools/versions.txt names: $(paste -sd , tools/versions.txt | sed 's/,/, /g')" has_tools
-fit "cdpatch-wasm64.wasm has no verdict 'logic=proved'" grep -q '^logic=proved ' "$library/cdpatch-wasm64.txt"
-fit 'the notices are not those of the crates in it' made "$library/NOTICES" bash tools/notices.sh "$scratch/NOTICES"
+fit "cdpatch-wasm64.wasm has no verdict 'logic=proved'" grep -q '^logic=proved ' library/cdpatch-wasm64.txt
+fit 'the notices are not those of the crates in it' made library/NOTICES bash tools/notices.sh "$scratch/NOTICES"
 fit 'cdpatch.wasm is not what wasm-opt makes of cdpatch-wasm64.wasm' \
-    made "$library/cdpatch.wasm" bash tools/lower.sh "$library/cdpatch-wasm64.wasm" "$scratch/cdpatch.wasm"
-fit 'cdscript is not what these sources make' made "$joined/cdscript" bash tools/web.sh "$library" "$scratch"
-fit 'cdpatch.html is not what these sources make' cmp -s "$joined/cdpatch.html" "$scratch/cdpatch.html"
+    made library/cdpatch.wasm bash tools/lower.sh library/cdpatch-wasm64.wasm "$scratch/cdpatch.wasm"
+fit 'cdscript is not what these sources make' made cdscript bash tools/web.sh library "$scratch"
+fit 'cdpatch.html is not what these sources make' cmp -s cdpatch.html "$scratch/cdpatch.html"
 [ "$status" = 0 ]

@@ -2,9 +2,9 @@
 """Makes what man pages repeat of include/cdpatch.h: `header_pages.py make` makes it anew, and `check` prints which pages differ. With a
 DIRECTORY as the next word it does so in that tree.
 
-In a page a part stands between marks, as `made: declarations` and `end of declarations`, which has the defines, enums and structs of the
-header, `made: prototypes`, which has its calls, `made: calls`, which has their comments, `made: rules`, which has the header's own comment but its first paragraph, and `made: LAST_BASE` and `end of LAST_BASE`, in which
-each number is CDPATCH_LAST_BASE."""
+In a page a part is between marks, such as `made: declarations` and `end of declarations`, which has the defines, enums, and structs of
+the header. `made: prototypes` has its calls, `made: calls` their comments, and `made: rules` the header's own comment without its first
+paragraph. Between `made: LAST_BASE` and `end of LAST_BASE` each number is CDPATCH_LAST_BASE."""
 
 import re
 import sys
@@ -18,7 +18,7 @@ LONGEST_LINE = 76
 
 
 def declarations(code: str) -> str:
-    found = re.findall(r'^(?:#define CDPATCH_(?!H$|AT_LEAST).*?$|(?:enum|struct) [^;{]*\{.*?\};)', code, re.S | re.M)
+    found = re.findall(r'^(?:#define CDPATCH_(?!H$|AT_LEAST|NODISCARD).*?$|(?:enum|struct) [^;{]*\{.*?\};)', code, re.S | re.M)
     # A line ends only between two enumerators or two fields.
     whole = [re.sub('(?<![,;{]) ', '\0', ' '.join(each.split())) for each in found]
     lines = [line for each in whole for line in textwrap.wrap(each, LONGEST_LINE, subsequent_indent='    ')]
@@ -35,14 +35,12 @@ def prototypes(code: str) -> str:
 
 def marked(word: str) -> str:
     """A word of a comment as a line of mdoc, if it is a name; '' if it is plain text."""
-    found = re.fullmatch(r'(\(?)(?:(cdpatch_\w+)|(CDPATCH_\w+)|(\w+)\((\d)\)|`([^`]+)`)([.,:;)]*)', word)
+    found = re.fullmatch(r'(\(?)(?:(cdpatch_\w+)|(\w+)\((\d)\)|`([^`]+)`)([.,:;)]*)', word)
     if not found:
         return ''
-    before, call, constant, page, section, quoted, after = found.groups()
+    before, call, page, section, quoted, after = found.groups()
     if call:
         name = f'Fn {call}'
-    elif constant:
-        name = f'Dv {constant}'
     elif page:
         name = f'Xr {page} {section}'
     elif quoted.startswith(('enum ', 'struct ')):
@@ -86,7 +84,7 @@ def calls(header: str) -> str:
     for group in re.split(r'(?m)^ \* @name |^/\*\* @name ', header[header.index('/** Returns the version of the library'):]):
         title, _, rest = ('Version and results', '', group) if not pages else group.partition('\n')
         about, _, listed = rest.partition(' * @{ */') if pages else ('', '', rest)
-        found = re.findall(r'/\*\* ((?:(?!\*/).)*?) ?\*/\n([a-z](?:[^;/]*?\b(cdpatch_\w+)\([^;]*\);))', listed, re.S)
+        found = re.findall(r'/\*\* ((?:(?!\*/).)*?) ?\*/\n(?:CDPATCH_NODISCARD\n)?([a-z](?:[^;/]*?\b(cdpatch_\w+)\([^;]*\);))', listed, re.S)
         items = ''.join(f'.It Fn {name}\n{comment_text(comment)}' for comment, _, name in found)
         pages.append(f'.Ss {title}\n{comment_text(about.strip(chr(10)))}.Bl -tag -width Ds\n{items}.El\n')
     return ''.join(pages)
@@ -94,8 +92,7 @@ def calls(header: str) -> str:
 
 def rules(header: str) -> str:
     """What holds for all calls."""
-    text = header[header.index('\n *\n') + 4:header.index('\n *\n * @file')]
-    return comment_text(re.sub(r'(^|[.] )libcdpatch\(3\)', r'\1This page', text).replace('libcdpatch(3)', 'this page'))
+    return comment_text(header[header.index('\n *\n') + 4:header.index('\n *\n * @file')])
 
 
 def remade(page: str, header: str) -> str:

@@ -1,6 +1,7 @@
 #!/usr/bin/env bash
-# `tools/npm.sh LIBRARY CDSCRIPT VERSION DIRECTORY` makes the package for npm in DIRECTORY, of web/npm and web/core, the module of LIBRARY and
-# cdscript, with types for TypeScript, and prints its file's name. The bytes follow from those of these files, and from esbuild and tsc.
+# `tools/npm.sh LIBRARY CDSCRIPT VERSION DIRECTORY` makes the package for npm in DIRECTORY, of web/npm and web/core, the module of LIBRARY
+# and cdscript, with types for TypeScript, and prints its file's name. Bundlers for browsers find browser.js in it, which names nothing of
+# node. The bytes follow from those of these files, and from esbuild and tsc.
 set -euo pipefail
 umask 022
 library=$(realpath "$1")
@@ -11,15 +12,21 @@ cd "$(dirname "$0")/.."
 scratch=$(mktemp -d)
 trap 'rm -rf "$scratch"' EXIT
 mkdir "$scratch/package"
-esbuild web/npm/cdpatch.js --bundle --format=esm --platform=neutral --target=es2022 --external:node:fs/promises --charset=utf8 \
-    --legal-comments=none --log-level=warning --outfile="$scratch/package/cdpatch.js"
+# joined OUT WORD..: the interface and the core in one file.
+joined() {
+    esbuild web/npm/cdpatch.js --bundle --format=esm --platform=neutral --target=es2022 --charset=utf8 --legal-comments=none \
+        --log-level=warning --outfile="$scratch/package/$1" "$2"
+}
+joined cdpatch.js --external:node:fs/promises
+joined browser.js --alias:node:fs/promises=./web/npm/no_files.js
 tsc --allowJs --strict --declaration --emitDeclarationOnly --target es2022 --module es2022 --moduleResolution node --lib es2022,dom \
     --outDir "$scratch/types" web/npm/cdpatch.js web/npm/node.d.ts
 mkdir -p "$scratch"/package/types/{npm,core/module}
-for file in npm/{cdpatch,errors} core/faults core/module/numbers; do
+for file in npm/{cdpatch,errors} core/faults core/module/{arena,calls,index,numbers,records,sector_calls}; do
     cp "$scratch/types/$file.d.ts" "$scratch/package/types/$file.d.ts"
 done
 cp web/npm/README.md web/npm/example.html "$library"/{cdpatch.wasm,NOTICES} "$scratch/package"
+[ ! -f LICENSE ] || cp LICENSE "$scratch/package"
 # npm starts a command by the first line, on all systems.
 { echo '#!/usr/bin/env node'; sed "1,/^\*\/;$/d" "$cdscript"; } > "$scratch/package/cdscript.cjs"
 chmod +x "$scratch/package/cdscript.cjs"
@@ -31,8 +38,9 @@ cat > "$scratch/package/package.json" << END
     "type": "module",
     "engines": { "node": ">=18" },
     "exports": {
-        ".": { "types": "./types/npm/cdpatch.d.ts", "default": "./cdpatch.js" },
-        "./cdpatch.wasm": "./cdpatch.wasm"
+        ".": { "types": "./types/npm/cdpatch.d.ts", "browser": "./browser.js", "default": "./cdpatch.js" },
+        "./cdpatch.wasm": "./cdpatch.wasm",
+        "./package.json": "./package.json"
     },
     "types": "./types/npm/cdpatch.d.ts",
     "bin": { "cdscript": "cdscript.cjs" },

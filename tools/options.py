@@ -47,12 +47,11 @@ class Option:
 
 @dataclass
 class Command:
-    """A command: what it does, the names that it takes, in each of its forms, its options, an example, and what status 1 means."""
+    """A command: what it does, the names that it takes, in each of its forms, its options, and what status 1 means."""
     name: str
     says: str
     forms: list[list[str]]
     options: list[Option]
-    example: str
     found: str
 
 
@@ -95,10 +94,8 @@ def program_of(path: Path) -> Program:
     commands = []
     for name, says in re.findall(r'(?m)^  ([a-z-]+) +(\S.*)$', listed.group(1) if listed else ''):
         text = printed(str(path), name, '--help')
-        example = re.search(r'(?m)^Example:\n  (.*)$', text)
         found = re.search(r'Status: 0 .*?, 1 (.*), 2 ', ' '.join(text.split()))
-        commands.append(Command(name, says, forms_in(text, name), options_in(text), example.group(1) if example else '',
-                                found.group(1) if found else ''))
+        commands.append(Command(name, says, forms_in(text, name), options_in(text), found.group(1) if found else ''))
     name = re.search(r'(?m)^Usage: (\w+)', whole)
     return Program(name.group(1) if name else path.name, path, commands, options_in(whole))
 
@@ -311,16 +308,11 @@ def made_list(lines: Sequence[str], heads: dict[str, tuple[str, str]]) -> list[s
     return [line for key, (head, says) in heads.items() for line in [head, *items.get(key, [f'{says[0].upper()}{says[1:].rstrip(".")}.'])]]
 
 
-def examples_list(program: Program) -> list[str]:
-    """An example of each command, below what it does."""
-    shown = [(command.says, command.example.replace('\\', '\\e')) for command in program.commands if command.example]
-    return [line for says, example in shown for line in ['.Pp', f'{says}:', f'.Dl $ {example}']][1:]
-
-
 def statuses_list(program: Program) -> list[str]:
-    """What status 1 means, for each command that may return it."""
-    return [line for command in program.commands if command.found
-            for line in [f'.It Cm {command.name}', *textwrap.wrap(f'{command.found[0].upper()}{command.found[1:]}.', 78)]]
+    """What status 1 means, for the commands that may return it. Those for which it means the same are together."""
+    meanings = grouped((command.name, command.found) for command in program.commands if command.found)
+    return [line for found, names in meanings.items()
+            for line in [f'.It Cm {" , ".join(names)}', *textwrap.wrap(f'{found[0].upper()}{found[1:]}.', 78)]]
 
 
 def commands_table(program: Program) -> list[str]:
@@ -332,7 +324,7 @@ def part(program: Program, name: str, lines: Sequence[str]) -> list[str]:
     """A made part of a page, of the lines that it has."""
     if name == 'synopsis':
         return synopsis(program)
-    made = {'table': commands_table, 'examples': examples_list, 'statuses': statuses_list}
+    made = {'table': commands_table, 'statuses': statuses_list}
     if name in made:
         return made[name](program)
     return made_list(lines, heads_of_commands(program) if name == 'commands' else heads_of_options(program))
@@ -344,7 +336,7 @@ def remade(text: str, program: Program) -> str:
         begin, name, lines, end = found.group(1), found.group(2), found.group(3).splitlines(), found.group(4)
         return begin + ''.join(f'{line}\n' for line in part(program, name, lines)) + end
 
-    return re.sub(r'(?ms)(^(?:\.\\" |<!-- )made: (synopsis|table|commands|options|examples|statuses)(?: -->)?\n)(.*?)(^(?:\.\\" |<!-- )end of \2(?: -->)?$)', make, text)
+    return re.sub(r'(?ms)(^(?:\.\\" |<!-- )made: (synopsis|table|commands|options|statuses)(?: -->)?\n)(.*?)(^(?:\.\\" |<!-- )end of \2(?: -->)?$)', make, text)
 
 
 def pages_of(program: Program) -> list[Path]:

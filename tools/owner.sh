@@ -1,11 +1,11 @@
 #!/usr/bin/env bash
-# `tools/owner.sh` prints what is not filled in in tools/owner.txt, a line for each, and has status 1 if there is any; `tools/owner.sh NAME`
-# prints what is.
+# `tools/owner.sh` says in a line what is not filled in in tools/owner.txt, and has status 1 if there is any; `tools/owner.sh NAME` prints
+# what is.
 set -euo pipefail
 facts=$(dirname "$0")/owner.txt
 if [ $# = 1 ]; then
     sed -n "s/^$1: *//p" "$facts"
 else
-    unfilled=$(sed -n 's/^\([a-z]*\): *$/tools\/owner.txt has no \1/p' "$facts")
-    [ -z "$unfilled" ] || { echo "$unfilled"; exit 1; }
+    unfilled=$(sed -n 's/^\([a-z]*\): *$/\1/p' "$facts" | paste -sd , | sed 's/,/, /g')
+    [ -z "$unfilled" ] || { echo "tools/owner.txt has no $unfilled"; exit 1; }
 fi

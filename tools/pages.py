@@ -202,17 +202,18 @@ def reading_table(order: Sequence[Path]) -> list[str]:
     return table(('File', 'Lines', 'What it has'), rows) + ['', f'{sum(map(lines_of, order))} lines in {len(order)} files.']
 
 
-def count(pattern: str) -> str:
-    return str(len(list(TOP.glob(pattern))))
+def blocks(pattern: str) -> int:
+    """How many blocks, each of which begins with a line `[NAME]`, these tables have."""
+    return sum(line.startswith('[') for table in TOP.glob(pattern) for line in table.read_text(encoding='utf-8').splitlines())
 
 
 def figures() -> list[str]:
     (headline, rest), _ = reading()
     return table(('What', 'How many'), [
         ('crates', str(len(crates()))),
-        ('wrong bodies of functions that the prover refuses in each gate, each by a goal of a contract (`crates/*/must-fail`)',
-         count('crates/*/must-fail/*.edit')),
-        ('wrong definitions that a worked case refuses (`tests/wrong/definitions`)', count('tests/wrong/definitions/*.patch')),
+        ('wrong bodies of functions that the prover refuses, each by a goal of a contract (`crates/*/must-fail` and `wrong-bodies`)',
+         str(len(list(TOP.glob('crates/*/must-fail/*.edit'))) + blocks('crates/*/wrong-bodies/*.edits'))),
+        ('wrong definitions that a worked case refuses (`tests/wrong/definitions`)', str(blocks('tests/wrong/definitions/*.wrong'))),
         ('lines of definitions to read for the headline of `apply`; more for the whole theorem',
          f'{sum(map(lines_of, headline))}; {sum(map(lines_of, rest))}'),
     ])

@@ -1,8 +1,8 @@
-"""Makes web/core/texts/pairs.js, of what engines read in pairs of bytes: `pairs.py > web/core/texts/pairs.js`.
+"""Makes web/core/encodings/pairs.js, of what engines read in pairs of bytes: `pairs.py > web/core/encodings/pairs.js`.
 
 It asks three decoders that share no code: Python's, that of node (ICU), and Chromium's, which is the Encoding Standard's index. Runs of
 codes that all read alike, engines may read; what the standard has beside them is written out. Characters for private use are left out,
-and so is what Hong Kong has before A1 and after F9 in Big5. EUC-KR's syllables before A1A1 are a rule, in web/core/texts/euc_kr.js.
+and so is what Hong Kong has before A1 and after F9 in Big5. EUC-KR's syllables before A1A1 are a rule, in web/core/encodings/euc_kr.js.
 """
 
 import html

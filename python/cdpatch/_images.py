@@ -107,7 +107,8 @@ def apply(image: ReadableBuffer, script: ReadableBuffer, base: int = 0, carry: b
     if out is not None:
         return _applied(image, script, base, carry, out)
     # Bytes would be a second copy of the image. To patch the image itself would lose the old one: examples/patch_map.c does that.
-    made = bytearray(memoryview(image))
+    with Held(image):  # Else an object whose bytes are not in a row would be copied, and each other call refuses it.
+        made = bytearray(memoryview(image))
     with Held(made, writable=True) as held:
         return Patched(made, *run(_InMemory(held, held), held.size, script, base, carry))
 

@@ -4,13 +4,14 @@ from __future__ import annotations
 
 import ctypes
 import os
+import sys
 from functools import lru_cache
 from pathlib import Path
 from typing import Callable, Type
 
 from ._numbers import RecordStruct
 
-NAME = 'libcdpatch.so.1'
+NAME = 'cdpatch.dll' if sys.platform == 'win32' else 'libcdpatch.so.1'
 HERE = Path(__file__).resolve().parent
 # Where `make install` puts the package below a prefix, and where pip does. In another place the directories above belong to anybody.
 INSTALLED = ('share/cdpatch/python/cdpatch', 'lib*/python3*/site-packages/cdpatch', 'lib*/python3*/dist-packages/cdpatch')

@@ -313,7 +313,24 @@ class CommandProcess(Program):
         return self.ended(words, case.image, case.script, case.image if case.piped else b'')
 
 
-CLIENTS = {'program': Program, 'library': Library, 'by-lines': ByLines, 'python': Python, 'module': Module, 'core': Core,
+class ForWindows(Program):
+    """cdpatch.exe, under wine."""
+    name = 'the program for Windows'
+    before = ('/usr/lib/wine/wine64',)
+
+    def ended(self, *given):
+        """A busy machine at times lets wine end with status 1 before it starts the program, which says something with that status."""
+        said = super().ended(*given)
+        return super().ended(*given) if said[:2] == (1, b'') else said
+
+
+class ForArm(Program):
+    """The program for aarch64, under qemu."""
+    name = 'the program for aarch64'
+    before = ('qemu-aarch64', '-L', '/usr/aarch64-linux-gnu')
+
+
+CLIENTS = {'program': Program, 'windows': ForWindows, 'arm64': ForArm, 'library': Library, 'by-lines': ByLines, 'python': Python, 'module': Module, 'core': Core,
            'cdscript': Command, 'cdscript-process': CommandProcess}
 
 

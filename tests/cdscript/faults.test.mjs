@@ -8,6 +8,7 @@ import { createRequire } from 'node:module';
 import { join } from 'node:path';
 import { test } from 'node:test';
 import { fileURLToPath } from 'node:url';
+import { MESSAGES } from '../lib/messages.mjs';
 
 // Before cdscript is loaded, which takes the calls as they are then.
 const faults = createRequire(import.meta.url)('./faulty.cjs');
@@ -132,7 +133,7 @@ test('a full or closed output is a message and status 2', () => inDirectory(room
     const pipe = shell('{ "$COMMAND" audit many; echo $? > status; } | head -n 1', room);
     assert.equal(read(room, 'status').toString(), '2\n');
     assert.equal(pipe.stderr, '');
-    assert.equal(shell('"$COMMAND" audit - <&-', room).stdout, 'cdpatch: reading the image failed\n');
+    assert.equal(shell('"$COMMAND" audit - <&-', room).stdout, `${MESSAGES.read_failed}\n`);
     assert.equal(shell('"$COMMAND" raw image out 2>&-', room).status, 2);
 }));
 
@@ -203,7 +204,7 @@ test('threads read for themselves, and what they can not read is read without th
     assert.deepEqual(withPreload(['merge', 'hurt', 'image', 'out'], { NO_READS: '1' }),
         [0, '3-3 from image\n8999-8999 from image\ntaken 2 damaged 0 disputed 0 different 0\n']);
     sameFile(read(room, 'out'), image, 'the repaired image');
-    assert.deepEqual(withPreload(['audit', 'hurt'], { CUT: join(room, 'hurt') }), [2, 'cdpatch: reading the image failed\n']);
+    assert.deepEqual(withPreload(['audit', 'hurt'], { CUT: join(room, 'hurt') }), [2, `${MESSAGES.read_failed}\n`]);
     assert.deepEqual(withPreload(['user', 'image', 'new'], { CUT: join(room, 'image') }),
         [2, `cdscript: the image ends at byte ${8500 * 2352 + 100}\n`]);
     assert.equal(existsSync(join(room, 'new')), false);

@@ -5,6 +5,7 @@ import { createHash } from 'node:crypto';
 import { existsSync } from 'node:fs';
 import { join } from 'node:path';
 import { test } from 'node:test';
+import { MESSAGES } from '../lib/messages.mjs';
 import { ENCODINGS_KNOWN, damaged, imageOf, inDirectory, program, read, run, sameFile, tool, write } from './common.mjs';
 import { files, makeDisc } from './discs.mjs';
 
@@ -208,14 +209,12 @@ test('dumps that begin or end elsewhere repair the blocks that both have', () =>
 test('merge says which blocks only another dump has, and which dump to name first', () => inDirectory(async room => {
     const good = imageOf(room, 300, 30);
     const part = (from, to) => good.subarray(2352 * from, 2352 * to);
-    write(room, { good, cut: part(0, 200), middle: part(20, 280), begin: part(0, 250), end: part(100, 300) });
+    write(room, { good, cut: part(0, 200), begin: part(0, 250), end: part(100, 300) });
     const none = 'taken 0 damaged 0 disputed 0 different 0\n';
     const cases = [
         ['cut', 'good', 'good has blocks 230 to 329, which cut has not, so out1 has not either: name good first'],
-        ['middle', 'good', 'good has blocks 30 to 49 and 310 to 329, which middle has not, so out2 has not either: name good first'],
         ['good', 'cut', 'cut has only blocks 30 to 229 of good'],
-        ['begin', 'end', 'end has only blocks 130 to 279 of begin', 'end has blocks 280 to 329, which begin has not, so out4 has not either'],
-        ['end', 'begin', 'begin has only blocks 130 to 279 of end', 'begin has blocks 30 to 129, which end has not, so out5 has not either'],
+        ['begin', 'end', 'end has only blocks 130 to 279 of begin', 'end has blocks 280 to 329, which begin has not, so out3 has not either'],
         ['good', 'good'],
     ];
     for (const [i, [old, other, ...said]] of cases.entries()) {
@@ -247,6 +246,9 @@ test('what no repair takes', () => inDirectory(async room => {
     const { status, errors } = await run(['merge', 'old', 'other', 'out', '--base', '30'], { cwd: room });
     assert.equal(status, 2);
     assert.match(errors, /^cdscript: 29\d of 300 sectors are sound in old and in other, and differ: from block 30 on other is shifted, for 8 sectors before it are missing\n$/);
+    write(room, { more: Buffer.concat([good.subarray(0, 2352), good.subarray(0, 2352 * 299)]) });
+    await fails(['merge', 'old', 'more', 'out', '--base', '30'],
+        '298 of 300 sectors are sound in old and in more, and differ: from block 31 on more is shifted, for 1 sector before it is too many', room);
     write(room, { strange: imageOf(room, 301, 29).subarray(2352) });
     await fails(['merge', 'old', 'strange', 'out'], '299 of 300 sectors are sound in old and in strange, and differ: one of them is patched, shifted or of another disc', room);
     assert.equal(existsSync(join(room, 'out')), false);
@@ -272,7 +274,7 @@ test('a file that exists stays', () => inDirectory(async room => {
         assert.deepEqual([status, errors, read(room, 'out').toString()], [2, 'cdscript: cannot make out: it exists\n', 'kept']);
     }
     assert.deepEqual([(await run(['apply', 'image', 'script', 'out'], { cwd: room })).out, read(room, 'out').toString()],
-        ['cdpatch: cannot make the output file\n', 'kept']);
+        [`${MESSAGES.no_output}\n`, 'kept']);
 }));
 
 /** Wrong command lines, and what is said of each. */
@@ -296,6 +298,9 @@ const WRONG_WORDS = {
     'find a b --encoding hex --table t': '--encoding and --table exclude each other',
     'diff a b --skip-damaged --fields': '--fields and --skip-damaged exclude each other',
     'replace a 1 0 b c --all': '--all and a place exclude each other',
+    'replace a --list b --all': '--list and --all exclude each other',
+    'replace a --list b --inside': '--list and --inside exclude each other',
+    'replace a --list b --loose': '--list and --loose exclude each other',
     'replace a b c --fill 2': "--fill is two hexadecimal digits for each byte, or end, not '2'",
     'show a x': "a block is a number from 0 to 999999999, not 'x'",
     'show a 1 2048': "an offset is a number from 0 to 2047, not '2048'",

@@ -164,8 +164,8 @@ test('extract joins the parts of a file in their order', () => inDirectory(async
     assert.deepEqual([status, errors], [0, '']);
     sameFile(read(room, 'out'), whole, 'the file');
     const listed = await run(['files', 'disc.bin'], { cwd: room });
-    assert.equal(listed.out, ['20\t2048\t/BIG\tit has several extents', '21\t2048\t/SOON', '25\t1000\t/BIG\tit has several extents',
-        '30\t4096\t/BIG\tit has several extents', '32\t2048\t/NEXT', ''].join('\n'));
+    assert.deepEqual([listed.status, listed.out], [1, ['20\t2048\t/BIG\tit has several extents', '21\t2048\t/SOON',
+        '25\t1000\t/BIG\tit has several extents', '30\t4096\t/BIG\tit has several extents', '32\t2048\t/NEXT', ''].join('\n')]);
 }));
 
 test('a file of several parts gets other bytes and another length, part by part', () => inDirectory(async room => {

@@ -105,7 +105,7 @@ test('a list is TSV or CSV, in UTF-8 or UTF-16, and has to name its columns', ()
     const said = async words => (await run(words, { cwd: room })).errors;
     write(room, { none: 'block\toffset\ttext\tnew\n2\t100\tアイ\t\n', headless: '2\t100\tアイ\tok\n' });
     assert.equal(await said(['replace', 'image', '--list', 'none']), 'cdscript: no row of the list has a new text\n');
-    assert.equal(await said(['replace', 'image', '--list', 'headless']), 'cdscript: row 1 of the list names no column block, offset, text, new\n');
+    assert.match(await said(['replace', 'image', '--list', 'headless']), /^cdscript: row 1 of the list names no column /);
     assert.match(await said(['replace', 'image', '--list', 'none', 'アイ', 'ok']), /^cdscript: replace needs IMAGE; /);
     assert.match(await said(['replace', 'image', '--list', 'none', '--all']), /exclude each other/);
     assert.match(await said(['replace', 'image', 'a', 'b', '--partial']), /--partial needs --list/);

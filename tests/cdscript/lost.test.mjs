@@ -77,7 +77,7 @@ test('blocks that the volume uses and that are not Mode 1 are lost, at an edge a
 test('without a volume what one byte other than 00 fills is lost, and no other edge or long run', () => inDirectory(async room => {
     const image = imageOf(room, 1000);
     const cases = [['zeros', 995, 5, 0, false], ['fives', 995, 5, 0x55, true], ['start', 0, 3, 0xFF, true], ['long', 300, 400, 0x55, true],
-        ['silence', 300, 400, 0, false], ['sound', 300, 400, noise(RAW * 400, 7), false]];
+        ['silence', 300, 400, 0, false], ['shortest', 300, 300, 0, false], ['sound', 300, 400, noise(RAW * 400, 7), false]];
     for (const [name, first, count, bytes, isLost] of cases) {
         write(room, { [name]: changed(image, first, count, bytes) });
         const last = first + count - 1;

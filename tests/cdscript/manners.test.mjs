@@ -3,6 +3,7 @@
 import assert from 'node:assert/strict';
 import { spawnSync } from 'node:child_process';
 import { test } from 'node:test';
+import { MESSAGES } from '../lib/messages.mjs';
 import { ENCODINGS_KNOWN, command, damaged, imageOf, inDirectory, read, run, tool, write } from './common.mjs';
 import { makeDisc } from './discs.mjs';
 
@@ -99,7 +100,7 @@ test('why apply cannot make its output is said beside the program\'s line', () =
     write(room, { image: imageOf(room, 3), script: 'cdpatch 1\n', there: 'x' });
     for (const [out, why] of [['there', 'it exists'], ['nowhere/out', 'there is no such file or directory'], ['image/out', 'a part of the path is no directory']]) {
         const came = await run(['apply', 'image', 'script', out], { cwd: room });
-        assert.deepEqual([came.status, came.out, came.errors], [2, 'cdpatch: cannot make the output file\n', `cdscript: cannot make ${out}: ${why}\n`]);
+        assert.deepEqual([came.status, came.out, came.errors], [2, `${MESSAGES.no_output}\n`, `cdscript: cannot make ${out}: ${why}\n`]);
     }
 }));
 

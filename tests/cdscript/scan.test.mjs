@@ -360,7 +360,8 @@ test('info and merge say whether a dump is known', () => inDirectory(async room 
     assert.deepEqual([same.status, same.errors], [1, `cdscript: same: ${ONLY_SIZE}; its SHA-1 is ${shaOf(hurt)}\n`]);
     write(room, { 'bad.dat': '<datafile><x>&y;</x><rom name="&y;"/></datafile>' });
     const bad = await run(['merge', 'a.bin', 'b.bin', 'third', '--dat', 'bad.dat'], { cwd: room });
-    assert.deepEqual([bad.status, bad.errors, existsSync(join(room, 'third'))], [2, 'cdscript: bad.dat: it has the entity &y;, which a DAT does not have\n', false]);
+    assert.deepEqual([bad.status, existsSync(join(room, 'third'))], [2, false]);
+    assert.match(bad.errors, /^cdscript: bad\.dat: it has the entity &y;/);
 }));
 
 /** The lines of a list, by their names. */

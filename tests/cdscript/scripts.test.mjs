@@ -5,6 +5,7 @@ import assert from 'node:assert/strict';
 import { existsSync } from 'node:fs';
 import { join } from 'node:path';
 import { test } from 'node:test';
+import { MESSAGES } from '../lib/messages.mjs';
 import { damaged, imageOf, inDirectory, program, read, run, sameFile, tool, write } from './common.mjs';
 import { TEXTS, encoded, files, makeDisc, noise } from './discs.mjs';
 
@@ -192,7 +193,7 @@ test('undo on an image that is patched already writes nothing', () => inDirector
 
 test('undo says of a script with a fault what the program says', () => inDirectory(async room => {
     write(room, { image: imageOf(room, 8), number: 'cdpatch 1\nset 0 0 41\nset x 0 41\n', many: `cdpatch 1\n${'set 0 0 41\n'.repeat(65536)}` });
-    await refuses(room, ['undo', 'image', 'number'], 'script line 3: bad number');
+    await refuses(room, ['undo', 'image', 'number'], `script line 3: ${MESSAGES.bad_number}`);
     await refuses(room, ['undo', 'image', 'many'], 'script line 65537: more than 65535 patches');
     write(room, { long: Buffer.alloc((64 << 20) + 1, '#') });
     await refuses(room, ['undo', 'image', 'long'], 'the script is longer than 67108864 bytes');

@@ -96,6 +96,6 @@ test('an image without a cue sheet is the track that is asked for', () => inDire
     assert.deepEqual([merged.status, merged.errors], [0, '']);
     sameFile(read(room, 'out'), read(room, 'sea.bin'), 'the repaired track');
     const none = await run(['diff', '--track', '3', 'game.cue', 'short.cue'], { cwd: room });
-    const why = 'short.cue has no track 3. It has 1. An image without a cue sheet is taken as that track.';
-    assert.deepEqual([none.status, none.errors], [2, `cdscript: ${why}\n`]);
+    assert.equal(none.status, 2);
+    assert.match(none.errors, /^cdscript: short\.cue has no track 3\./);
 }));

@@ -6,11 +6,9 @@ import { core, diceOf, readerOf } from './common.mjs';
 import { localCrew } from './crews.mjs';
 import { rawOf } from './discs.mjs';
 
-const { JOBS } = await core('jobs.js');
 const { stretchesOf, tableOfTexts } = await core('texts/all_texts.js');
-const { encodeText } = await core('texts/encoding.js');
-const { encodingOf } = await core('texts/encodings.js');
-const { textsOfRangeJob } = await core('texts/range.js');
+const { encodeText } = await core('encodings/encoding.js');
+const { encodingOf } = await core('encodings/encodings.js');
 
 const BASE = 50;
 const SECTORS = 6;
@@ -35,11 +33,9 @@ test('a track is looked at file by file, and what lies between files by itself',
 });
 
 test('a row says where a text is and how much room it has, and the progress ends with all sectors', async () => {
-    JOBS.texts = textsOfRangeJob;
     const [track, told, texts] = [someTrack(), [], []];
     const how = { asked: {}, progress: (done, all) => { told.push([done, all]); } };
     for await (const { text } of tableOfTexts(localCrew(), track, stretchesOf(track, FILES), how)) texts.push(text);
-    delete JOBS.texts;
     // A text ends with a 00. What follows up to the end of its file, or of what lies between files, is its room.
     const rows = [[51, 100, 10, 3000 - 100 - 1, 'CP932', '/a+100', 'はじめから', ''], [54, 5, 10, 2 * 2048 - 5 - 1, 'CP932', '-', 'つづきから', '']];
     const head = ['block', 'offset', 'bytes', 'room', 'encoding', 'file', 'text', 'new'];
@@ -74,7 +70,6 @@ function linesIn(name, size, lineEnd, seed = 1) {
 
 /** The rows of a file of these bytes. */
 async function rowsIn(bytes, name, lines = false) {
-    JOBS.texts = textsOfRangeJob;
     const user = Buffer.alloc(2048 * Math.ceil(bytes.length / 2048));
     user.set(bytes);
     const track = { name: 'track', reader: readerOf(rawOf(user)), base: 0, sectors: user.length / 2048 };
@@ -82,7 +77,6 @@ async function rowsIn(bytes, name, lines = false) {
     const out = [];
     const file = [{ path: '/a', before: 0, first: 0, size: bytes.length }];
     for await (const { text } of tableOfTexts(localCrew(), track, file, { asked, least: lines ? undefined : 1 })) out.push(text);
-    delete JOBS.texts;
     return out.join('').split('\n').slice(1, -1).map(line => line.split('\t')).map(cells => {
         const start = Number(cells[5].split('+').pop());
         return { start, end: start + Number(cells[2]), room: Number(cells[3]), text: cells[6] };

@@ -5,8 +5,8 @@ import { test } from 'node:test';
 import { ENCODINGS_KNOWN, core, diceOf } from './common.mjs';
 
 const { LOOKED_BACK, bytesInside, charactersFrom } = await core('texts/boundaries.js');
-const { encodingOf, tableOf } = await core('texts/encodings.js');
-const { encodeText } = await core('texts/encoding.js');
+const { encodingOf, tableOf } = await core('encodings/encodings.js');
+const { encodeText } = await core('encodings/encoding.js');
 
 /** Signs of each encoding that has characters. */
 const SIGNS = Object.fromEntries(ENCODINGS_KNOWN.filter(({ signs }) => signs).map(({ name, signs }) => [name, signs]));

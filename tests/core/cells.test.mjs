@@ -6,8 +6,9 @@ import { calls, core, readerOf } from './common.mjs';
 
 const { MARKS, Table, rowText } = await core('texts/cells.js');
 const { assertMeant, cellOf, codesLeftOut, leftCodeText, shownCell, unitsOfCell } = await core('texts/codes.js');
-const { encodingOf, tableOf, textOfFile } = await core('texts/encodings.js');
-const { fillingAfter, listRows, replaceList } = await core('texts/list.js');
+const { fillingAfter } = await core('encodings/encoding.js');
+const { encodingOf, tableOf, textOfFile } = await core('encodings/encodings.js');
+const { listRows, replaceList } = await core('tasks/list.js');
 const { longTextOf } = await core('texts/long_file.js');
 
 const rowsOf = (text, mark = MARKS.find(it => text.includes(it)) ?? '\t') => [...new Table(text, mark).rows()];
@@ -82,8 +83,8 @@ test('hostile tables take no longer than others', () => {
 });
 
 test('a row that is written is read again', () => {
-    const row = [1, 'a', 'b "c"', 'd,e', 'x\ny', ''];
-    assert.deepEqual(cells(`1,2,3,4,5,6\r\n${rowText(row, ',')}`)[1], row.map(String));
+    const row = [1, 'a', 'b "c"', '"c"', 'd,e', 'x\ny', ''];
+    assert.deepEqual(cells(`1,2,3,4,5,6,7\r\n${rowText(row, ',')}`)[1], row.map(String));
     assert.equal(rowText([1, 'a b', ''], '\t'), '1\ta b\t\n');
 });
 
@@ -142,7 +143,8 @@ test('of rows in one block that can not be patched each is left by its own numbe
 
 test('what fills up the room of a text is one byte over and over, in whole spaces, but for the 00 that ends the text', () => {
     const rows = [['CP932', '41000042', 1], ['CP932', '412020200042', 3], ['CP932', '41FFFF20', 2], ['CP932', '414242', 0],
-        ['CP932', '41', 0], ['UTF-16LE', '41000000000041', 2], ['UTF-16LE', '4100000000000000FF', 4], ['UTF-16LE', '4100FFFFFF20', 2]];
+        ['CP932', '41', 0], ['CP932', '4181408140', 4], ['UTF-16LE', '41000000000041', 2], ['UTF-16LE', '4100000000000000FF', 4],
+        ['UTF-16LE', '4100FFFFFF20', 2]];
     for (const [name, digits, due] of rows) {
         assert.equal(fillingAfter(encodingOf(name), Buffer.from(digits, 'hex'), name === 'CP932' ? 1 : 2), due, `${name} ${digits}`);
     }

@@ -7,7 +7,8 @@ import { test } from 'node:test';
 import { calls, core, decoded, newCalls, sameBytes, top } from './common.mjs';
 
 const records = await core('module/records.js');
-const { MOST_SECTORS, SECTOR_SIZE, addressIn, addressText, blockAt, imageTooLong, sectorOf, userOf } = await core('sectors/sector.js');
+const { MOST_SECTORS, SECTOR_SIZE } = await core('module/numbers.js');
+const { addressIn, addressText, blockAt, imageTooLong, sectorOf, userOf } = await core('sectors/sector.js');
 
 const header = readFileSync(join(top, 'include/cdpatch.h'), 'utf8');
 const vectors = new Uint8Array(readFileSync(join(top, 'crates/cd_low_tests/data/cdrkit-8.bin')));

@@ -4,9 +4,9 @@ import assert from 'node:assert/strict';
 import { test } from 'node:test';
 import { calls, core, diceOf, readerOf, sameBytes, someImage } from './common.mjs';
 import { localCrew, withThreads } from './crews.mjs';
-import { CHANGES, RAW, blocksOf, changedImage, countOf, patchedBy, sectorAt, sound, soundImage, textOf } from './pairs.mjs';
+import { CHANGES, RAW, blocksOf, changedImage, countOf, patchedBy, sectorAt, sound, soundImage, textOf, trackOf } from './pairs.mjs';
 
-const { SECOND_STATE, compareImages, diffRange, differRange } = await core('images/compare.js');
+const { SECOND_STATE, compareTrack, diffRange, differRange, findDifferences } = await core('tasks/compare.js');
 const { ScriptParts } = await core('script/script_writer.js');
 const { MOST_SCRIPT_BYTES, RESULT, STATUS, STEP } = await core('module/records.js');
 const { blocksText } = await core('sectors/runs.js');
@@ -14,7 +14,10 @@ const { blocksText } = await core('sectors/runs.js');
 const BASE = 33;
 const SAID = ['bytes', 'run', 'whole', 'address', 'both', 'sound'];
 
-const compared = (old, fresh, how = {}, crew = localCrew()) => compareImages(calls, crew, readerOf(old), readerOf(fresh), { base: BASE, ...how });
+const compared = (old, fresh, { step, ...options } = {}, crew = localCrew()) =>
+    compareTrack({ calls, crew }, trackOf(old, BASE), readerOf(fresh), options, step && { step });
+/** What a script of this base has before its patches. */
+const head = version => `cdpatch ${version}\n# base ${BASE}\n`;
 
 /** Why no script makes a sector another, by the definitions; undefined if one does. */
 function whyNot(old, fresh) {
@@ -43,7 +46,7 @@ async function givesNew(start) {
         sameBytes(await patchedBy(script, old, BASE), fresh, `seed ${seed}`);
         assert.match(textOf(script), textOf(script).includes('\naddress ') ? /^cdpatch 2\n/ : /^cdpatch 1\n/);
         assert.equal(script.size, textOf(script).length);
-        assert.equal(script.patches, textOf(script).split('\n').length - 2);
+        assert.equal(script.patches, textOf(script).split('\n').length - 3);
     }
 }
 
@@ -93,7 +96,7 @@ test('damage of NEW is never written into good sectors of OLD', async () => {
     for (let i = 0; i < 50; i += 2) fresh.set(CHANGES.damaged(sectorAt(old, i), dice), RAW * i);
     assert.equal((await compared(old, fresh)).script, null);
     const { script } = await compared(old, fresh, { skipDamaged: true });
-    assert.equal(textOf(script), 'cdpatch 1\n');
+    assert.equal(textOf(script), head(1));
     sameBytes(await patchedBy(script, old, BASE), old, 'OLD');
 });
 
@@ -101,25 +104,25 @@ test('the same damage in both is no difference', async () => {
     const dice = diceOf(8);
     const old = someImage(dice, 40, BASE);
     const { script, left } = await compared(old, old.slice());
-    assert.deepEqual([textOf(script), left], ['cdpatch 1\n', []]);
+    assert.deepEqual([textOf(script), left], [head(1), []]);
 });
 
 test('a damaged sector of OLD is rebuilt first, and nothing more if only its damage goes', async () => {
     const user = Uint8Array.from({ length: 2048 }, (_, i) => i);
     const old = sound(BASE, user);
     old[2100] ^= 5;
-    assert.equal(textOf((await compared(old, sound(BASE, user))).script), `cdpatch 1\nrebuild ${BASE}\n`);
+    assert.equal(textOf((await compared(old, sound(BASE, user))).script), `${head(1)}rebuild ${BASE}\n`);
     const other = user.slice();
     other[5] = 0xAB;
     const both = calls.encode(Uint8Array.of(0x11, 0x22, 0x33), other);
-    assert.equal(textOf((await compared(old, both)).script), `cdpatch 2\nrebuild ${BASE}\naddress ${BASE} 11:22:33\nset ${BASE} 5 AB was 05\n`);
+    assert.equal(textOf((await compared(old, both)).script), `${head(2)}rebuild ${BASE}\naddress ${BASE} 11:22:33\nset ${BASE} 5 AB was 05\n`);
 });
 
 test('runs with at most eight equal bytes between them are one patch', async () => {
     const linesFor = async (...places) => {
         const user = new Uint8Array(2048);
         for (const place of places) user[place] = 0xA5;
-        return textOf((await compared(sound(BASE, new Uint8Array(2048)), sound(BASE, user))).script).split('\n').slice(1, -1);
+        return textOf((await compared(sound(BASE, new Uint8Array(2048)), sound(BASE, user))).script).split('\n').slice(2, -1);
     };
     assert.deepEqual(await linesFor(0), [`set ${BASE} 0 A5 was 00`]);
     assert.deepEqual(await linesFor(2047), [`set ${BASE} 2047 A5 was 00`]);
@@ -134,14 +137,14 @@ test('runs with at most eight equal bytes between them are one patch', async () 
     assert.deepEqual(await linesFor(3, 12, 2046, 2047), [`set ${BASE} 3 A5${'00'.repeat(8)}A5 was ${'00'.repeat(10)}`, `set ${BASE} 2046 A5A5 was 0000`]);
 });
 
-test('another tail and another length', async () => {
+test('another tail', async () => {
     const old = soundImage(diceOf(9), 5, BASE, 20);
     const fresh = old.slice();
     fresh[5 * RAW + 19] ^= 1;
     const { script, left, tail } = await compared(old, fresh, { skipDamaged: true });
     assert.deepEqual([script, left, tail], [null, [], true]);
-    const fault = { name: 'Fault', message: `the images have ${old.length} and ${old.length - 1} bytes, and no script changes a length` };
-    await assert.rejects(compared(old, old.subarray(0, old.length - 1)), fault);
+    const all = await compared(old, fresh, { partial: true });
+    assert.deepEqual([textOf(all.script), all.left, all.tail], [head(1), [], true]);
 });
 
 test('ranges of 1 to 4096 sectors agree, and threads agree with one process', async () => {
@@ -186,6 +189,14 @@ test('a need of --carry is kept, whichever lines have it', () => {
     }
 });
 
+test('the version of a script is the highest of its parts', () => {
+    for (const [versions, due] of [[[1, 1], 1], [[1, 2], 2], [[2, 1], 2]]) {
+        const parts = new ScriptParts();
+        for (const version of versions) parts.push({ text: new Uint8Array(1), patches: 1, ...PLAIN, version });
+        assert.equal(Buffer.from(parts.script(calls).pieces[0]).toString(), `cdpatch ${due}\n`);
+    }
+});
+
 test('the bytes that differ are counted by their fields', () => {
     const ends = [12, 16, 2064, 2068, 2076, 2352];
     let seen = 0;
@@ -208,6 +219,32 @@ test('the bytes that differ are counted by their fields', () => {
         seen += due.blocks.length;
     }
     assert.ok(seen > 80, `${seen}`);
+});
+
+test('of the sectors that differ it is said in how many only the codes do, and whether the tails do', async () => {
+    const dice = diceOf(15);
+    const [old, crew] = [soundImage(dice, 40, BASE, 9), localCrew()];
+    const fresh = old.slice();
+    const [codes, others] = [[3, 8, 30], [4, 9, 31, 39]];
+    for (const i of codes) fresh[RAW * i + 2064 + dice(288)] ^= 1;
+    for (const [k, i] of others.entries()) fresh[RAW * i + [0, 12, 16, 2063][k]] ^= 1;
+    const blocks = [];
+    const found = await findDifferences({ crew }, trackOf(old, BASE), readerOf(fresh), differing => { blocks.push(...differing.blocks); }, { step: 7 });
+    assert.deepEqual([found, blocks], [{ sectors: 7, onlyCodes: 3, tail: false }, [...codes, ...others].sort((a, b) => a - b).map(i => BASE + i)]);
+    fresh[RAW * 40 + 8] ^= 1;
+    assert.equal((await findDifferences({ crew }, trackOf(old, BASE), readerOf(fresh), () => {})).tail, true);
+});
+
+test('the lines that are given away as they come, and the script of a base', async () => {
+    const dice = diceOf(16);
+    const old = soundImage(dice, 600, BASE);
+    const fresh = changedImage(dice, old, ['bytes', 'address'], 9);
+    const [whole, lines] = [await compared(old, fresh), []];
+    assert.match(textOf(whole.script), new RegExp(`^cdpatch 2\n# base ${BASE}\n[a-z]+ `));
+    const { script } = await compared(old, fresh, { take: async text => { lines.push(Buffer.from(text)); } });
+    assert.deepEqual([textOf(script), script.size], [head(2), whole.script.size]);
+    assert.equal(textOf(script) + Buffer.concat(lines), textOf(whole.script));
+    assert.match(textOf((await compareTrack({ calls, crew: localCrew() }, trackOf(old, 0), readerOf(fresh))).script), /^cdpatch 2\n[a-z]+ /);
 });
 
 test('blocks of runs in words', () => {

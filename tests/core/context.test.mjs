@@ -5,8 +5,8 @@ import { core, diceOf, encoded, readerOf } from './common.mjs';
 import { rawOf } from './discs.mjs';
 
 const { FilesAlong, anyBegins, contextOf, contextsOf, filesWith } = await core('texts/context.js');
-const { encodeText } = await core('texts/encoding.js');
-const { encodingOf, tableOf } = await core('texts/encodings.js');
+const { encodeText } = await core('encodings/encoding.js');
+const { encodingOf, tableOf } = await core('encodings/encodings.js');
 
 const USER = 2048;
 const BASE = 225;

@@ -3,10 +3,11 @@
 import { Worker } from 'node:worker_threads';
 import { calls, core, module } from './common.mjs';
 
-const { Crew, localHand } = await core('jobs.js');
+const { Crew, localHand } = await core('crew/crew.js');
+const { JOBS } = await core('jobs/jobs.js');
 
 /** A crew of this thread. */
-export const localCrew = () => new Crew([localHand(calls)]);
+export const localCrew = (table = JOBS) => new Crew([localHand(calls, table)]);
 
 /** A crew of threads, which `use` has until it ends. */
 export async function withThreads(count, use) {

@@ -7,8 +7,8 @@ import { localCrew, withThreads } from './crews.mjs';
 import { isoOf } from './discs.mjs';
 import { CHANGES, RAW, countOf, patchedBy, sectorAt, sound, soundImage, textOf } from './pairs.mjs';
 
-const { filledUp, replaceBytes } = await core('script/replace_bytes.js');
-const { replaceFile } = await core('script/replace_file.js');
+const { filledUp, replaceBytes } = await core('tasks/replace_bytes.js');
+const { replaceFile } = await core('tasks/replace_file.js');
 const { filesOf, wholeFile } = await core('iso/files.js');
 
 const BASE = 70;

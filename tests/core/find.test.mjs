@@ -5,8 +5,8 @@ import { core, diceOf } from './common.mjs';
 import { rawOf } from './discs.mjs';
 
 const { findIn, joinFound, sectorsBeyond } = await core('texts/find.js');
-const { encodingOf, tableOf } = await core('texts/encodings.js');
-const { encodeText } = await core('texts/encoding.js');
+const { encodingOf, tableOf } = await core('encodings/encodings.js');
+const { encodeText } = await core('encodings/encoding.js');
 const { unitsAlike } = await core('texts/alike.js');
 
 const RAW = 2352;

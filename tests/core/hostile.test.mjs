@@ -6,8 +6,8 @@ import { calls, core, diceOf, encoded } from './common.mjs';
 
 const { Table } = await core('texts/cells.js');
 const { codesLeftOut } = await core('texts/codes.js');
-const { listRows, replaceList } = await core('texts/list.js');
-const { encodingOf, tableOf } = await core('texts/encodings.js');
+const { listRows, replaceList } = await core('tasks/list.js');
+const { encodingOf, tableOf } = await core('encodings/encodings.js');
 const { endOfMatch } = await core('texts/find.js');
 
 /** How many characters `indexOf` and expressions have looked at while something was done. */

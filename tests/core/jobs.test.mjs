@@ -6,8 +6,9 @@ import { calls, core, diceOf, joinSurveys, readerOf, sameBytes, someImage, surve
 import { answersOf, localCrew, withThreads } from './crews.mjs';
 
 const { FAULT, Fault } = await core('faults.js');
-const { passUser } = await core('images/convert.js');
-const { Crew, JOBS, UNREAD, localHand, serving, transfersOf } = await core('jobs.js');
+const { passUser } = await core('tasks/convert.js');
+const { Crew, UNREAD, localHand, serving, transfersOf } = await core('crew/crew.js');
+const { JOBS } = await core('jobs/jobs.js');
 const { addToRuns } = await core('sectors/runs.js');
 const { findIn, joinFound, sectorsBeyond } = await core('texts/find.js');
 
@@ -82,7 +83,7 @@ test('of user data as many bytes are passed on as are asked for, by ranges of an
 class SlowHand {
     constructor() {
         this.messages = [];
-        this.serve = serving(calls);
+        this.serve = serving(calls, JOBS);
     }
 
     post(message) {
@@ -156,9 +157,8 @@ test('an image that is shorter than its size is an error, and short reads are no
 });
 
 test('what a job or its taker throws ends it', async () => {
-    JOBS.throwing = (_, [bytes], first) => { if (first === 6) throw new RangeError(`at ${first}, ${bytes.length}`); };
-    await assert.rejects(answersOf(localCrew(), 'throwing', [readerOf(small)], {}, { step: 3 }), { name: 'Error', message: 'RangeError: at 6, 7056' });
-    delete JOBS.throwing;
+    const throwing = (_, [bytes], first) => { if (first === 6) throw new RangeError(`at ${first}, ${bytes.length}`); };
+    await assert.rejects(answersOf(localCrew({ throwing }), 'throwing', [readerOf(small)], {}, { step: 3 }), { name: 'Error', message: 'RangeError: at 6, 7056' });
     await assert.rejects(answersOf(localCrew(), 'throwing', [readerOf(small)], {}, {}), /TypeError/);
     await withThreads(1, async crew => {
         await assert.rejects(answersOf(crew, 'throwing', [readerOf(small)], {}, {}), /TypeError/);
@@ -167,17 +167,16 @@ test('what a job or its taker throws ends it', async () => {
 });
 
 test('a fault that a worker meets comes with its code and what is known', async () => {
-    JOBS.throwing = () => { throw new Fault('no such character', FAULT.TEXT, { at: 7 }); };
+    const table = { throwing: () => { throw new Fault('no such character', FAULT.TEXT, { at: 7 }); } };
     const due = { name: 'Fault', message: 'no such character', code: 'text', facts: { at: 7 } };
-    await assert.rejects(answersOf(localCrew(), 'throwing', [readerOf(small)], {}, {}), due);
-    const hand = { post: message => setImmediate(() => hand.onreply(structuredClone(serving(calls)(message)))) };
+    await assert.rejects(answersOf(localCrew(table), 'throwing', [readerOf(small)], {}, {}), due);
+    const hand = { post: message => setImmediate(() => hand.onreply(structuredClone(serving(calls, table)(message)))) };
     await assert.rejects(answersOf(new Crew([hand]), 'throwing', [readerOf(small)], {}, {}), due);
-    delete JOBS.throwing;
 });
 
 test('a worker that ends is an error of this job and of the next', async () => {
     const hand = new SlowHand();
-    const crew = new Crew([hand, localHand(calls)]);
+    const crew = new Crew([hand, localHand(calls, JOBS)]);
     const job = answersOf(crew, 'user', [readerOf(small)], {}, { step: 3 });
     await turn();
     hand.onfault(new Error('the worker has ended'));
@@ -209,7 +208,7 @@ test('bytes are given to a worker with their memory, or else copied', async () =
 
 /** A hand that reads for itself so often. */
 function readingHand(most) {
-    const serve = serving(calls);
+    const serve = serving(calls, JOBS);
     let reads = 0;
     const piecesOf = pieces => pieces.map(piece => piece instanceof Uint8Array ? piece : piece.bytes.slice(piece.at, piece.at + piece.length));
     const replyTo = message => {

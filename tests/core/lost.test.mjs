@@ -4,11 +4,11 @@ import assert from 'node:assert/strict';
 import { test } from 'node:test';
 import { calls, core, diceOf, joinedPieces, readerOf, someBytes } from './common.mjs';
 import { localCrew } from './crews.mjs';
-import { RAW, sectorAt, sound } from './pairs.mjs';
+import { RAW, sectorAt, sound, trackIn } from './pairs.mjs';
 import { recordOf, volumeOf } from './strangers.mjs';
 
-const { mergeImages } = await core('images/merge.js');
-const { lostSectors, otherSectors } = await core('sectors/lost.js');
+const { repairTrack } = await core('tasks/repair.js');
+const { lostSectors, otherSectors } = await core('disc/lost.js');
 const { isSound, surveyRange } = await core('sectors/survey.js');
 
 /** How many cases are tried; a thousand take half a minute. */
@@ -118,11 +118,12 @@ test('each sector that is not as on the disc is named after a merge, and no othe
         const disc = someDisc(dice);
         const dumps = Array.from({ length: 2 + dice(3) }, () => disc.image.slice());
         harmSome(dice, dumps);
-        const [old, ...others] = dumps.map(imageOf);
+        const [opened, ...others] = dumps.map(dump => trackIn(imageOf(dump)));
+        const old = opened.image;
         const pieces = [];
-        const repair = await mergeImages(localCrew(), old, others, {}, piece => { pieces.push(piece); });
+        const repair = await repairTrack({ calls, crew: localCrew() }, opened, others, piece => { pieces.push(piece); });
+        const { lost, untested } = repair;
         const made = joinedPieces(dumps[0], pieces);
-        const { lost, untested } = await lostSectors(old, repair, null, [old, ...others].map(image => ({ image, part: image, later: 0 })));
         const [gone, left, bad] = [lost, untested, [...repair.damaged, ...repair.doubtful]].map(blocksOf);
         for (let i = 0; i < old.sectors; i++) {
             const isRight = isSame(made, disc.image, i);

@@ -4,18 +4,19 @@ import assert from 'node:assert/strict';
 import { test } from 'node:test';
 import { calls, core, diceOf, joinedPieces, readerOf, sameBytes } from './common.mjs';
 import { localCrew, withThreads } from './crews.mjs';
-import { CHANGES, RAW, blocksOf, changedImage, countOf, sectorAt, sound, soundImage } from './pairs.mjs';
+import { CHANGES, RAW, blocksOf, changedImage, countOf, imageOf as imageWith, sectorAt, sound, soundImage, trackIn } from './pairs.mjs';
 
-const { mergeImages } = await core('images/merge.js');
-const { commonPart, firstBlock, isSameRange, shiftOf, shiftText } = await core('images/common_part.js');
+const { repairTrack } = await core('tasks/repair.js');
+const { commonPart, firstBlock, isSameRange, rangesOf } = await core('tasks/common_part.js');
 
 const BASE = 500;
-const imageOf = (bytes, base = BASE) => ({ name: 'image.bin', reader: readerOf(bytes), base, addressed: base, sectors: countOf(bytes), tail: bytes.length % RAW });
+const imageOf = (bytes, base = BASE) => imageWith(bytes, base);
 
 /** What a repair finds, and its pieces. */
 async function repaired(crew, old, others, how = {}) {
     const pieces = [];
-    return { ...await mergeImages(crew, old, others, how, piece => { pieces.push(piece); }), pieces };
+    const [opened, ...dumps] = [old, ...others].map(trackIn);
+    return { ...await repairTrack({ calls, crew }, opened, dumps, piece => { pieces.push(piece); }, how), pieces };
 }
 
 const merged = (images, how = {}, crew = localCrew()) => repaired(crew, imageOf(images[0]), images.slice(1).map(it => imageOf(it)), how);
@@ -153,11 +154,11 @@ test('sound sectors that differ are counted, and above a hundredth of all the im
     const other = image.slice();
     for (let i = 0; i < 3; i++) other.set(CHANGES.bytes(sectorAt(image, 50 * i), diceOf(i)), RAW * 50 * i);
     const few = await merged([image, image, other], { step: 100 });
-    assert.deepEqual([few.different, few.refused], [[0, 3], false]);
+    assert.deepEqual([few.different, few.refused], [[0, 3], null]);
     sameBytes(joinedPieces(image, few.pieces), image, 'the image');
     other.set(CHANGES.bytes(sectorAt(image, 299), diceOf(9)), RAW * 299);
     const many = await merged([image, image, other], { step: 100 });
-    assert.deepEqual([many.different, many.refused, many.sectors], [[0, 4], true, 300]);
+    assert.deepEqual([many.different, many.refused.other, many.sectors], [[0, 4], 1, 300]);
     assert.deepEqual([few.same, many.same], [[300, 297], [300, 296]]);
 });
 
@@ -165,7 +166,7 @@ test('a shifted dump is refused', async () => {
     const image = soundImage(diceOf(54), 301, BASE);
     const old = changedImage(diceOf(55), image.slice(0, 300 * RAW), ['damaged'], 9);
     const { refused, taken, different } = await merged([old, image.slice(RAW)]);
-    assert.deepEqual([refused, taken], [true, []]);
+    assert.deepEqual([refused.why, taken], ['different', []]);
     assert.ok(different[0] > 200);
 });
 
@@ -175,15 +176,10 @@ test('of a dump in which sectors are missing, or too many, it is said where, fro
     for (const [parts, by, first] of [[missing, 7, BASE + 100], [more, -5, BASE + 65]]) {
         const [whole, cut] = [disc, new Uint8Array(Buffer.concat(parts))].map(bytes => imageOf(bytes));
         for (const [old, other] of [[whole, cut], [cut, whole]]) {
-            const { refused, differing } = await repaired(localCrew(), old, [other]);
-            assert.ok(refused);
-            const shift = await shiftOf(calls, old, other, differing[0]);
-            assert.deepEqual([shift.by, shift.first, shift.image], [by, first, cut]);
+            const { refused } = await repaired(localCrew(), old, [other]);
+            assert.deepEqual(refused, { why: 'different', other: 0, shift: { by, first, isOther: other === cut } });
         }
     }
-    const image = { name: 'cut.bin' };
-    assert.equal(shiftText({ image, by: 7, first: 600 }), 'from block 600 on cut.bin is shifted, for 7 sectors before it are missing');
-    assert.equal(shiftText({ image, by: -1, first: 60 }), 'from block 60 on cut.bin is shifted, for 1 sector before it is too many');
 });
 
 test('tails that differ are said, and the tail stays as it is', async () => {
@@ -199,9 +195,8 @@ test('tails that differ are said, and the tail stays as it is', async () => {
 
 test('another part of a disc is refused', async () => {
     const image = soundImage(diceOf(56), 5, BASE);
-    const other = { ...imageOf(image, BASE + 5), name: 'other.bin' };
-    const message = `image.bin begins with block ${BASE}, other.bin with block ${BASE + 5}: they are not the same part of a disc`;
-    await assert.rejects(repaired(localCrew(), imageOf(image), [other]), { name: 'Fault', message });
+    const { refused, pieces } = await repaired(localCrew(), imageOf(image), [imageOf(image), imageOf(image, BASE + 5)]);
+    assert.deepEqual([refused, pieces], [{ why: 'apart', other: 1, first: [BASE, BASE + 5] }, []]);
 });
 
 test('images are counted from the blocks that their addresses say, before block 0 too, or else their cue sheets', () => {
@@ -210,6 +205,28 @@ test('images are counted from the blocks that their addresses say, before block 
     assert.deepEqual([named, early, imageOf(image)].map(firstBlock), [BASE, -2, BASE]);
     assert.deepEqual(commonPart(named, imageOf(image, BASE + 2)), { from: 2, to: 5, later: 2 });
     assert.deepEqual(commonPart(imageOf(image, 1), early), { from: 0, to: 2, later: -3 });
+});
+
+test('the blocks that only one of two images has', () => {
+    const image = (first, count) => imageOf(new Uint8Array(count * RAW), first);
+    const runs = given => given.map(([first, last]) => ({ first, last }));
+    const cases = [[[30, 10], [30, 10], [[30, 39]], [], []], [[30, 10], [33, 4], [[33, 36]], [[30, 32], [37, 39]], []],
+        [[30, 10], [28, 20], [[30, 39]], [], [[28, 29], [40, 47]]], [[30, 10], [35, 10], [[35, 39]], [[30, 34]], [[40, 44]]],
+        [[30, 10], [25, 8], [[30, 32]], [[33, 39]], [[25, 29]]]];
+    for (const [old, other, common, missing, beyond] of cases) {
+        assert.deepEqual(rangesOf(image(...old), image(...other)), { common: runs(common), missing: runs(missing), beyond: runs(beyond) });
+    }
+});
+
+test('a base that is set by hand is that of all dumps, whatever their addresses say', async () => {
+    const [old, other] = someDumps(diceOf(70), 2, 60);
+    const due = await repaired(localCrew(), imageOf(old), [imageOf(other)]);
+    const pieces = [];
+    const moved = trackIn(imageOf(old, 7)).withBase(BASE);
+    for (const first of [7, BASE, BASE + 3]) {
+        const found = await repairTrack({ calls, crew: localCrew() }, moved, [trackIn(imageOf(other, first))], piece => { pieces.push(piece); });
+        assert.deepEqual({ ...found, pieces: pieces.splice(0) }, due, `the other one begins with block ${first}`);
+    }
 });
 
 test('dumps that begin or end elsewhere repair what they have, as if the rest were nothing', async () => {
@@ -225,12 +242,13 @@ test('dumps that begin or end elsewhere repair what they have, as if the rest we
             at >= ranges[k + 1][0] * RAW && at < ranges[k + 1][1] * RAW ? byte : 0));
         const told = [];
         const how = { step: 1 + seed, progress: (done, all) => { told.push(done); assert.equal(all, 60); } };
-        const { pieces, parts, tails, refused, sectors, ...rest } = await repaired(localCrew(), imageOf(old), others, how);
+        const { pieces, tails, refused, sectors, ...rest } = await repaired(localCrew(), imageOf(old), others, how);
         const { out, found } = due([old, ...nothing]);
         assert.deepEqual(foundOf(rest), found);
         sameBytes(joinedPieces(old, pieces), out, `seed ${seed}`);
-        assert.deepEqual(parts, [[0, 55, 0], [7, 60, 7], [0, 60, -3], [20, 60, 20]].map(([from, to, later]) => ({ from, to, later })));
-        assert.deepEqual([tails, refused, told.at(-1), [...told].sort((a, b) => a - b)], [[false, true, false, false], false, 60, told]);
+        const due2 = [[0, 55, 0], [7, 60, 7], [0, 60, -3], [20, 60, 20]].map(([from, to, later]) => ({ from, to, later }));
+        assert.deepEqual(others.map(other => commonPart(imageOf(old), other)), due2);
+        assert.deepEqual([tails, refused, told.at(-1), [...told].sort((a, b) => a - b)], [[false, true, false, false], null, 60, told]);
     }
 });
 
@@ -245,10 +263,8 @@ test('a dump in which sectors are missing or too many is refused, and it is foun
     const due = [{ by: 3, first: BASE + 70 }, { by: 3, first: BASE + 70 }, { by: -1, first: BASE + 65 }, null];
     for (const [i, bytes] of [gone, both, more, edited].entries()) {
         const [old, other] = [imageOf(image), imageOf(Uint8Array.from(bytes))];
-        const { refused, differing } = await repaired(localCrew(), old, [other]);
-        assert.ok(refused);
-        const shift = await shiftOf(calls, old, other, differing[0]);
-        assert.deepEqual(shift && { by: shift.by, first: shift.first }, due[i]);
+        const { refused } = await repaired(localCrew(), old, [other]);
+        assert.deepEqual(refused, { why: 'different', other: 0, shift: due[i] && { ...due[i], isOther: true } });
         assert.ok(isSameRange(old, other) && !isSameRange(old, imageOf(image, BASE + 1)));
     }
 });

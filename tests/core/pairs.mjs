@@ -5,10 +5,20 @@ import { calls, core, joinedPieces, readerOf } from './common.mjs';
 
 const { Refusal, readScript } = await core('script/script.js');
 const { applyPatches } = await core('script/patches.js');
+const { openTrack } = await core('tasks/opened.js');
 
 export const RAW = 2352;
 export const sectorAt = (image, i) => image.subarray(RAW * i, RAW * (i + 1));
 export const countOf = image => Math.floor(image.length / RAW);
+
+/** An image whose addresses say its base. */
+export const imageOf = (bytes, base, reader = readerOf(bytes)) =>
+    ({ name: 'image.bin', reader, base, addressed: base, sectors: countOf(bytes), tail: bytes.length % RAW });
+
+/** An image, without a cue sheet, as a track that was opened. */
+export const trackIn = image => openTrack({ sheet: null, files: [image], tracks: [{ number: 1, type: '', file: 0, block: image.base, sectors: image.sectors, image, part: image }] });
+
+export const trackOf = (bytes, base, reader) => trackIn(imageOf(bytes, base, reader));
 
 /** A consistent sector. */
 export const sound = (block, user) => calls.encode(calls.address(block) ?? Uint8Array.of(1, 2, 3), user);

@@ -12,7 +12,7 @@ const { applyPatches, passPatched } = await core('script/patches.js');
 const { PieceKeeper, bytesOfPieces } = await core('bytes.js');
 const { pieceReader } = await core('piece_reader.js');
 const { ReadAhead } = await core('read_ahead.js');
-const { MOST_SECTORS } = await core('sectors/sector.js');
+const { MOST_SECTORS } = await core('module/numbers.js');
 
 const BASE = 30;
 const image = someImage(diceOf(5), 2600, BASE, 123);

@@ -10,9 +10,10 @@ const { sheetOf } = await core('disc/cue.js');
 const { natureOf } = await core('disc/file_type.js');
 const { findIn } = await core('texts/find.js');
 const { filesOf, wholeFile } = await core('iso/files.js');
-const { Crew, localHand } = await core('jobs.js');
-const { replaceFile } = await core('script/replace_file.js');
-const { tableOf } = await core('texts/encodings.js');
+const { Crew, localHand } = await core('crew/crew.js');
+const { JOBS } = await core('jobs/jobs.js');
+const { replaceFile } = await core('tasks/replace_file.js');
+const { tableOf } = await core('encodings/encodings.js');
 const { calls } = await import('./common.mjs');
 
 // A processor that other tests share takes up to twice as long.
@@ -61,7 +62,7 @@ for (const [what, { table, text, fault: due = '' }] of Object.entries(TABLES)) {
 }
 
 test('a long text that is no UTF-8 is read in little memory', () => {
-    const read = `const { textOfFile } = await import(${JSON.stringify(coreFile('texts/encodings.js'))});
+    const read = `const { textOfFile } = await import(${JSON.stringify(coreFile('encodings/encodings.js'))});
         console.log(textOfFile(new Uint8Array(16000000).fill(0x0A).fill(0xFF, 7, 8)).length);`;
     const { stdout, status } = spawnSync(process.execPath, ['--max-old-space-size=100', '--input-type=module', '-e', read], { encoding: 'utf8' });
     assert.deepStrictEqual([stdout, status], ['16000000\n', 0]);
@@ -142,7 +143,7 @@ test('a file of many extents looks at each a few times', async () => {
     const sectors = 2 * count + 30;
     const image = { base: 0, sectors, reader: { size: 2352 * sectors, read: async (at, length) => sector.slice(0, length) } };
     const file = { ...wholeFile(entries), names };
-    const { left } = await replaceFile(calls, new Crew([localHand(calls)]), image, file, readerOf(new Uint8Array(2048 * count - 1)));
+    const { left } = await replaceFile(calls, new Crew([localHand(calls, JOBS)]), image, file, readerOf(new Uint8Array(2048 * count - 1)));
     assert.deepStrictEqual(left, []);
     assert.ok(reads < 100 * count, `${reads}`);
 });

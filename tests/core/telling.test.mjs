@@ -8,8 +8,8 @@ const { TextTeller } = await core('texts/telling.js');
 const { allScores, tableScores } = await core('texts/scores.js');
 const { cellOf } = await core('texts/codes.js');
 const { keptOf } = await core('texts/told.js');
-const { encodingOf, tableOf } = await core('texts/encodings.js');
-const { encodeText } = await core('texts/encoding.js');
+const { encodingOf, tableOf } = await core('encodings/encodings.js');
+const { encodeText } = await core('encodings/encoding.js');
 
 const teller = new TextTeller();
 

@@ -5,10 +5,10 @@ import { createHash } from 'node:crypto';
 import { test } from 'node:test';
 import { ENCODINGS_KNOWN, core } from './common.mjs';
 
-const { ENCODINGS, encodingOf, tableOf, textOfFile } = await core('texts/encodings.js');
-const { encodeText, fillsOf, spaceIn, usualBytes } = await core('texts/encoding.js');
+const { ENCODINGS, encodingOf, tableOf, textOfFile } = await core('encodings/encodings.js');
+const { encodeText, fillsOf, spaceIn, usualBytes } = await core('encodings/encoding.js');
 const { cellOf, unitsOfCell } = await core('texts/codes.js');
-const { leftOutText } = await core('texts/table.js');
+const { leftOutText } = await core('encodings/table.js');
 const { unitsAlike } = await core('texts/alike.js');
 
 /** @param {Uint8Array} bytes */

@@ -5,15 +5,19 @@ import { test } from 'node:test';
 import { MESSAGES } from '../lib/messages.mjs';
 import { calls, core, decoded, diceOf, encoded, joinedPieces, readerOf, sameBytes, someImage } from './common.mjs';
 import { localCrew } from './crews.mjs';
-import { RAW, blocksOf, changedImage, countOf, patchedBy, sectorAt, sound, soundImage, textOf } from './pairs.mjs';
+import { RAW, blocksOf, changedImage, countOf, patchedBy, sectorAt, sound, soundImage, textOf, trackOf } from './pairs.mjs';
 
-const { undoScript } = await core('script/undo.js');
-const { compareImages } = await core('images/compare.js');
-const { Refusal, readScript } = await core('script/script.js');
+const { undoScript } = await core('tasks/undo.js');
+const { compareTrack } = await core('tasks/compare.js');
+const { readScript } = await core('script/script.js');
 const { applyPatches } = await core('script/patches.js');
 
 const BASE = 60;
-const undone = (image, script, how = {}) => undoScript(calls, readerOf(image), Array.isArray(script) ? script : [encoded(script)], { base: BASE, ...how });
+const ENGINE = { calls, crew: localCrew() };
+const undone = (image, script, options = {}, watch = {}, track = trackOf(image, BASE)) =>
+    undoScript(ENGINE, track, Array.isArray(script) ? script : [encoded(script)], options, watch);
+/** What a script of a base has before its patches. */
+const head = version => `cdpatch ${version}\n# base ${BASE}\n`;
 
 /** The image after a script, with what was refused. */
 async function after(image, script, carry) {
@@ -48,8 +52,14 @@ for (const carry of [false, true]) {
             const image = someImage(dice, 25, BASE, 7);
             const script = someScript(dice, 12, 25);
             const patched = await after(image, script, carry);
-            const { script: undo, patched: { text }, left } = await undone(image, script, { carry });
-            assert.equal(decoded(text), patched.text);
+            const made = await undone(image, script, { carry });
+            const refused = Number(/ refused (\d+)\n$/.exec(patched.text)[1]);
+            if (made.script === null) {
+                assert.deepEqual([made, differing(image, patched.image)], [{ script: null, why: 'refused', refused }, []]);
+                continue;
+            }
+            const { script: undo, left } = made;
+            assert.equal(made.refused, refused);
             const restored = await patchedBy(undo, patched.image, BASE, carry);
             const lost = differing(image, restored);
             assert.deepEqual(blocksOf(left).map(it => it.block), lost);
@@ -82,15 +92,15 @@ test('a rebuild of damage is named, and one of a sound sector is nothing', async
     image[2300] ^= 1;
     const { script, left } = await undone(image, `cdpatch 1\nrebuild ${BASE}\nrebuild ${BASE + 1}\nset ${BASE} 0 55\n`);
     assert.deepEqual(left, [{ first: BASE, last: BASE, why: 'damaged', kinds: [] }]);
-    assert.equal(textOf(script), `cdpatch 1\nset ${BASE} 0 ${Buffer.from(image.subarray(16, 17)).toString('hex').toUpperCase()} was 55\n`);
+    assert.equal(textOf(script), `${head(1)}set ${BASE} 0 ${Buffer.from(image.subarray(16, 17)).toString('hex').toUpperCase()} was 55\n`);
 });
 
 test('patches of one byte after the other are taken back to the first old byte', async () => {
     const image = Buffer.concat([0, 1].map(i => sound(BASE + i, new Uint8Array(2048).fill(0x10 + i))));
     const script = `cdpatch 1\nset ${BASE} 2047 AABB\nset ${BASE} 2047 CC was AA\nset ${BASE + 1} 0 DD\nset ${BASE} 2046 EE\nset ${BASE} 2046 EF\n`;
-    const { script: undo, patched } = await undone(image, script);
-    assert.equal(textOf(undo), `cdpatch 1\nset ${BASE} 2046 1010 was EFCC\nset ${BASE + 1} 0 11 was DD\n`);
-    assert.equal(patched.status, 0);
+    const { script: undo, refused } = await undone(image, script);
+    assert.equal(textOf(undo), `${head(1)}set ${BASE} 2046 1010 was EFCC\nset ${BASE + 1} 0 11 was DD\n`);
+    assert.equal(refused, 0);
 });
 
 test('patches that overlap are taken back from the last to the first', async () => {
@@ -104,22 +114,20 @@ test('patches that overlap are taken back from the last to the first', async () 
 
 test('undo takes back only what was applied', async () => {
     const image = soundImage(diceOf(4), 2, BASE);
-    const { script, patched } = await undone(image, `cdpatch 1\nset ${BASE} 0 01 was 77\nset ${BASE + 9} 0 01\nset ${BASE + 1} 7 99\n`);
-    assert.equal(patched.status, 1);
-    assert.equal(decoded(patched.text).split('\n').slice(-2)[0], 'applied 1 refused 2');
-    assert.equal(script.patches, 1);
+    const { script, refused } = await undone(image, `cdpatch 1\nset ${BASE} 0 01 was 77\nset ${BASE + 9} 0 01\nset ${BASE + 1} 7 99\n`);
+    assert.deepEqual([script.patches, refused], [1, 2]);
 });
 
 test('a script that changes nothing can not be taken back, but for one without patches', async () => {
     const image = soundImage(diceOf(6), 2, BASE);
-    const nothing = { name: 'Fault', message: /^the image already has what the script writes, so nothing can be taken back: / };
+    const nothing = { script: null, why: 'unchanged' };
     const script = `cdpatch 2\nset ${BASE} 7 0102\nset ${BASE + 1} 2047 AA\nfill ${BASE} 9 3 04\naddress ${BASE} 00:00:09\nrebuild ${BASE}\n`;
     const patched = await after(image, script, false);
-    await assert.rejects(undone(patched.image, script), nothing);
-    await assert.rejects(undone(image, `cdpatch 1\nrebuild ${BASE}\n`), nothing);
+    assert.deepEqual(await undone(patched.image, script), nothing);
+    assert.deepEqual(await undone(image, `cdpatch 1\nrebuild ${BASE}\n`), nothing);
     assert.equal((await undone(patched.image, `${script}set ${BASE} 8 FF\n`)).script.patches, 1);
-    assert.equal((await undone(patched.image, `cdpatch 1\nset ${BASE} 7 01 was 77\n`)).patched.status, 1);
-    assert.equal(textOf((await undone(image, 'cdpatch 1\n')).script), 'cdpatch 1\n');
+    assert.deepEqual(await undone(patched.image, `cdpatch 1\nset ${BASE} 7 01 was 77\n`), { script: null, why: 'refused', refused: 1 });
+    assert.equal(textOf((await undone(image, 'cdpatch 1\n')).script), head(1));
     const hurt = image.slice();
     hurt[2300] ^= 1;
     const { script: undo, left } = await undone(hurt, `cdpatch 1\nrebuild ${BASE}\n`);
@@ -131,7 +139,7 @@ test('undo reads the image once, forward, be patches near one another or not', a
     for (const step of [1, 7]) {
         const lines = Array.from({ length: 3000 / step }, (_, i) => `set ${BASE + step * i} 0 ${Buffer.of(~image[RAW * step * i + 16]).toString('hex')}\n`);
         const reader = readerOf(image);
-        const { script } = await undoScript(calls, reader, [encoded(`cdpatch 1\n${lines.join('')}`)], { base: BASE });
+        const { script } = await undone(image, `cdpatch 1\n${lines.join('')}`, {}, {}, trackOf(image, BASE, reader));
         assert.equal(script.patches, lines.length);
         reader.reads.slice(1).forEach(({ at }, i) => assert.ok(at >= reader.reads[i].at + reader.reads[i].length, `a read at ${at}, ${step} blocks`));
     }
@@ -142,31 +150,47 @@ test('undo of diff gives OLD', async () => {
         const dice = diceOf(700 + seed);
         const old = soundImage(dice, 40, BASE);
         const fresh = changedImage(dice, old, ['bytes', 'run', 'whole', 'address', 'both']);
-        const { script } = await compareImages(calls, localCrew(), readerOf(old), readerOf(fresh), { base: BASE });
+        const { script } = await compareTrack(ENGINE, trackOf(old, BASE), readerOf(fresh));
         const { script: undo, left } = await undone(old, script.pieces, { long: true });
         assert.deepEqual(left, []);
         sameBytes(await patchedBy(undo, fresh, BASE), old, `seed ${seed}`);
     }
 });
 
-test('a script with a fault, a long one, and a read that fails', async () => {
+test('a script with a fault, one of a different base, a long one, and a read that fails', async () => {
     const image = soundImage(diceOf(5), 4, BASE);
-    const refusal = await undone(image, 'cdpatch 1\nput 1\n');
-    assert.ok(refusal instanceof Refusal && decoded(refusal.text) === `script line 2: ${MESSAGES.unknown_verb}\n`, decoded(refusal.text));
+    assert.deepEqual(await undone(image, 'cdpatch 1\nput 1\n'), { script: null, why: 'error', line: `script line 2: ${MESSAGES.unknown_verb}` });
+    const bases = [{ line: 2, base: BASE }, { line: 3, base: BASE + 1 }];
+    assert.deepEqual(await undone(image, `${head(1)}# base ${BASE + 1}\nset ${BASE} 0 01\n`), { script: null, why: 'base', bases });
     const long = `cdpatch 1\n${`rebuild ${BASE}\n`.repeat(65536)}`;
-    assert.ok(await undone(image, long) instanceof Refusal);
+    assert.equal((await undone(image, long)).why, 'error');
     const short = `cdpatch 1\nset ${BASE} 0 ${Buffer.of(~image[16]).toString('hex')}\n`;
     assert.equal(textOf((await undone(image, `${long}${short.slice(10)}`, { long: true })).script), textOf((await undone(image, short)).script));
     const script = `cdpatch 1\nset ${BASE} 0 01\nset ${BASE + 3} 0 01\n`;
-    const { reads } = await (async () => { const it = readerOf(image); await undoScript(calls, it, [encoded(script)], { base: BASE }); return it; })();
-    for (let fault = 0; fault < reads.length; fault++) {
+    const whole = readerOf(image);
+    await undone(image, script, {}, {}, trackOf(image, BASE, whole));
+    for (let fault = 0; fault < whole.reads.length; fault++) {
         const reader = readerOf(image);
         const failing = { size: image.length, read: async (at, length) => {
             if (reader.reads.length === fault) throw new Error(`no read ${fault}`);
             return reader.read(at, length);
         } };
-        await assert.rejects(undoScript(calls, failing, [encoded(script)], { base: BASE }), { message: `no read ${fault}` });
+        await assert.rejects(undone(image, script, {}, {}, trackOf(image, BASE, failing)), { message: `no read ${fault}` });
     }
     const shrunk = { ...readerOf(image.subarray(0, 3 * RAW)), size: image.length };
-    await assert.rejects(undoScript(calls, shrunk, [encoded(script)], { base: BASE }), { code: 'image ended' });
+    await assert.rejects(undone(image, script, {}, {}, trackOf(image, BASE, shrunk)), { code: 'image ended' });
+});
+
+test('an undo says how many sectors it has come to, and one that is cancelled gives no script', async () => {
+    const image = soundImage(diceOf(9), 3000, BASE);
+    const script = `cdpatch 1\n${Array.from({ length: 3000 }, (_, i) => `set ${BASE + i} 0 ${Buffer.of(~image[RAW * i + 16]).toString('hex')}\n`).join('')}`;
+    const told = [];
+    await undone(image, script, {}, { progress: (done, all) => { told.push(done); assert.equal(all, 3000); } });
+    assert.deepEqual([told[0], [...told].sort((a, b) => a - b), told.at(-1) > 2000], [0, told, true]);
+    const signal = { aborted: false };
+    const ended = undone(image, script, {}, { signal, progress: done => { signal.aborted = done > 0; } });
+    await assert.rejects(ended, { code: 'cancelled' });
+    const late = { aborted: false };
+    const crew = { given: async (...given) => { late.aborted = true; return ENGINE.crew.given(...given); } };
+    await assert.rejects(undoScript({ calls, crew }, trackOf(image, BASE), [encoded(script.split('\n').slice(0, 2).join('\n'))], {}, { signal: late }), { code: 'cancelled' });
 });

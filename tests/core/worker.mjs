@@ -4,8 +4,9 @@ import { parentPort, workerData } from 'node:worker_threads';
 import { core } from './common.mjs';
 
 const { Calls } = await core('module/calls.js');
-const { serving, transfersOf } = await core('jobs.js');
-const serve = serving(new Calls(workerData));
+const { serving, transfersOf } = await core('crew/crew.js');
+const { JOBS } = await core('jobs/jobs.js');
+const serve = serving(new Calls(workerData), JOBS);
 parentPort.on('message', message => {
     const reply = serve(message);
     parentPort.postMessage(reply, transfersOf(reply));

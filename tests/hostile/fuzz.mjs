@@ -14,8 +14,8 @@ const { Fault } = await core('faults.js');
 const { sheetOf, tracksOf } = await core('disc/cue.js');
 const { KnownDumps } = await core('disc/dat.js');
 const { filesOf } = await core('iso/files.js');
-const { tableOf } = await core('texts/encodings.js');
-const { listRows } = await core('texts/list.js');
+const { tableOf } = await core('encodings/encodings.js');
+const { listRows } = await core('tasks/list.js');
 const { readScript } = await core('script/script.js');
 const { checksum, readPatcherText } = await page('player/patcher.js');
 

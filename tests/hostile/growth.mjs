@@ -10,12 +10,13 @@ const { sheetOf } = await core('disc/cue.js');
 const { KnownDumps } = await core('disc/dat.js');
 const { fileOrder } = await core('iso/file_order.js');
 const { filesOf, wholeFile } = await core('iso/files.js');
-const { Crew, localHand } = await core('jobs.js');
-const { replaceFile } = await core('script/replace_file.js');
+const { Crew, localHand } = await core('crew/crew.js');
+const { JOBS } = await core('jobs/jobs.js');
+const { replaceFile } = await core('tasks/replace_file.js');
 const { readScript } = await core('script/script.js');
 const { codesLeftOut } = await core('texts/codes.js');
-const { encodingOf, tableOf } = await core('texts/encodings.js');
-const { listRows, replaceList } = await core('texts/list.js');
+const { encodingOf, tableOf } = await core('encodings/encodings.js');
+const { listRows, replaceList } = await core('tasks/list.js');
 const { ScriptModel } = await core('script/model.js');
 const { mergedLines } = await core('script/merge_lines.js');
 const { readPatcherText } = await page('player/patcher.js');
@@ -75,7 +76,7 @@ function replacedParts(count) {
         const file = wholeFile(entries);
         fileOrder({ reader, base: 0, sectors }, entries);
         const names = { entries, files: entries, udf: false, own: new Map(), tables: [] };
-        await replaceFile(calls, new Crew([localHand(calls)]), { base: 0, reader, sectors }, { ...file, names }, empty);
+        await replaceFile(calls, new Crew([localHand(calls, JOBS)]), { base: 0, reader, sectors }, { ...file, names }, empty);
     };
 }
 

@@ -11,8 +11,8 @@ const { Fault } = await core('faults.js');
 const { stretchesOf } = await core('texts/all_texts.js');
 const { rowText } = await core('texts/cells.js');
 const { cellOf, unitsOfCell } = await core('texts/codes.js');
-const { ENCODINGS, SEARCHED, tableOf } = await core('texts/encodings.js');
-const { listRows, replaceList } = await core('texts/list.js');
+const { ENCODINGS, SEARCHED, tableOf } = await core('encodings/encodings.js');
+const { listRows, replaceList } = await core('tasks/list.js');
 
 const USER = 2048;
 const SECTORS = 40;

@@ -65,16 +65,20 @@ test_by_name() {
 
 tests_in_node() { node --test-reporter=tap "$@" > tap 2>&1; }
 
-# refuse_wrong SUITE WHAT EXPRESSION: tries the wrong versions of a suite. Of what held, sed's expression makes the names of the tests that
-# pass on the right version.
+# refuse_wrong SUITE WHAT EXPRESSION: tries the wrong versions of a suite, all with WRONG_VERSIONS=all, and else those that are new or
+# changed and a fifth of the others. sed's expression makes the names of the tests that pass on the right version from the names of what held.
 refuse_wrong() {
-    local verdict name why number=0
-    wrong_versions "wrong ${2}s" || return
+    local verdict name why has_ended=false which=()
+    wrong_versions "wrong versions of the $2" || return
+    if [ "$WRONG_VERSIONS" = all ]; then which=(--record); else which=(--fifth "$(git -C "$top" rev-parse HEAD 2> /dev/null)"); fi
     sed -n "$3" "$scratch/held" > passed
     while read -r verdict name why; do
-        number=$((number + 1))
         name=${name%:}
         case $verdict in
+            tried)
+                has_ended=true
+                echo "wrong versions of the $2: $verdict $name $why"
+                ;;
             refused)
                 judge "a wrong $2 is refused: ${name//_/ }" true
                 [ -z "$why" ] || echo "unsteady: a wrong $2 is refused: ${name//_/ }"
@@ -82,8 +86,8 @@ refuse_wrong() {
             skipped) skip "a wrong $2 is refused: ${name//_/ }: $why" ;;
             *) judge "a wrong $2 is refused: $verdict $name: $why" false ;;
         esac
-    done < <(/usr/bin/python3 -B "$tests/wrong/versions.py" "$1" --passed passed 2>&1)
-    judge "each wrong $2 was tried" test "$number" -ge "$(find "$tests/wrong/$1" -name '*.edit' | wc -l)"
+    done < <(/usr/bin/python3 -B "$tests/wrong/versions.py" "$1" --passed passed "${which[@]}" 2>&1)
+    judge "the wrong ${2}s were tried to the end" "$has_ended"
 }
 
 # run WORD..: the program with these words, its text in `log`.

@@ -1,6 +1,8 @@
 /* Rounds of one call of libcdpatch, for a count of instructions: `bench ROW ROUNDS`; without arguments it names the rows. `bench stack`
  * prints of each row its call, and how many bytes of stack one round takes. */
 #define _DEFAULT_SOURCE
+/* It measures calls, and does not look at their results. */
+#define CDPATCH_NODISCARD
 #include <cdpatch.h>
 #include <signal.h>
 #include <stdio.h>

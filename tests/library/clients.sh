@@ -44,13 +44,39 @@ test_printed_client() {
     judge 'it fails on a full disk' ends_with 2 client_fills_a_disk
     if compiler g++ g++; then
         judge 'as C++20 it compiles without a warning' g++ -x c++ -std=c++20 "${strict[@]}" -I . -c "$tests/library/header_client.c" -o plus.o
-        sed 's/, CDPATCH_SECTORS_IN_HAND = 3 };/ }; enum { CDPATCH_SECTORS_IN_HAND = 3 };/' "$header" > cdpatch.h
+        sed 's/, CDPATCH_SECTORS_IN_HAND = 3,/ }; enum { CDPATCH_SECTORS_IN_HAND = 3,/' "$header" > cdpatch.h
         judge 'with sizes in two enums it would not' eval '! cmp -s cdpatch.h "$header" && ! g++ -x c++ -std=c++20 -Wall -Werror -I . \
             -c "$tests/library/header_client.c" -o plus.o 2> errors'
     fi
     wrong_versions 'wrong clients' || return
     judge 'a client is refused that takes a failed file for the end' wrong_client '/CDPATCH_MOVE_FAILED/d' holds ./header_client
     judge 'one is refused that leaves bytes in a buffer' wrong_client 's/fflush(out) || //' holds ./header_client
+}
+
+# forgets CALL: a program `forgets.c` that does not look at what a call returns.
+forgets() {
+    printf '%s\n' '#include <cdpatch.h>' 'int main(void) {' 'static uint8_t bytes[9408];' 'size_t length;' "$1;" '(void)length;' 'return 0; }' \
+        > forgets.c
+}
+
+# warns_of_it COMPILER..: whether a compiler warns of that.
+warns_of_it() { ! "$@" -Wall -Wextra -Werror -I "$top/include" -c forgets.c -o forgets.o 2> errors && grep -q 'unused-result' errors; }
+
+test_forgotten_results() {
+    local call languages=(c99) language compiler
+    ! command -v g++ > log || languages+=(c++98 c++20)
+    for language in "${languages[@]}"; do
+        compiler=(gcc "-std=$language")
+        [ "$language" = c99 ] || compiler=(g++ -x c++ "-std=$language")
+        for call in 'cdpatch_change_user(bytes, 2047, bytes + 2352, 2)' 'cdpatch_rebuild(bytes)' \
+            'cdpatch_survey(bytes, 1, 0, (struct cdpatch_record *)bytes, 2)' 'cdpatch_list(bytes, 0, 0, bytes, 0, &length)'; do
+            forgets "$call"
+            judge "a compiler warns if nobody looks at what a call returns: $language: $call" warns_of_it "${compiler[@]}"
+            judge 'and does not with -DCDPATCH_NODISCARD=' refuses warns_of_it "${compiler[@]}" -DCDPATCH_NODISCARD=
+        done
+        forgets 'cdpatch_edc(bytes, 1)'
+        judge "no compiler warns of a call that cannot fail: $language" refuses warns_of_it "${compiler[@]}"
+    done
 }
 
 # starts_in KILOBYTES PROGRAM: whether a program can start with so much memory.

@@ -139,7 +139,7 @@ static void check_patches(uint8_t *image, size_t size, unsigned n) {
     struct asked it = {APPLY, image, size, "cdpatch 1\nset 0 7 41\n", 0, false, size + 3, 0, 0, 0, NULL, NULL};
     uint8_t wanted[2 * SECTOR + TAIL];
     memcpy(wanted, image, size);
-    cdpatch_change_user(wanted, 7, (const uint8_t *)"A", 1);
+    judge(cdpatch_change_user(wanted, 7, (const uint8_t *)"A", 1) == CDPATCH_OK, "what is wanted is made", n);
     expect_both(it, CDPATCH_DONE, "line 2: applied\napplied 1 refused 0\n", wanted, n);
     it.base = 449849;
     expect_both(it, CDPATCH_FOUND, "line 2: refused: no block 0\napplied 0 refused 1\n", image, n);
@@ -148,7 +148,7 @@ static void check_patches(uint8_t *image, size_t size, unsigned n) {
     expect_both(it, CDPATCH_FOUND, "line 3: applied\nline 2: refused: no block 2\napplied 1 refused 1\n", wanted, n);
     it.script = "cdpatch 2\naddress 0 12:34:56\n";
     memcpy(wanted, image, size);
-    cdpatch_change_address(wanted, (const uint8_t *)"\x12\x34\x56");
+    judge(cdpatch_change_address(wanted, (const uint8_t *)"\x12\x34\x56") == CDPATCH_OK, "what is wanted is made", n);
     expect_both(it, CDPATCH_DONE, "line 2: applied\napplied 1 refused 0\n", wanted, n);
     it.script = "";
     expect_both(it, CDPATCH_FAILED, "script line 1: no cdpatch 1 line\n", NULL, n);
@@ -161,7 +161,7 @@ static void check_damage(uint8_t *image, size_t size, unsigned n) {
     uint8_t wanted[2 * SECTOR + TAIL];
     image[2351] ^= 1;
     memcpy(wanted, image, size);
-    cdpatch_carry_user(wanted, 7, (const uint8_t *)"A", 1);
+    judge(cdpatch_carry_user(wanted, 7, (const uint8_t *)"A", 1) == CDPATCH_OK, "what is wanted is made", n);
     expect(it, CDPATCH_FOUND, "0 q=1\nsectors 2 mode1 2 damaged 1 tail 5\n", NULL, n);
     expect_both(it, CDPATCH_FOUND, "line 2: refused: block 0 is damaged\napplied 0 refused 1\n", image, n);
     it.carry = true;
@@ -186,7 +186,7 @@ static void check_outputs(const uint8_t *image, size_t size, unsigned n) {
     static const size_t sizes[] = {0, 1, SECTOR - 1, SECTOR, 2 * SECTOR, 2 * SECTOR + TAIL - 1, 2 * SECTOR + TAIL};
     uint8_t wanted[2 * SECTOR + TAIL];
     memcpy(wanted, image, size);
-    cdpatch_change_user(wanted, 7, (const uint8_t *)"A", 1);
+    judge(cdpatch_change_user(wanted, 7, (const uint8_t *)"A", 1) == CDPATCH_OK, "what is wanted is made", n);
     for (int i = 0; i < 14; i++) {
         struct asked it = {APPLY, image, size, "cdpatch 1\nset 0 7 41\n", 0, false, sizes[i / 2], MOST, 0, 0, NULL, NULL};
         const char *reason = "cdpatch: writing the output failed\n";

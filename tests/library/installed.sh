@@ -1,4 +1,4 @@
-# Clients of the library as it is installed from a tarball, and clients of earlier releases. tests/library/run has what these use.
+# Clients of the library as it is installed, and clients of earlier releases. tests/library/run has what these use.
 
 # with_package PREFIX COMMAND..: a command that finds the installed package.
 with_package() {
@@ -7,22 +7,20 @@ with_package() {
     PKG_CONFIG_PATH=$prefix/lib/pkgconfig LD_LIBRARY_PATH=$prefix/lib "$@"
 }
 
-# Installs a tarball below root/usr, as a package does, with neither the toolchain nor the sources.
-install_tarball() {
-    mkdir tarball completions
+# Installs the library below root/usr, as a package does, without the toolchain, of a tree with links to the sources and to what was built.
+install_tree() {
+    mkdir tree completions
     : | tee completions/{_cdpatch,cdpatch.bash} > completions/cdpatch.fish
-    COMPLETIONS=$PWD/completions bash "$top/tools/dist.sh" "$program" library . tarball > checksum 2> log
-    tar -C tarball -xzf tarball/*.tar.gz
-    PATH=/usr/bin:/bin make --no-print-directory -s -C tarball/*linux install DESTDIR="$PWD/root" PREFIX=/usr
-    rm -r tarball/*linux
+    ln -s "$top"/* tree
+    rm -rf tree/{cdpatch,cdscript,cdpatch.html,library,completions}
+    ln -s "$program" tree/cdpatch
+    ln -s "$PWD"/{library,completions} tree
+    install_once_more DESTDIR="$PWD/root" PREFIX=/usr
     documents=$PWD/root/usr/share/doc/cdpatch
 }
 
-# install_once_more VARIABLE=VALUE..: installs the tarball elsewhere.
-install_once_more() {
-    tar -xzf tarball/*.tar.gz
-    PATH=/usr/bin:/bin make --no-print-directory -s -C cdpatch-*-linux install "$@" && rm -r cdpatch-*-linux
-}
+# install_once_more VARIABLE=VALUE..: installs it elsewhere.
+install_once_more() { PATH=/usr/bin:/bin make --no-print-directory -s -C tree install "$@"; }
 
 # compiles_below_a_space: whether ten lines compile with the flags of pkg-config below a prefix with a space.
 compiles_below_a_space() {
@@ -41,8 +39,8 @@ compiles_without_quotes() {
     eval "gcc -std=c99 \"\$tests/library/ten_lines.c\" $flags -o ten_lines_below" 2> errors
 }
 
-# compiles_as_said PREFIX LIBDIR NUMBER [PAGE]: whether ten lines compile by the command of this number that INSTALL has for pkg-config, whose
-# `moved` is this PREFIX, and print what they should.
+# compiles_as_said PREFIX LIBDIR NUMBER [PAGE]: whether ten lines compile by the command of this number that INSTALL has for pkg-config,
+# whose `moved` is this PREFIX, and print what they should.
 compiles_as_said() {
     local command
     command=$(grep -E '^    cc .*pkg-config' "${4-$documents/docs/INSTALL.md}" | sed -n "$3p")
@@ -106,6 +104,13 @@ cmake_takes() {
         cmake --build built >> cmake.log 2>&1 && [ "$(built/shared)" = '5F0017BC 1' ] && [ "$(built/static)" = '5F0017BC 1' ]
 }
 
+# unsuitable BYTES: whether the version file refuses programs whose pointers have so many bytes.
+unsuitable() {
+    printf '%s\n' "set(CMAKE_SIZEOF_VOID_P $1)" "include($PWD/moved/lib/cmake/cdpatch/cdpatch-config-version.cmake)" 'set(answer no)' \
+        'if(PACKAGE_VERSION_UNSUITABLE)' 'set(answer yes)' 'endif()' 'message(${answer})' > ask.cmake
+    cmake -P ask.cmake 2>&1
+}
+
 test_cmake() {
     local cdpatch_version
     missing cmake cmake 'find_package of an installed library' && return
@@ -119,6 +124,7 @@ test_cmake() {
     judge 'find_package of a range that ends before it' refuses cmake_takes 1.0...1.1
     judge 'find_package of a range that ends just before it' refuses cmake_takes "1.0...<$cdpatch_version"
     judge 'find_package of a range after it' refuses cmake_takes 1.98...1.99
+    judge 'find_package for 32-bit pointers' test "$(unsuitable 8) $(unsuitable 4)" = 'no yes'
     wrong_versions 'a wrong version file of CMake' || return
     sed -i '/^if(PACKAGE_FIND_VERSION_RANGE)$/,/^endif()$/d' moved/lib/cmake/cdpatch/cdpatch-config-version.cmake
     judge 'a version file that knows no ranges is refused' cmake_takes 1.0...1.1
@@ -175,6 +181,7 @@ test_python_client() {
     judge 'pip knows its version' test "$(PYTHONPATH=site "$python" -m pip list --path site 2> errors | sed -n 's/^cdpatch  *//p')" = \
         "$("$program" --help | sed -n '$s/cdpatch //p')"
     test_wheel "$python"
+    test_sdist "$python"
     test_editable "$python"
 }
 
@@ -208,7 +215,30 @@ test_wheel() {
     wrong_versions 'wrong wheels' || return
     refuses_backend 's/pure = not _has_library(files)/pure = True/' "$python" 'takes itself for any system'
     refuses_backend 's/^    if not pure:$/    if False:/' "$python" 'has the notices elsewhere'
-    refuses_backend "s/, help_text or ''//" "$python" 'has no description'
+    refuses_backend "s/needs + (help_text or '')/''/" "$python" 'has no description'
+}
+
+# says_what_it_needs DIRECTORY: whether an archive of the sources that is unpacked there has no library, and says that it needs one.
+says_what_it_needs() {
+    [ -z "$(find "$1" -name 'libcdpatch*' -o -name NOTICES)" ] && grep -qx 'Requires-External: libcdpatch (>=[0-9.]*)' "$1"/*/PKG-INFO &&
+        grep -q '^This distribution has no library\.' "$1"/*/PKG-INFO
+}
+
+test_sdist() {
+    local python=$1
+    mkdir sdist
+    judge 'an archive of the sources' eval '(cd bundle && "$python" -B -c "import backend; backend.build_sdist(\"../sdist\")")'
+    judge 'pip makes a package of it' holds "$python" -m pip --disable-pip-version-check install --no-index --quiet --target site3 sdist/*.tar.gz
+    judge 'which works with an installed library' python_as_program env PYTHONPATH=site3 LD_LIBRARY_PATH=root/usr/lib "$python"
+    judge 'and names it if there is none' eval '! env -u CDPATCH_LIBRARY PYTHONPATH=site3 "$python" -B -c "import cdpatch" 2> log &&
+        grep -q "ImportError: cdpatch cannot load its library: libcdpatch.so.1" log'
+    tar -C sdist -xzf sdist/*.tar.gz
+    judge 'it says what it needs' says_what_it_needs sdist
+    wrong_versions 'a wrong archive of the sources' || return
+    sed 's/if Path(name).name not in (LIBRARY, NOTICES)/if name/' bundle/backend.py > bundle/other.py
+    mkdir sdist2
+    (cd bundle && "$python" -B -c 'import other; other.build_sdist("../sdist2")') && tar -C sdist2 -xzf sdist2/*.tar.gz
+    judge 'one with the library is refused' refuses says_what_it_needs sdist2
 }
 
 # refuses_backend EXPRESSION PYTHON WHAT: judges that the wheel by a backend that sed's expression changes is refused.
@@ -258,25 +288,35 @@ test_clients_of_1_1() {
     judge 'a library in which a call is gone is refused' refuses env LD_LIBRARY_PATH=gone old/check "$vectors"
 }
 
-# compiled_before DIRECTORY TEST: a test in C by the header of 1.2.0 there, and by the calls of that release.
+# compiled_before HEADERS TEST: a test in C by an earlier release's header, which is in a directory, and by the calls of that release. The
+# header of 1.2.0 had no limits.
 compiled_before() {
-    gcc -std=c99 -O2 -Wall -Wextra -Werror -pedantic -I "$1" "$tests/library/$2.c" before/libcdpatch.so.1 \
-        "-DCDPATCH_MOST_PATCHES=$(limit 'patches of a script')" "-DCDPATCH_MOST_SCRIPT_BYTES=$(limit 'bytes of a script')" \
-        -o "before/$2" 2> errors
+    local limits=()
+    grep -q CDPATCH_MOST_PATCHES "$1/cdpatch.h" ||
+        limits=("-DCDPATCH_MOST_PATCHES=$(limit 'patches of a script')" "-DCDPATCH_MOST_SCRIPT_BYTES=$(limit 'bytes of a script')")
+    gcc -std=c99 -O2 -Wall -Wextra -Werror -pedantic -I "$1" "${limits[@]}" "$tests/library/$2.c" before/libcdpatch.so.1 -o "before/$2" 2> errors
 }
 
-# A program that was made with the header of 1.2.0 and its library asks for the versions that the calls had there.
-test_clients_of_1_2() {
-    local test build
-    library_of "$tests/library/1.2.0/calls.map" before
-    for test in check images scripts digest; do
-        compiled_before "$tests/library/1.2.0" "$test"
-        judge "a client of 1.2.0 asks for its versions: $test.c" eval \
-            "readelf -VW before/$test | grep -q CDPATCH_1.[12] && ! readelf -VW before/$test | grep -qE 'CDPATCH_1.([3-9]|[12][0-9])'"
+# test_clients_of RELEASE TEST..: programs that were made with the header of a release and its library ask for the versions that the calls
+# had there, and run with this one. It leaves the last release in `before`.
+test_clients_of() {
+    local release=$1 second=${1#1.} test build arguments
+    rm -rf before
+    library_of "$tests/library/$release/calls.map" before
+    for test in "${@:2}"; do
+        [ "$test" = steps ] && arguments=() || arguments=("$vectors")
+        compiled_before "$tests/library/$release" "$test"
+        judge "a client of $release asks for its versions: $test.c" eval \
+            "readelf -VW before/$test | grep -q CDPATCH_1.[1-${second%.*}] && ! readelf -VW before/$test | grep -qE 'CDPATCH_1.([$((${second%.*} + 1))-9]|[12][0-9])'"
         for build in "${builds[@]}"; do
-            judge "it runs with $build" holds env LD_LIBRARY_PATH="${build%/*}" "before/$test" "$vectors"
+            judge "it runs with $build" holds env LD_LIBRARY_PATH="${build%/*}" "before/$test" "${arguments[@]}"
         done
     done
+}
+
+test_clients_of_earlier_releases() {
+    test_clients_of 1.3.0 check images scripts digest steps
+    test_clients_of 1.2.0 check images scripts digest
     # One in which a call of 1.2.0 has a later version, and a struct that has changed since.
     sed 's/cdpatch_read_line;//; s/cdpatch_run_next;/& cdpatch_read_line;/' "$top/tools/libcdpatch.map" > calls.map
     library_of calls.map raised
@@ -291,9 +331,10 @@ test_clients_of_1_2() {
 test_installed() {
     compiler gcc 'gcc and libc6-dev' || return
     test_clients_of_1_1
-    test_clients_of_1_2
+    test_clients_of_earlier_releases
+    test_forgotten_results
     missing make make 'an installed library' && return
-    install_tarball
+    install_tree
     test_python_client
     missing pkg-config pkg-config 'pkg-config of an installed library' && return
     test_pkg_config

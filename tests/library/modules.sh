@@ -2,15 +2,14 @@
 # has what these functions use.
 
 random_calls=20000
-page_of_modules=$top/docs/MODULES.md
 
 # recorded LIBRARY: random calls by a build.
 recorded() { LD_LIBRARY_PATH=${1%/*} ./random_calls 1 $random_calls; }
 
-# replays MODULE RECORDS: whether a module makes each recorded call in the same way, and at least 31 calls 100 times.
+# replays MODULE RECORDS: whether a module makes each recorded call in the same way, and each 100 times at least.
 replays() {
     node "$tests/library/replay.mjs" "$1" < "$2" > replayed || { cat replayed; false; } &&
-        [ "$(grep ', ' replayed | head -n 1 | tr ',' '\n' | awk '$2 >= 100' | wc -l)" = 31 ]
+        [ -z "$(grep ', ' replayed | head -n 1 | tr ',' '\n' | awk '$2 < 100')" ]
 }
 
 test_random_calls() {
@@ -42,21 +41,21 @@ test_wrong_calls() {
     done
 }
 
-# runs_the_example PAGE: whether the page's example says of a sound sector what tests/model does.
+# runs_the_example: whether the example of docs/MODULES.md says of a sound sector what tests/model does.
 runs_the_example() {
     mkdir -p example
-    sed -n '/^```js$/,/^```$/{/^```/d;p}' "$1" > example/client.mjs
+    sed -n '/^```js$/,/^```$/{/^```/d;p}' "$top/docs/MODULES.md" > example/client.mjs
     cp "$vectors" example/disc.bin
     cp "$top/library/cdpatch.wasm" example
     (cd example && node client.mjs) > said && [ "$(cat said)" = "$(printf 'sound\n%s' "$(edc_of_first_sector)")" ]
 }
 edc_of_first_sector() { od -An -tx4 -j 2064 -N 4 "$vectors" | tr -d ' ' | sed 's/^0*//'; }
 
-# has_the_structs PAGE: whether a compiler gives each struct of the header the size and the places of the page.
+# has_the_structs: whether a compiler gives each struct of the header the size and the places of docs/MODULES.md, by which clients read it.
 has_the_structs() {
     {
         echo '#include <cdpatch.h>'
-        sed -nE 's/^\| `(cdpatch_[a-z0-9_]+)` \| ([0-9]+) \| (.*) \|$/\1 \2 \3/p' "$1" | tr -d '`,' |
+        sed -nE 's/^\| `(cdpatch_[a-z0-9_]+)` \| ([0-9]+) \| (.*) \|$/\1 \2 \3/p' "$top/docs/MODULES.md" | tr -d '`,' |
             awk '{ print "_Static_assert(sizeof(struct " $1 ") == " $2 ", \"size\");"
                 for (i = 3; i < NF; i += 2) print "_Static_assert(offsetof(struct " $1 ", " $i ") == " $(i + 1) ", \"" $i "\");" }'
     } > structs.c
@@ -64,14 +63,9 @@ has_the_structs() {
 }
 
 test_page_of_modules() {
-    [ ${#modules[@]} = 0 ] || judge 'the example of docs/MODULES.md runs' runs_the_example "$page_of_modules"
+    [ ${#modules[@]} = 0 ] || judge 'the example of docs/MODULES.md runs' runs_the_example
     compiler gcc 'gcc and libc6-dev' || return
-    judge 'it has the structs as the compiler lays them out' holds has_the_structs "$page_of_modules"
-    wrong_versions 'a wrong page on the modules' || return
-    sed 's/`value` 10/`value` 11/' "$page_of_modules" > wrong.md
-    judge 'a page with another place is refused' refuses has_the_structs wrong.md
-    sed '/^| `cdpatch_place`/d' "$page_of_modules" > wrong.md
-    judge 'a page without a struct is refused' refuses has_the_structs wrong.md
+    judge 'it has the structs as the compiler lays them out' holds has_the_structs
 }
 
 # has_the_numbers NUMBERS: whether a compiler gives each enumerator, struct and field of the header the number that NUMBERS has for it.

@@ -154,7 +154,7 @@ def declared(header):
 
 def undocumented(header):
     """The declarations before which no comment of Doxygen's stands."""
-    found = re.findall(r'(/\*(?:(?!\*/).)*\*/\n)?^((?:#define CDPATCH_V|enum|struct|\w+ cdpatch_)[^\n]*)', header, re.S | re.M)
+    found = re.findall(r'(/\*(?:(?!\*/).)*\*/\n)?(?:CDPATCH_NODISCARD\n)?^((?:#define CDPATCH_V|enum|struct|\w+ cdpatch_)[^\n]*)', header, re.S | re.M)
     return [f'no comment for Doxygen: {line}' for comment, line in found if not comment.startswith('/**')]
 
 

@@ -270,8 +270,7 @@ static void check_applied(const struct room *it, uint8_t *samples) {
     expect(it, samples, set, 0, true, CDPATCH_NO_BLOCK, 16, 0, "no sectors");
     expect(it, samples, fill, SIZE_MAX, false, CDPATCH_OK, 0, 0, "a count of sectors that wraps");
     memcpy(wanted, samples, SECTOR);
-    cdpatch_change_user(wanted, 7, (const uint8_t *)"\x42", 1);
-    judge(!memcmp(it->sectors, wanted, SECTOR), "a fill is a change", 0);
+    judge(cdpatch_change_user(wanted, 7, (const uint8_t *)"\x42", 1) == CDPATCH_OK && !memcmp(it->sectors, wanted, SECTOR), "a fill is a change", 0);
     set.has_old = 1;
     memcpy(it->old_bytes, samples + 16 + 2047, 1);
     memcpy(it->old_bytes + 1, samples + SECTOR + 16, 2048);

@@ -310,7 +310,11 @@ class Chromium:
     def downloaded(self, name: str, seconds: float = PATIENCE) -> Path:
         """A file that was downloaded under this name, as soon as it is whole: an empty one keeps its place until then."""
         path = self.downloads / name
-        waited(lambda: path.exists() and path.stat().st_size > 0, f'no download {name} among {[it.name for it in self.downloads.iterdir()]}', seconds)
+        try:
+            waited(lambda: path.exists() and path.stat().st_size > 0, f'no download {name}', seconds)
+        except AssertionError as error:
+            error.add_note(f'downloads: {[it.name for it in self.downloads.iterdir()]}; the page: {self.text("main")}')
+            raise
         return path
 
     def asks_before_leaving(self) -> bool:

@@ -1,10 +1,12 @@
 """What the tests of the page share: the page to test, a scratch directory, discs, the program, a loopback server, and waiting."""
 
+import ast
 import functools
 import hashlib
 import http.server
 import json
 import os
+import re
 import shutil
 import subprocess
 import sys
@@ -54,6 +56,15 @@ def wants(command: str, package: str) -> Callable[[Test], Test]:
 def folder(name: str) -> Path:
     """A new directory in the scratch directory."""
     return Path(tempfile.mkdtemp(prefix=f'{name}-', dir=SCRATCH))
+
+
+@functools.cache
+def text(key: str) -> str:
+    """A text of the page, by its key. A test that only waits for it does not repeat it."""
+    english = (TOP / 'web/page/texts/english.js').read_text('utf-8')
+    found = re.search(rf"(?m)^export const {key} = ((?:'.*' \+\n *)*'.*');$", english)
+    assert found, f'the page has no text {key}'
+    return str(ast.literal_eval(re.sub(r'(?m) \+\n *', ' ', found[1])))
 
 
 def encodings() -> list[dict[str, Any]]:

@@ -1,8 +1,14 @@
 // What the tests of the page's logic share: its modules, which WEB names if they are not in web/, and calls.
 
+import { File } from 'node:buffer';
+import { webcrypto } from 'node:crypto';
 import { readFileSync } from 'node:fs';
 import { join } from 'node:path';
 import { fileURLToPath, pathToFileURL } from 'node:url';
+
+// What browsers have and node 18 lacks.
+globalThis.File ??= File;
+globalThis.crypto ??= webcrypto;
 
 export const top = fileURLToPath(new URL('../..', import.meta.url));
 const web = process.env.WEB ?? join(top, 'web');
@@ -41,11 +47,11 @@ class HashWorker {
 /** The parts of a page whose workers hash. */
 export const parts = { module: true, newWorker: () => new HashWorker() };
 
-const { Crew, JOBS, localHand } = await core('jobs.js');
-JOBS.sums = (await page('app/sums_job.js')).sumsJob;
+const { Crew, localHand } = await core('crew/crew.js');
+const { JOBS } = await core('jobs/jobs.js');
 
 /** What hashes images and surveys them, without workers but for the SHA-1. */
-export const summing = { crew: new Crew([localHand(calls)]), parts };
+export const summing = { crew: new Crew([localHand(calls, JOBS)]), parts };
 
 /** An image of sound sectors with this user data, which are filled up with zeros. */
 export function imageOf(users) {

@@ -105,13 +105,8 @@ class PageTest(unittest.TestCase):
     stub = NO_PICKER
     browser: chromium.Chromium
 
-    @classmethod
-    def setUpClass(cls) -> None:
-        cls.browser = chromium.shared(cls.stub)
-
     def setUp(self) -> None:
-        for path in self.browser.downloads.iterdir():
-            path.unlink()
+        self.browser = chromium.shared(self.stub)
         self.browser.open(common.PAGE)
         self.browser.wait('#start h1')
         self.browser.attempts()
@@ -172,6 +167,11 @@ class PageTest(unittest.TestCase):
         self.browser.type('#find-text', text)
         self.press('Find')
         self.browser.wait('#panel-text .hits tbody mark')
+
+    def is_gone(self, css: str) -> None:
+        """Waits until no such element is shown."""
+        gone = '[...document.querySelectorAll(given[0])].every(it => !it.checkVisibility())'
+        self.assertTrue(self.browser.awaited(gone, css), f'{css} stays')
 
     def wait_for_focus(self, css: str) -> None:
         self.assertTrue(self.browser.awaited('document.activeElement.matches(given[0])', css), f'{css} has no focus')

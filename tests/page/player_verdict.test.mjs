@@ -10,9 +10,10 @@ const { reasonForPlayer, reasonsOf, refusalForPlayer } = await page('player/reas
 const { applyPatches } = await page('../core/script/patches.js');
 const { bytesOfPieces } = await page('../core/bytes.js');
 const { isPatched, scriptFor } = await page('save/patch_job.js');
-const { Crew, localHand } = await page('../core/jobs.js');
+const { Crew, localHand } = await page('../core/crew/crew.js');
+const { JOBS } = await page('../core/jobs/jobs.js');
 
-const app = { calls, parts, crew: new Crew([localHand(calls)]) };
+const app = { calls, parts, crew: new Crew([localHand(calls, JOBS)]) };
 const ascii = text => new TextEncoder().encode(text);
 const game = imageOf([ascii('hello'), ascii('world'), ascii('again')]);
 

@@ -8,7 +8,8 @@ const { messageOf, messageParts, sentence } = await page('ui/notices.js');
 
 const { megabytes } = await page('ui/progress.js');
 const { newBytes } = await core('faults.js');
-const { serving } = await core('jobs.js');
+const { serving } = await core('crew/crew.js');
+const { JOBS } = await core('jobs/jobs.js');
 
 test('a size is said alike everywhere: in megabytes, below 100 with a tenth', () => {
     const said = { 0: '0', 428064: '0.4', 7321776: '7.3', 99949999: '99.9', 99950000: '100', 734003200: '734', 2147483648: '2,147' };
@@ -27,7 +28,7 @@ test('want of memory is said as that, whichever browser or worker has met it', c
     context.mock.method(WebAssembly.Memory.prototype, 'grow', () => { throw new RangeError('whatever a browser says'); });
     const long = new Uint8Array(2352 * 30000);
     assert.match(messageOf(caught(() => calls.survey(long, 0))), /not enough memory/);
-    const { fault } = serving(calls)({ number: 1, job: 'survey', pieces: [long], first: 0, args: {} });
+    const { fault } = serving(calls, JOBS)({ number: 1, job: 'survey', pieces: [long], first: 0, args: {} });
     assert.equal(fault.code, 'no memory');
     assert.equal(messageOf(new Error('block 5 is damaged')), 'block 5 is damaged');
     assert.equal(messageOf('a text'), 'a text');

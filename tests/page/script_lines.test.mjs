@@ -157,6 +157,9 @@ test('a line that is refused after another has written its place names that one'
     const differ = [outcome(3, 5, 7, 9), outcome(4, 5, 7, 8), outcome(6, 5, 9, 0)];
     lines.setOutcomes([outcome(2, 0, 7, 8), outcome(5, 0, 7, 8), ...differ]);
     assert.deepEqual(differ.map(it => lines.writerBefore(it)), [2, 2, 0]);
+    // Not if a later check has refused that one too.
+    lines.setOutcomes([outcome(2, 5, 7, 8), ...differ]);
+    assert.deepEqual(differ.map(it => lines.writerBefore(it)), [0, 0, 0]);
 });
 
 test('65535 patches are read in little time, and one more is a fault', () => {
@@ -259,4 +262,19 @@ test('lines that give way to others are found in their order, and taken out by o
     assert.equal(lines.remove(new Set(['set 9 9 41'])), 0);
     lines.undo();
     assert.equal(lines.text(), before);
+});
+
+test('lines that come into a new script follow the comment that says the base of the image', async () => {
+    const due = 'cdpatch 1\n# base 150\nset 5 0 41 was 20\n';
+    for (const text of ['cdpatch 1\n', '', 'cdpatch 1\nset 4 0 42 was 20\n']) {
+        const [added, tabled] = [linesOf(text), linesOf(text)];
+        added.base = tabled.base = 150;
+        added.add(['set 5 0 41 was 20'], '');
+        await merged(tabled, ['set 5 0 41 was 20']);
+        const isNew = !text.includes('set');
+        assert.equal(added.text(), isNew ? due : `${text}set 5 0 41 was 20\n`);
+        assert.equal(tabled.text(), isNew ? due : `${text}set 5 0 41 was 20\n`);
+        added.add(['rebuild 7'], '');
+        assert.equal(added.text().split('# base').length, isNew ? 2 : 1);
+    }
 });

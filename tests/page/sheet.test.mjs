@@ -4,7 +4,7 @@ import assert from 'node:assert/strict';
 import { test } from 'node:test';
 import { page } from './page.mjs';
 
-const { sheetNaming } = await page('save/cue_rewrite.js');
+const { otherFiles, sheetNaming } = await page('save/cue_rewrite.js');
 
 test('a file is named anew in the lines that name it, and all else stays', () => {
     const rows = {
@@ -14,6 +14,11 @@ test('a file is named anew in the lines that name it, and all else stays', () =>
     for (const [line, wanted] of Object.entries(rows)) assert.equal(sheetNaming(`REM\n${line}\nREM`, [['game.bin', 'new.bin']]), `REM\n${wanted}\nREM`);
     const spaces = 'FILE a b.bin BINARY\nFILE "a b.bin" WAVE';
     assert.equal(sheetNaming(spaces, [['a b.bin', 'x.bin']]), 'FILE "x.bin" BINARY\nFILE "x.bin" WAVE');
+});
+
+test('the other files of a sheet are those of its names, each once, but for the image in capitals or not', () => {
+    const sheet = ['FILE "GAME.BIN" BINARY', 'TRACK 01', 'FILE a\\two.wav WAVE', 'FILE "two.wav" WAVE', 'FILE "three.bin" BINARY'].join('\n');
+    assert.deepEqual(otherFiles(sheet, 'game.bin'), ['two.wav', 'three.bin']);
 });
 
 test('a sheet that does not name the file is none', () => {

@@ -135,7 +135,7 @@ class Asked(PageTest):
         self.open_script(files['english'])
         self.begins()
         self.close()
-        self.browser.wait('#messages .say.warn', 'An image is being saved.')
+        self.browser.wait('#messages .say.warn', common.text('imageBeingSaved'))
         self.browser.run('chosen.release()')
         common.waited(lambda: self.browser.run('return chosen.state === "closed"'), 'the save does not end')
 

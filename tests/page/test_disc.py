@@ -8,8 +8,9 @@ import zlib
 from pathlib import Path
 
 import chromium
+import common
 import discs
-from common import PAGE, SECTOR_SIZE, TOP, Server, damaged, folder, image_of, run_program, sector, sha1, waited
+from common import SECTOR_SIZE, TOP, Server, damaged, folder, image_of, run_program, sector, sha1, waited
 from keys import Keys
 from pages import CLIPBOARD, HELD, PageTest
 from sector import SYNC
@@ -93,16 +94,16 @@ class Disc(PageTest):
         self.assertEqual(browser.attempts(), [])
 
     def test_it_opens_by_a_drop_from_a_server_and_asks_it_for_nothing_more(self) -> None:
-        server = Server(PAGE.parent)
+        server = Server(common.PAGE.parent)
         self.addCleanup(server.close)
         browser = self.browser
-        browser.open(f'{server.url}/{PAGE.name}')
+        browser.open(f'{server.url}/{common.PAGE.name}')
         browser.wait('#open-files')
         browser.drop('#drop', [file_of(discs.game())])
         browser.wait(VERDICT, f'All {SECTORS} Mode 1 sectors are sound')
         browser.wait('.sha1', sha1(discs.game()))
         self.assertEqual(browser.attempts(), [])
-        self.assertEqual([line for line in server.requests if PAGE.name not in line], [])
+        self.assertEqual([line for line in server.requests if common.PAGE.name not in line], [])
 
     def test_a_cue_sheet_is_opened_with_its_bins(self) -> None:
         place = folder('cue')
@@ -119,6 +120,12 @@ class Disc(PageTest):
         browser.wait('#disc-line .name', second.name)
         browser.wait(VERDICT, 'All 80 Mode 1 sectors are sound')
         self.assertEqual(browser.text('#disc-line dl dd').split()[0], '830')
+
+    def test_a_cut_image_says_where_its_volume_goes_on(self) -> None:
+        image = discs.game()
+        cut = discs.first_block() + 1
+        browser = self.opened(file_of(image[:cut * SECTOR_SIZE], 'cut.bin'))
+        self.assertIn(f'The image ends before block {cut}, inside /DATA/MSG00.DAT. Its volume continues to block', browser.text(VERDICT))
 
     def test_a_cue_sheet_by_itself_says_what_to_open(self) -> None:
         place = folder('cue')

@@ -1,11 +1,8 @@
 """That the harness does what the tests of the page rely on, with a page of its own."""
 
-import contextlib
-import io
 import unittest
 from pathlib import Path
 
-import all as runner
 import chromium
 import common
 import marionette
@@ -40,10 +37,6 @@ def files() -> tuple[Path, list[Path]]:
     for path in chosen:
         path.write_text(path.stem.upper())
     return page, chosen
-
-
-def tests_of(kind: type[unittest.TestCase]) -> list[unittest.TestCase]:
-    return list(runner.tests_of(unittest.defaultTestLoader.loadTestsFromTestCase(kind)))
 
 
 Browser = chromium.Chromium | marionette.Firefox | webkit.WebKit
@@ -124,51 +117,3 @@ class Harness(unittest.TestCase):
         browser = webkit.WebKit()
         self.addCleanup(browser.quit)
         self.choose_and_save(browser, *files())
-
-    def test_what_fails_once_is_run_once_more(self) -> None:
-        class Tried(unittest.TestCase):
-            runs: list[str] = []
-
-            def test_good(self) -> None:
-                self.runs.append('good')
-
-            def test_once(self) -> None:
-                self.runs.append('once')
-                self.assertEqual(self.runs.count('once'), 2)
-
-            def test_parts(self) -> None:
-                self.runs.append('parts')
-                for part in (1, 2):
-                    with self.subTest(part):
-                        self.assertEqual(self.runs.count('parts'), 2)
-
-            def test_twice(self) -> None:
-                self.runs.append('twice')
-                self.fail()
-
-        said = io.StringIO()
-        with contextlib.redirect_stdout(said):
-            wrong = runner.run_all(tests_of(Tried), lambda: Tried.runs.append('renewed'))
-        self.assertEqual(wrong, 1)
-        self.assertEqual(Tried.runs, ['good', 'once', 'parts', 'twice', 'renewed', 'once', 'parts', 'twice'])
-        self.assertEqual([line for line in said.getvalue().splitlines() if line[0] not in '# '], [
-            'ok tried: good', 'ok tried: once', 'ok tried: parts', 'unsteady tried: once', 'unsteady tried: parts', 'not ok tried: twice'])
-
-    def test_a_class_that_cannot_begin_is_begun_once_more(self) -> None:
-        class Begun(unittest.TestCase):
-            begins = 0
-
-            @classmethod
-            def setUpClass(cls) -> None:
-                cls.begins += 1
-                if cls.begins == 1:
-                    raise ConnectionError('Chromium has ended')
-
-            def test_good(self) -> None:
-                pass
-
-        said = io.StringIO()
-        with contextlib.redirect_stdout(said):
-            wrong = runner.run_all(tests_of(Begun), lambda: None)
-        self.assertEqual(wrong, 0)
-        self.assertEqual([line for line in said.getvalue().splitlines() if line[0] not in '# '], ['ok begun: good', 'unsteady begun: good'])

@@ -16,7 +16,6 @@ class Hostile(PageTest):
 
     @classmethod
     def setUpClass(cls) -> None:
-        super().setUpClass()
         cls.server = common.Server(common.folder('served'))
 
     @classmethod

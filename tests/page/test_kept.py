@@ -53,7 +53,7 @@ class Kept(PageTest):
         files = self.repairs()
         self.browser.drop('#main', [files['third']])
         self.browser.wait('#messages .say.warn', 'Not opened: third.bin.')
-        self.browser.wait('#messages .say.warn', 'An image is being saved.')
+        self.browser.wait('#messages .say.warn', common.text('imageBeingSaved'))
         self.browser.wait('#second-title', 'second.bin')
         self.browser.wait('#second-body .progress')
         self.assertTrue(self.browser.asks_before_leaving())
@@ -65,7 +65,7 @@ class Kept(PageTest):
         self.repairs()
         for card, place in (('disc-line', '#messages'), ('panel-disc', '#panel-disc .said')):
             self.browser.run(CLOSE, card)
-            self.browser.wait(f'{place} .say.warn', 'An image is being saved.')
+            self.browser.wait(f'{place} .say.warn', common.text('imageBeingSaved'))
         self.press('Open it instead')
         self.press('Set the base')
         self.browser.wait('#disc-line form', 'Set it only if a script or a list counts the blocks of this file from another number.')
@@ -87,7 +87,7 @@ class Kept(PageTest):
         self.browser.wait('.tally', 'can be repaired')
         self.begins('Save repaired image')
         self.browser.choose('#disc-line select', '2')
-        self.browser.wait('#messages .say.warn', 'An image is being saved.')
+        self.browser.wait('#messages .say.warn', common.text('imageBeingSaved'))
         self.assertEqual(self.browser.text('#disc-line .name'), 'first.bin')
         self.ends_well(discs.game())
 
@@ -125,14 +125,14 @@ class Kept(PageTest):
         self.browser.press(Keys.ESCAPE)
         self.edit(Keys.ESCAPE)
         self.browser.wait('#panel-script .progress')
-        self.assertNotIn('End the saving?', self.browser.text('#panel-script'))
+        self.assertNotIn(common.text('endTheSaving'), self.browser.text('#panel-script'))
         self.ends_well(applied(files['game'], files['english'])[2])
 
     def test_escape_in_its_card_asks_before_it_ends_a_saving(self) -> None:
         files = self.patches()
         self.assertEqual(self.focused(), 'Check: Cancel')
         self.browser.press(Keys.ESCAPE)
-        self.browser.wait('#panel-script .say.warn', 'End the saving?')
+        self.browser.wait('#panel-script .say.warn', common.text('endTheSaving'))
         self.assertEqual(self.focused(), 'Check: Go on saving')
         self.browser.press(Keys.ESCAPE)
         self.assertEqual(self.focused(), 'Check: Cancel')
@@ -175,7 +175,7 @@ class Kept(PageTest):
         self.browser.wait('#verdict', 'right disc')
         self.begins('Patch and save')
         self.press('Open this in the full cdpatch')
-        self.browser.wait('#player .say.warn', 'An image is being saved.')
+        self.browser.wait('#player .say.warn', common.text('imageBeingSaved'))
         self.ends_well(made)
         self.browser.wait('#saved', 'Saved:')
 
@@ -222,7 +222,7 @@ class Kept(PageTest):
         self.open_image(files['game'])
         self.open_script(files['english'])
         self.browser.run(GATE)
-        self.press('Save a script that takes it back')
+        self.press(common.text('undoScript'))
         self.browser.wait('#panel-script .progress')
         self.browser.run('held = 0')
         self.open_script(files['other'])
@@ -233,7 +233,7 @@ class Kept(PageTest):
         self.browser.wait('#panel-script .said .say.good', 'Saved: english (undo).txt')
         _, _, patched = applied(files['game'], files['english'])
         self.assertEqual(applied(discs.written(patched=patched)['patched'], undo)[2], discs.game())
-        self.assertEqual(self.browser.run('return document.querySelectorAll("#panel-script .progress").length'), 0)
+        self.is_gone('#panel-script .progress')
 
     def test_20000_patches_are_saved_as_the_program_saves_them_whatever_is_done_meanwhile(self) -> None:
         lines = [f'fill {block} {block % 2000} 8 {block % 256:02X}\n' for block in range(200, 18200)] + [f'rebuild {at}\n' for at in range(10, 2010)]

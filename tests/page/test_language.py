@@ -40,9 +40,9 @@ CORE = {
     'Calls.outcomeLine': r'(refused: )?old bytes differ at block \d+ offset \d+|no block \d+|block \d+ is damaged',
     'SectorCalls.auditLine': r'edc p=\d+ q=\d+',
     'leftText of script/sector_lines.js, with blocksText of sectors/runs.js': r'is damaged in blocks [\d, ]+ and \d+ more',
-    'assertHasRoom of texts/replace.js': r'the new text has \d+ bytes in CP932, and there is room for \d+: \d+ too many',
-    'fillsOf of texts/encoding.js': '(wide )?space$',
-    'the label of texts/hex.js': 'Bytes in hex',
+    'assertHasRoom of tasks/replace.js': r'the new text has \d+ bytes in CP932, and there is room for \d+: \d+ too many',
+    'fillsOf of encodings/encoding.js': '(wide )?space$',
+    'the label of encodings/hex.js': 'Bytes in hex',
 }
 
 # The tests look for English, and find it as if there were no marks, in what is shown and in selectors.

@@ -24,9 +24,6 @@ class Messages(PageTest):
         self.browser.wait(css, words)
         self.assertLessEqual(self.browser.run(UNSEEN, css), 0, words)
 
-    def is_gone(self, css: str) -> None:
-        common.waited(lambda: not self.browser.run('return [...document.querySelectorAll(arguments[0])].some(it => it.checkVisibility())', css), f'{css} stays')
-
     # ---- where, and how long
 
     def search(self, image: bytes) -> None:
@@ -56,7 +53,7 @@ class Messages(PageTest):
         self.browser.size(360)
         self.open_image(files['game'])
         self.open_script(files['english'])
-        self.press('Save a script that takes it back')
+        self.press(common.text('undoScript'))
         self.is_seen('[aria-label=Script] .say.good', 'Saved: english (undo).txt')
         self.browser.click('#tab-disc')
         self.browser.click('#tab-script')
@@ -86,7 +83,7 @@ class Messages(PageTest):
         self.assertEqual(self.browser.run(box, css), before, f'{css} moves')
         self.assertTrue(self.browser.run('return copied').startswith(begins), css)
         self.assertEqual(self.browser.text('#announced'), 'Copied')
-        common.waited(lambda: self.browser.text(css).split('\n')[0].strip() == label, f'{css} says it still', 4)
+        common.waited(lambda: self.browser.text(css).split('\n')[0].strip() == label, f'{css} says it still')
 
     def test_each_copy_button_says_so_for_a_moment(self) -> None:
         files = discs.written(game=discs.scratched(), other=discs.scratched(), english=discs.script())
@@ -111,7 +108,7 @@ class Messages(PageTest):
 
     def test_a_copy_button_that_is_drawn_anew_says_it_too(self) -> None:
         self.open_image(discs.written(game=discs.game())['game'])
-        self.browser.run(f'{CLIPBOARD} const later = setTimeout; setTimeout = (call, time, ...given) => later(call, time === 2000 ? 6000 : time, ...given)')
+        self.browser.run(f'{CLIPBOARD} const later = setTimeout; setTimeout = (call, time, ...given) => later(call, time === 2000 ? 60000 : time, ...given)')
         self.browser.click('#disc-line [data-copies]')
         self.browser.wait('#disc-line [data-copies]', 'Copied')
         self.browser.click('#tab-text')

@@ -157,7 +157,7 @@ class Random(PageTest):
         lost = self.model.unsaved() or self.model.edited
         self.browser.run('document.querySelector("#disc-line .bare.tiny:last-child, #disc-line button.tiny").click()')
         if self.model.saving:
-            self.browser.wait('#messages .say.warn', 'An image is being saved.')
+            self.browser.wait('#messages .say.warn', common.text('imageBeingSaved'))
             return
         if lost:
             self.browser.wait('#sheet[open]', f'Close {self.model.image}?')
@@ -185,7 +185,7 @@ class Random(PageTest):
         self.open_files(path)
         lost = self.model.open_script(name, text)
         if lost:
-            self.browser.wait('#messages .say.warn', 'This script replaced yours, which was not saved.')
+            self.browser.wait('#messages .say.warn', common.text('scriptReplacedYours'))
             if self.dice.random() < 0.5:
                 self.press('Bring it back')
                 self.model.bring_back()
@@ -264,7 +264,7 @@ class Random(PageTest):
     def undo_script(self) -> None:
         if self.model.name() == '' or 'rebuild' in self.model.text() and self.model.patches() == self.model.text().count('rebuild'):
             return
-        self.press('Save a script that takes it back')
+        self.press(common.text('undoScript'))
         path = self.browser.downloaded(f'{self.model.name()[:-4]} (undo).txt')
         out = applied(self.paths[self.model.image], self.script_file())[2]
         again = applied(discs.written(patched=out)['patched'], path)[2]
@@ -326,7 +326,7 @@ class Random(PageTest):
             return
         self.browser.run('document.querySelector(arguments[0] + " .job-end button").focus()', card)
         self.browser.press(Keys.ESCAPE)
-        self.browser.wait(f'{card} .job-end .say.warn', 'End the saving?')
+        self.browser.wait(f'{card} .job-end .say.warn', common.text('endTheSaving'))
         if self.dice.random() < 0.5:
             self.press('Go on saving')
             return
@@ -348,14 +348,14 @@ class Random(PageTest):
     def close_second(self) -> None:
         self.browser.run('document.querySelector("[aria-labelledby=second-title] header button:last-child").click()')
         if self.model.saving:
-            self.browser.wait('#panel-disc .said .say.warn', 'An image is being saved.')
+            self.browser.wait('#panel-disc .said .say.warn', common.text('imageBeingSaved'))
         else:
             self.model.second = ''
 
     def open_instead(self) -> None:
         self.press('Open it instead')
         if self.model.saving:
-            self.browser.wait('#panel-disc .said .say.warn', 'An image is being saved.')
+            self.browser.wait('#panel-disc .said .say.warn', common.text('imageBeingSaved'))
             return
         self.model.image, self.model.second = self.model.second, ''
         self.browser.wait('#disc-line .name', self.model.image)
@@ -386,7 +386,7 @@ class Random(PageTest):
     def leave_player(self) -> None:
         self.press('Open this in the full cdpatch')
         if self.model.saving:
-            self.browser.wait('#player .say.warn', 'An image is being saved.')
+            self.browser.wait('#player .say.warn', common.text('imageBeingSaved'))
         else:
             self.model.panel = 'script'
 

@@ -211,7 +211,7 @@ class Script(PageTest):
         self.open_image(files['game'])
         self.type_script()
         self.open_script(files['english'])
-        self.browser.wait('#messages .say.warn', 'This script replaced yours, which was not saved.')
+        self.browser.wait('#messages .say.warn', common.text('scriptReplacedYours'))
         self.press('Bring it back')
         self.assertEqual([row.split('|')[1] for row in self.rows()], ['cdpatch 1', 'rebuild 1'])
         self.assertEqual(self.browser.text('#panel-script header h2'), 'New script')
@@ -315,15 +315,6 @@ class Script(PageTest):
         shown = 'return [16, 17].map(at => document.querySelector(`.hex i[data-at="${at}"]`).innerText)'
         common.waited(lambda: self.browser.run(shown) == ['53', '41'], 'the sector is that of another script')
 
-    def test_the_undo_script_makes_the_old_image_again(self) -> None:
-        files = self.open_both(discs.game(), discs.script())
-        self.press('Save a script that takes it back')
-        undo = self.browser.downloaded('english (undo).txt')
-        _, _, patched = applied(files['game'], files['english'])
-        self.assertNotEqual(patched, discs.game())
-        status, _, again = applied(discs.written(patched=patched)['patched'], undo)
-        self.assertEqual((status, again), (0, discs.game()))
-
     def test_in_firefox_the_address_of_an_image_is_forgotten_when_the_next_is_saved(self) -> None:
         files = self.open_both(discs.game(), discs.script())
         self.browser.run('''Object.assign(globalThis, { mozInnerScreenX: 0, made: [], forgotten: [] });
@@ -348,22 +339,10 @@ class Script(PageTest):
         self.open_script(path)
         self.assertGreaterEqual(self.browser.run('return turns'), 4)
 
-    def test_workers_make_the_undo_script(self) -> None:
-        self.open_both(discs.game(), discs.script())
-        self.browser.run('''globalThis.posted = 0;
-            const { postMessage } = Worker.prototype;
-            Worker.prototype.postMessage = function (...given) {
-                globalThis.posted += Number(given[0].job === 'lines');
-                return postMessage.apply(this, given);
-            }''')
-        self.press('Save a script that takes it back')
-        self.browser.downloaded('english (undo).txt')
-        self.assertEqual(self.browser.run('return posted'), 1)
-
     def test_the_undo_script_of_carried_damage_says_that_it_wants_carry(self) -> None:
         files = self.open_both(discs.scratched(), discs.script())
         self.browser.click('#panel-script input[type=checkbox]')
-        self.press('Save a script that takes it back')
+        self.press(common.text('undoScript'))
         self.browser.wait('#panel-script .said .say', 'Apply it with carry, as this script.')
         undo = self.browser.downloaded('english (undo).txt')
         _, _, patched = applied(files['game'], files['english'], '--carry')
@@ -373,7 +352,7 @@ class Script(PageTest):
     def test_an_undo_script_can_be_cancelled(self) -> None:
         self.open_both(discs.game(), discs.script())
         self.browser.run(GATE)
-        self.press('Save a script that takes it back')
+        self.press(common.text('undoScript'))
         self.browser.wait('#panel-script .progress')
         self.press('Cancel')
         self.browser.run('openGate()')
@@ -383,17 +362,17 @@ class Script(PageTest):
     def test_the_undo_script_can_be_made_of_an_image_that_is_opened_later(self) -> None:
         files = discs.written(game=discs.game(), english=discs.script())
         self.open_script(files['english'])
-        self.assertTrue(self.is_off('Save a script that takes it back'))
+        self.assertTrue(self.is_off(common.text('undoScript')))
         self.open_image(files['game'])
         self.browser.click('#tab-script')
-        self.assertFalse(self.is_off('Save a script that takes it back'))
+        self.assertFalse(self.is_off(common.text('undoScript')))
 
     def test_a_file_that_shrinks_saves_nothing(self) -> None:
         files = self.open_both(discs.game(), discs.script())
         files['game'].write_bytes(discs.game()[:100000])
         self.press_save()
         self.browser.wait('#panel-script .say.bad', 'cannot be read any more')
-        self.assertIn('No image was kept', self.browser.text('#panel-script .side'))
+        self.assertIn(common.text('noImageKept'), self.browser.text('#panel-script .side'))
         self.assertEqual(list(self.browser.downloads.glob('game*')), [])
 
     def test_a_base_that_is_not_0_is_that_of_the_image(self) -> None:
@@ -453,7 +432,7 @@ class Streaming(PageTest):
             self.browser.run('Object.assign(chosen, { writes: [], state: "none", failing: arguments[0], removed: false })', failing)
             self.press_save()
             self.browser.wait('#panel-script .say.bad', 'The disk is full')
-            self.assertIn('No image was kept', self.browser.text('#panel-script .side'))
+            self.assertIn(common.text('noImageKept'), self.browser.text('#panel-script .side'))
             self.assertEqual(self.browser.run('return [chosen.state, chosen.removed]'), ['aborted', True], f'write {failing}')
 
     def test_cancel_in_the_middle_keeps_no_image(self) -> None:
@@ -462,7 +441,7 @@ class Streaming(PageTest):
         self.press('Cancel')
         self.browser.run('chosen.release()')
         self.browser.wait('#panel-script .say', 'Cancelled.')
-        self.assertIn('No image was kept', self.browser.text('#panel-script .side'))
+        self.assertIn(common.text('noImageKept'), self.browser.text('#panel-script .side'))
         self.assertEqual(self.browser.run('return [chosen.state, chosen.removed]'), ['aborted', True])
 
     def test_the_open_image_is_never_written_over(self) -> None:

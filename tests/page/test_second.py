@@ -5,7 +5,7 @@ import random
 from pathlib import Path
 
 import discs
-from common import SECTOR_SIZE, damaged, image_of, run_program, sector, sha1, waited
+from common import SECTOR_SIZE, damaged, image_of, run_program, sector, sha1, text, waited
 from keys import Keys
 from pages import PageTest
 
@@ -185,6 +185,36 @@ class Second(PageTest):
         self.assertNotIn('not saved', self.browser.text('#panel-script'))
         script.unlink()
 
+    def test_the_script_of_a_comparison_says_its_base(self) -> None:
+        users = [b'%d' % block for block in range(40)]
+        self.pair(image_of(users, 1000), image_of([b'new', *users[1:]], 1000))
+        self.press('Save the script')
+        script = self.browser.downloaded('other (changes).txt')
+        self.assertRegex(script.read_text(), '^cdpatch 1\n# base 1000\nset 1000 0 ')
+        self.press('Open in Script')
+        self.browser.wait('#panel-script .say.good', 'other (changes).txt: 1 change, which fits game.bin.')
+        script.unlink()
+
+    def test_a_base_that_is_set_by_hand_is_that_of_the_second_image_too(self) -> None:
+        users = [b'%d' % block for block in range(40)]
+        for first in (0, 1000):
+            with self.subTest(first):
+                self.setUp()
+                files = discs.written(game=image_of(users), other=image_of([b'new', *users[1:]], first))
+                self.open_image(files['game'])
+                self.browser.wait('.sha1', sha1(files['game'].read_bytes()))
+                self.browser.click('#disc-line .change')
+                self.browser.type('#base', '1000')
+                self.browser.press(Keys.ENTER)
+                self.browser.wait('#disc-line .lead', 'the base is probably 0, not 1000.')
+                self.open_files(files['other'])
+                self.browser.answer('Compare')
+                self.browser.wait('.tally')
+                self.assertEqual(self.tally()[0], 1 if first == 0 else 40)
+                self.press('Open it instead')
+                self.browser.wait('#disc-line .name', 'other.bin')
+                self.browser.wait('#disc-line .lead', 'All 40 Mode 1 sectors are sound')
+
     def test_a_comparison_names_the_file_of_each_block(self) -> None:
         first = with_faults() + AUDIO * 14
         root = int.from_bytes(first[16 * SECTOR_SIZE + 16 + 158:][:4], 'little')
@@ -219,10 +249,10 @@ class Second(PageTest):
     def test_a_tail_that_differs_is_said(self) -> None:
         image = with_faults()
         self.pair(image + b'tail', image + b'tall')
-        self.browser.wait('#second-body .say.warn', 'The bytes after the last sector differ.')
+        self.browser.wait('#second-body .say.warn', text('tailsDiffer'))
         self.browser.wait('#second-body .say.good', 'Both images are the same, sector for sector.')
         self.press('Repair from it')
-        self.browser.wait('#second-body .say.warn', 'The bytes after the last sector differ.')
+        self.browser.wait('#second-body .say.warn', text('tailsDiffer'))
 
     def test_audio_that_differs_is_no_script(self) -> None:
         self.pair(with_faults(), discs.game() + AUDIO[:-1] + bytes([AUDIO[-1] ^ 1]))
@@ -232,10 +262,10 @@ class Second(PageTest):
 
     def test_another_length_can_be_repaired_from_and_not_compared(self) -> None:
         image = with_faults()
-        files = discs.written(game=image, more=image + AUDIO[:2 * SECTOR_SIZE], tail=image + b'tail', later=image[SECTOR_SIZE:])
+        files = discs.written(game=image, more=image + AUDIO[:2 * SECTOR_SIZE], fewer=image[:-7 * SECTOR_SIZE], tail=image + b'tail', later=image[SECTOR_SIZE:])
         self.open_files(files['game'])
         self.browser.wait('#disc-line .lead', 'Mode 1')
-        for name, words in {'more': 'It has 2 sectors more', 'tail': 'It has another tail', 'later': 'It is shifted: it begins 1 sector later'}.items():
+        for name, words in {'more': 'It has 2 sectors more', 'fewer': 'It has 7 sectors fewer', 'tail': 'It has another tail', 'later': 'It is shifted: it begins 1 sector later'}.items():
             self.open_files(files[name])
             self.browser.wait('#sheet', f'{words} than game.bin. A repair uses the blocks that both have.')
             buttons = self.browser.run('return [...document.querySelectorAll("#sheet button")].map(it => it.innerText)')
@@ -291,25 +321,6 @@ class Second(PageTest):
         self.pair(image, missing)
         self.browser.wait('#second-body .say.bad', 'The second image is shifted by 2 sectors from block 100 on.')
         self.browser.wait('#second-body .say.bad', '2 sectors before it are missing. Nothing is taken.')
-
-    def test_a_dump_that_lacks_sectors_of_its_first_half_or_has_more_is_one_of_the_same_disc(self) -> None:
-        image, sound = with_faults((40, 9)), with_faults()
-        missing = sound[:60 * SECTOR_SIZE] + sound[67 * SECTOR_SIZE:]
-        more = sound[:60 * SECTOR_SIZE] + sound[50 * SECTOR_SIZE:]
-        for dump, words, shift, why in ((missing, 'It has 7 sectors fewer than game.bin.', 'by 7 sectors from block 60 on.', '7 sectors before it are missing.'),
-                                        (more, 'It has 10 sectors more than game.bin.', 'by 10 sectors from block 60 on.', '10 sectors before it are too many.')):
-            for names in (('game', 'other'), ('other', 'game')):
-                with self.subTest(words, names=names):
-                    self.setUp()
-                    files = discs.written(game=image, other=dump)
-                    self.open_image(files[names[0]])
-                    self.open_files(files[names[1]])
-                    if names[0] == 'game':
-                        self.browser.wait('#sheet', words)
-                    self.browser.answer('Repair game.bin' if names[0] == 'game' else 'Repair other.bin')
-                    who = 'The second image' if names[0] == 'game' else 'other.bin'
-                    self.browser.wait('#second-body .say.bad', f'{who} is shifted {shift}')
-                    self.browser.wait('#second-body .say.bad', f'Its addresses say so: {why}')
 
     def test_an_image_of_another_part_of_the_disc_can_only_be_opened_instead(self) -> None:
         users = [b'%d' % block for block in range(40)]

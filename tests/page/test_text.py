@@ -33,6 +33,12 @@ class Text(PageTest):
         self.browser.wait('#panel-text .hits tbody mark')
         self.wait_for_focus('#new-text')
 
+    def replace_first(self) -> None:
+        """Replaces the first of five hits, and waits for the second one: until then the page adds no other line."""
+        self.browser.press('Start', Keys.ENTER)
+        self.browser.wait('.hits tbody tr:nth-child(1)', 'in the script, line 2')
+        self.browser.wait('#panel-text [aria-label=Replace]', 'hit 2 of 5')
+
     def hits(self) -> list[str]:
         cells = 'return [...document.querySelectorAll(".hits tbody tr")].map(row => [...row.cells].slice(0, 2).map(it => it.innerText.split(",")[0].trim()).join(" "))'
         return list(self.browser.run(cells))
@@ -67,9 +73,7 @@ class Text(PageTest):
 
     def test_find_replace_check_and_apply_give_what_the_program_writes(self) -> None:
         self.find_in_game()
-        self.browser.press('Start', Keys.ENTER)
-        self.browser.wait('.hits tbody tr:nth-child(1)', 'in the script, line 2')
-        self.browser.wait('#panel-text .side h2', f'Replace: block {discs.first_block()} offset')
+        self.replace_first()
         self.press('Replace all 4')
         self.browser.wait('#panel-text .say.good', '4 lines added to the script.')
         self.browser.click('#tab-script')
@@ -114,8 +118,7 @@ class Text(PageTest):
 
     def test_hits_are_counted_anew_after_the_script_has_changed(self) -> None:
         self.find_in_game()
-        self.browser.press('Start', Keys.ENTER)
-        self.browser.wait('.hits tbody tr:nth-child(1)', 'in the script, line 2')
+        self.replace_first()
         self.assertFalse(self.is_off('Replace all 4'))
         self.edit('z', held=Keys.CONTROL)
         self.browser.click('#tab-text')
@@ -124,8 +127,7 @@ class Text(PageTest):
 
     def test_a_line_that_writes_a_hit_already_is_replaced(self) -> None:
         self.find_in_game()
-        self.browser.press('Start', Keys.ENTER)
-        self.browser.wait('.hits tbody tr:nth-child(1)', 'in the script, line 2')
+        self.replace_first()
         self.browser.click('.hits tbody tr:nth-child(1)')
         self.browser.wait('#panel-text .main', 'Update line 2')
         self.browser.type('#new-text', 'Begin')

@@ -1,6 +1,5 @@
 """The table of all texts of a disc, beside what cdscript prints and writes of it, and the lists of known dumps that name a disc."""
 
-import subprocess
 import zlib
 from pathlib import Path
 
@@ -88,25 +87,6 @@ class TextsTable(PageTest):
         for words in ('New texts leave out {0D} 3 times: rows 2, 3, 4.', 'New texts leave out {0A} 6 times: rows 2, 3, 4.'):
             self.assertIn(words, said)
 
-    def test_three_hundred_rows_give_what_cdscript_gives(self) -> None:
-        """The same script, byte for byte, and the same remarks. Each tenth new text leaves out a line end."""
-        old = [f'ゲームを\n始める{number:03}' for number in range(300)]
-        blocks = [b''.join(text.encode('cp932').ljust(32, b'\0') for text in old[at:at + 64]) for at in range(0, 300, 64)]
-        image = self.begin(common.image_of(blocks))
-        fresh = [f'Start{" " if number % 10 == 0 else "{0A}"}{number}' for number in range(300)]
-        rows = [f'{n // 64}\t{n % 64 * 32}\t31\tCP932\t{old[n]}\t{fresh[n]}'.replace('\n', '{0A}') for n in range(300)]
-        table = image.with_name('mine.tsv')
-        table.write_text('\n'.join(['block\toffset\troom\tencoding\ttext\tnew', *rows, '']))
-        self.give(table)
-        self.browser.wait('#panel-text .say.warn', 'All 300 new texts fit.')
-        said = self.browser.text('#panel-text .say.warn')
-        made = subprocess.run([common.cdscript(), 'replace', image, '--list', table], check=True, capture_output=True, encoding='utf-8')
-        remarks = [line.partition(': ')[2] for line in made.stderr.splitlines() if 'leave out' in line]
-        self.assertEqual(len(remarks), 1)
-        self.assertIn(remarks[0][1:], said)
-        self.press('Open Script')
-        self.assertEqual(self.script_text(), made.stdout)
-
     def test_many_rows_leave_the_page_free(self) -> None:
         """No task takes most of the time."""
         texts, rows = [], ['block\toffset\troom\tencoding\ttext\tnew']
@@ -159,7 +139,7 @@ class TextsTable(PageTest):
         self.browser.press('z', held=Keys.CONTROL)
         self.browser.click('#tab-text')
         self.give(self.table(image, {}))
-        self.browser.wait('#panel-text .say.warn', 'Nothing was added to the script.')
+        self.browser.wait('#panel-text .say.warn', common.text('nothingAdded'))
         self.browser.wait('#panel-text .say.warn', 'The table has no new text for the lines 2, 3, 4, 5 of the script.')
         # One that does not fit has a new text, and so has what a second row of the place does not name.
         mine = self.table(image, {2: 'The game begins.', 3: 'much too long ' * 9})
@@ -195,7 +175,7 @@ class TextsTable(PageTest):
             wrong.write_text(text)
             self.browser.drop('#panel-text', [wrong])
             self.browser.wait('#panel-text .say.bad', why)
-            self.assertIn('Nothing was added to the script.', self.browser.text('#panel-text .say.bad'))
+            self.assertIn(common.text('nothingAdded'), self.browser.text('#panel-text .say.bad'))
         self.assertTrue(self.browser.run('return document.querySelector("#count-script").hidden'))
 
     def test_cancel_ends_the_making_of_lines(self) -> None:

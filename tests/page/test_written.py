@@ -2,6 +2,7 @@
 
 from typing import Any
 
+import chromium
 import common
 import discs
 from pages import PageTest, applied
@@ -34,7 +35,6 @@ class Written(PageTest):
 
     @classmethod
     def setUpClass(cls) -> None:
-        super().setUpClass()
         cls.server = common.Server(common.PAGE.parent)
 
     @classmethod
@@ -42,6 +42,7 @@ class Written(PageTest):
         cls.server.close()
 
     def setUp(self) -> None:
+        self.browser = chromium.shared(self.stub)
         self.browser.open(f'{self.server.url}/{common.PAGE.name}')
         self.browser.wait('#start h1')
         self.run_here('for (const name of names) await place.removeEntry(name)')
@@ -70,5 +71,5 @@ class Written(PageTest):
             file.truncate(20_000_000)
         self.browser.run('chosen.release()')
         self.browser.wait('#panel-script .say.bad', 'This file cannot be read any more: long.bin. Was it moved or changed')
-        self.assertIn('No image was kept', self.browser.text('#panel-script .side'))
+        self.assertIn(common.text('noImageKept'), self.browser.text('#panel-script .side'))
         self.assertEqual(self.kept(), [])

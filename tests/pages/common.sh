@@ -57,14 +57,26 @@ enter() {
     ln -s "$program" cdpatch
 }
 
-# copied DIRECTORY: what `make dist` packs, in this directory.
+# staged DIRECTORY: a tree, by links, of the sources and of what was built.
+staged() {
+    mkdir "$1"
+    ln -s "$top"/* "$1"
+    rm -f "$1"/{cdpatch,cdscript,cdpatch.html,library,completions}
+    ln -s "$program" "$1/cdpatch"
+    ln -s "$library" "$1/library"
+    ln -s "$completions" "$1/completions"
+    [ ! -e "$joined/cdscript" ] || ln -s "$joined/cdscript" "$joined/cdpatch.html" "$1"
+}
+# copied DIRECTORY: a copy of what `make dist` packs, as a checkout if there is git.
 copied() {
-    mkdir -p "$1/made"
-    (cd "$top" && cp -r --parents Makefile install.mk README.md CHANGELOG.md docs man examples include python tools web "$1")
+    mkdir -p "$1"
+    (cd "$top" && cp -r --parents .gitignore Makefile install.mk dist.list README.md CHANGELOG.md debian docs man examples include python tools \
+        web "$1")
     cp -r "$library" "$1/library"
     cp -r "$completions" "$1/completions"
     cp "$program" "$1/cdpatch"
     [ ! -e "$joined/cdscript" ] || cp "$joined/cdscript" "$joined/cdpatch.html" "$1"
+    ! command -v git > /dev/null || (cd "$1" && git init -q && git add . && git -c user.name=a -c user.email=a@localhost commit -qm all)
 }
 # dist DIRECTORY [WORD..]: what `make dist` prints there.
 dist() { make --no-print-directory -s -C "$1" dist distdir=made "${@:2}"; }

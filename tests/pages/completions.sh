@@ -98,12 +98,6 @@ rm ./-dash
 touch $'words\n--help'
 offers '' list wo
 offers "$everything" list ''
-if wrong_versions 'a wrong completion for bash'; then
-    sed "s/ -X \$'[*][\\]n[*]'//" "$completions/cdpatch.bash" > wrong.bash
-    judge 'a completion that cuts a name in two is another' eval '! cmp -s wrong.bash "$completions/cdpatch.bash"'
-    judge 'and is refused' test -n "$(. ./wrong.bash && offered list wo)"
-    rm wrong.bash
-fi
 rm $'words\n--help'
 judge 'bash knows the completion' test "$(complete -p cdpatch)" = 'complete -F _cdpatch cdpatch'
 

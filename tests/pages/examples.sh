@@ -148,7 +148,7 @@ if ! missing make make 'the pages of the tarball'; then
     mkdir "$scratch/from_tarball"
     cd "$scratch/from_tarball" || exit 1
     packed
-    tar -xzf "$scratch"/packed/made/*.tar.gz
+    tar -xzf "$scratch"/packed/made/*-linux.tar.gz
     make --no-print-directory -s -C cdpatch-*-linux > said
     judge 'make in the tarball installs nothing' test "$(cat said)" = 'Everything is built: make install installs it.'
     make --no-print-directory -s -C cdpatch-*-linux install PREFIX="$PWD/prefix"

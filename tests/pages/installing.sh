@@ -1,79 +1,93 @@
-# `make install` and `make uninstall`: for a package, below other directories, and of nothing.
+# `make install` and `make uninstall`: for a package, below other directories, over earlier releases, and of nothing.
 
-built() { make --no-print-directory -s -C "$top" PROGRAM="$program" LIBRARY="$library" JOINED="$joined" COMPLETIONS="$completions" "$@"; }
-files() { [ ! -d "$1" ] || (cd "$1" && find . ! -type d | sort); }
+# built WORD..: a run of make in `tree`, which has what was built.
+built() { make --no-print-directory -s -C tree "$@"; }
+files() { [ ! -d "$1" ] || (cd "$1" && find . ! -type d | LC_ALL=C sort); }
+
+# A tree `other` in which sed's expression has changed a file of what installs.
+changed_tree() {
+    rm -rf other
+    mkdir other
+    ln -s "$PWD"/tree/* other
+    rm "other/${1%%/*}"
+    cp -rL "tree/${1%%/*}" other
+    sed -E "$2" "tree/$1" > "other/$1"
+    judge "a make install of which $1 is changed by $2 is another" test "$(sha256sum < "tree/$1")" != "$(sha256sum < "other/$1")"
+}
+# built_otherwise WORD..: the same there.
+built_otherwise() { make --no-print-directory -s -C other "$@"; }
 
 # A make install that copies what it makes writes over what a link names.
 writes_through_links() {
-    sed -E 's/\$\(INSTALL_DATA\) ("\$\$room\/cdpatch.pc")/cp \1/' "$top/install.mk" > wrong.mk
-    judge 'a make install that copies is another' eval '! cmp -s wrong.mk "$top/install.mk"'
+    changed_tree tools/files.sh 's/\$INSTALL -m 644 "\$room\/text"/cp "$room\/text"/'
     ln -sf "$PWD/victim" root/usr/lib/pkgconfig/cdpatch.pc
-    built -f "$PWD/wrong.mk" install DESTDIR="$PWD/root" PREFIX=/usr
+    built_otherwise install DESTDIR="$PWD/root" PREFIX=/usr
     judge 'and is refused' test "$(cat victim)" != kept
     rm root/usr/lib/pkgconfig/cdpatch.pc
     built install DESTDIR="$PWD/root" PREFIX=/usr
 }
 
-installed_for_a_package() {
-    judge 'make install' built install DESTDIR="$PWD/root" PREFIX=/usr
-    : > wanted
+# is_complete ROOT: whether it has every file that 1.2.0 or 1.3.0 installed below its /usr, but the one that is gone, and a man page for
+# each call.
+is_complete() {
+    files "$1/usr" > got
+    { grep -vx ./share/cdpatch/python/cdpatch/_scripts.py "$top/tests/pages/installed.txt"
+        sed -n 's/^[a-z].* \(cdpatch_[a-z0-9_]*\)(.*/.\/share\/man\/man3\/\1.3/p' "$top/include/cdpatch.h"
+        (cd "$top/python/cdpatch" && printf './share/cdpatch/python/cdpatch/%s\n' *.py); } |
+        if [ -e "$joined/cdscript" ]; then cat; else grep -vE 'cdscript|cdpatch\.html|\.wasm'; fi | LC_ALL=C sort -u | LC_ALL=C comm -23 - got > lacking
+    [ ! -s lacking ]
+}
+
+# In which directories an installation has what, and that its bytes are those of what was built.
+has_what_was_built() {
+    while read -r path source <&3; do
+        judge "$path is $source" cmp -s "$source" "root/usr/$path"
+    done 3<< END
+bin/cdpatch $program
+include/cdpatch.h $top/include/cdpatch.h
+lib/libcdpatch.a $library/libcdpatch.a
+lib/libcdpatch.so $library/libcdpatch.so.1
+lib/glibc-hwcaps/x86-64-v3/libcdpatch.so.1 $library/x86-64-v3/libcdpatch.so.1
+share/doc/cdpatch/NOTICES $library/NOTICES
+share/doc/cdpatch/examples/audit.c $top/examples/audit.c
+share/cdpatch/python/backend.py $top/python/backend.py
+share/bash-completion/completions/cdpatch $completions/cdpatch.bash
+share/fish/vendor_completions.d/cdpatch.fish $completions/cdpatch.fish
+share/zsh/site-functions/_cdpatch $completions/_cdpatch
+END
+    [ ! -e "$joined/cdscript" ] || judge 'cdscript, the page, and the modules are what was built' eval \
+        'cmp root/usr/bin/cdscript "$joined/cdscript" && cmp root/usr/share/cdpatch/cdpatch.html "$joined/cdpatch.html" &&
+        cmp root/usr/share/cdpatch/cdpatch.wasm "$library/cdpatch.wasm" && cmp root/usr/share/cdpatch/cdpatch-wasm64.wasm "$library/cdpatch-wasm64.wasm"'
+}
+
+# What is filled in: places, and the version.
+is_filled_in() {
+    local cdpatch_version
+    cdpatch_version=$(cdpatch --help | sed -n '$s/cdpatch //p')
     printf '%s\n' prefix=/usr 'libdir=${prefix}/lib' 'includedir=${prefix}/include' '' 'Name: cdpatch' \
         'Description: EDC and P/Q parity of CD-ROM sectors, and patches of CD images' \
-        "Version: $(cdpatch --help | sed -n '$s/cdpatch //p')" 'Libs: -L"${libdir}" -lcdpatch' 'Cflags: -I"${includedir}"' > cdpatch.pc
+        "Version: $cdpatch_version" 'Libs: -L"${libdir}" -lcdpatch' 'Cflags: -I"${includedir}"' > cdpatch.pc
     sed -e 's|@libraries@|../..|' -e 's|@includes@|../../../include|' "$top/include/cdpatch-config.cmake.in" > cdpatch-config.cmake
-    sed "s|@version@|$(cdpatch --help | sed -n '$s/cdpatch //p')|" "$top/include/cdpatch-config-version.cmake.in" \
-        > cdpatch-config-version.cmake
-    while read -r path source <&3; do
-        judge "$path is $source" cmp -s "$source" "root/$path"
-        echo "$path" >> wanted
-    done 3<< EOF
-./usr/bin/cdpatch $program
-./usr/include/cdpatch.h $top/include/cdpatch.h
-./usr/lib/cmake/cdpatch/cdpatch-config-version.cmake $PWD/cdpatch-config-version.cmake
-./usr/lib/cmake/cdpatch/cdpatch-config.cmake $PWD/cdpatch-config.cmake
-./usr/lib/glibc-hwcaps/x86-64-v3/libcdpatch.so.1 $library/x86-64-v3/libcdpatch.so.1
-./usr/lib/libcdpatch.a $library/libcdpatch.a
-./usr/lib/libcdpatch.so $library/libcdpatch.so.1
-./usr/lib/libcdpatch.so.1 $library/libcdpatch.so.1
-./usr/lib/pkgconfig/cdpatch.pc $PWD/cdpatch.pc
-./usr/share/bash-completion/completions/cdpatch $completions/cdpatch.bash
-$(cd "$top/python" && for file in {backend.py,pyproject.toml} cdpatch/{*.py,py.typed}; do
-    echo "./usr/share/cdpatch/python/$file $top/python/$file"; done)
-./usr/share/doc/cdpatch/NOTICES $library/NOTICES
-$(for page in CHANGELOG.md docs/{FAQ,MODULES,REPAIR,SCRIPTS,TRANSLATE,TRUST}.md docs/{apply,parts,sector}.svg docs/page.png \
-    examples/{audit.c,damaged.rs,fixlist.py,patch_map.c,patch_pipe.c}; do echo "./usr/share/doc/cdpatch/$page $top/$page"; done)
-./usr/share/doc/cdpatch/README.md $top/tools/README.tarball.md
-./usr/share/doc/cdpatch/docs/INSTALL.md $PWD/INSTALL.md
-./usr/share/fish/vendor_completions.d/cdpatch.fish $completions/cdpatch.fish
-./usr/share/man/man1/cdpatch.1 $top/man/cdpatch.1
-./usr/share/man/man3/libcdpatch.3 $top/man/libcdpatch.3
-$(sed -n 's/^[a-z].* \(cdpatch_[a-z0-9_]*\)(.*/\1/p' "$top/include/cdpatch.h" |
-    sed "s|.*|./usr/share/man/man3/&.3 $top/man/libcdpatch.3|")
-./usr/share/zsh/site-functions/_cdpatch $completions/_cdpatch
-EOF
-    [ ! -e "$library/cdpatch.wasm" ] || for path in cdpatch{,-wasm64}.wasm; do
-        judge "$path is installed" cmp -s "$library/$path" "root/usr/share/cdpatch/$path"
-        echo "./usr/share/cdpatch/$path" >> wanted
-    done
-    [ ! -e "$joined/cdscript" ] || while read -r path source <&3; do
-        judge "$path is $source" cmp -s "$source" "root/$path"
-        echo "$path" >> wanted
-    done 3<< EOF
-./usr/bin/cdscript $joined/cdscript
-./usr/share/cdpatch/cdpatch.html $joined/cdpatch.html
-./usr/share/bash-completion/completions/cdscript $completions/cdscript.bash
-./usr/share/fish/vendor_completions.d/cdscript.fish $completions/cdscript.fish
-./usr/share/man/man1/cdscript.1 $top/man/cdscript.1
-./usr/share/zsh/site-functions/_cdscript $completions/_cdscript
-EOF
-    files root > got
-    sort -o wanted wanted
-    same 'it installs these files and no more' wanted got
+    sed "s|@version@|$cdpatch_version|" "$top/include/cdpatch-config-version.cmake.in" > cdpatch-config-version.cmake
+    judge 'cdpatch.pc has the places and the version' cmp cdpatch.pc root/usr/lib/pkgconfig/cdpatch.pc
+    judge 'so have the files for CMake' eval 'for file in cdpatch-config{,-version}.cmake; do cmp $file root/usr/lib/cmake/cdpatch/$file || exit; done'
+    judge 'the pages name the places of this installation' eval '! grep -rnE "/usr/local/share/(doc|cdpatch)" root/usr/share/doc root/usr/share/man'
+    judge 'INSTALL is installed without the parts for the sources' eval 'grep -q "^<!-- sources" "$top/docs/INSTALL.md" &&
+        ! grep -qE "make check|<!--" root/usr/share/doc/cdpatch/docs/INSTALL.md'
+    judge 'below /usr/local the pages are as they stand in the sources' eval 'built install DESTDIR="$PWD/plain" &&
+        cmp plain/usr/local/share/man/man3/libcdpatch.3 "$top/man/libcdpatch.3" && cmp plain/usr/local/share/doc/cdpatch/docs/MODULES.md "$top/docs/MODULES.md"'
+}
+
+installed_for_a_package() {
+    judge 'make install' built install DESTDIR="$PWD/root" PREFIX=/usr
+    judge "it installs all that 1.2.0 and 1.3.0 did: $(is_complete root; paste -sd ' ' lacking)" is_complete root
+    has_what_was_built
+    is_filled_in
     judge 'the installed program runs' test "$(root/usr/bin/cdpatch list disc.bin | tail -n 1)" = 'sectors 8 tail 0'
-    judge 'the program may be run by all' test "$(stat -c %a root/usr/bin/cdpatch)" = 755
+    judge 'programs may be run by all, and the rest may be read by all' eval \
+        '[ -z "$(find root/usr/bin -type f ! -perm 755)$(find root -type f ! -path "*/bin/*" ! -perm 644)$(find root -type d ! -perm 755)" ]'
     judge 'the page of each call is a link to that of the library' test "$(readlink root/usr/share/man/man3/cdpatch_apply_patch.3)" = libcdpatch.3
     judge 'the link of the library stands next to it' test "$(readlink root/usr/lib/libcdpatch.so)" = libcdpatch.so.1
-    judge 'the man page may be read by all' test "$(stat -c %a root/usr/share/man/man1/cdpatch.1)" = 644
     for crate in arrayvec bstr byteorder clap hex itoa memchr sha1 thiserror; do
         judge "the notices have $crate's" \
             test "$(sed -n "/^== $crate ==\$/,/^== /p" root/usr/share/doc/cdpatch/NOTICES | grep -c '^Permission is hereby granted')" -gt 0
@@ -119,22 +133,49 @@ uninstalled_among_others() {
     judge 'and none that is called cdpatch' test -z "$(find others -name '*cdpatch*')"
 }
 
-wrong_uninstalls() {
-    sed -E "s,'\\$\(pagedir\)' '\\$\(cmakedir\)';,'\$(pagedir)' '\$(cmakedir)' '\$(man1dir)' '\$(mandir)' '\$(zshcompdir)';," \
-        "$top/install.mk" > wrong.mk
-    judge 'an uninstall that removes more is another' eval '! cmp -s wrong.mk "$top/install.mk"'
+# earlier ROOT: what 1.2.0 or 1.3.0 installed below its /usr, and what Python compiled of it.
+earlier() {
+    local file
+    while read -r file; do
+        mkdir -p "$1/usr/${file%/*}"
+        echo earlier > "$1/usr/$file"
+    done < "$top/tests/pages/installed.txt"
+    mkdir "$1/usr/share/cdpatch/python/cdpatch/__pycache__"
+    echo earlier > "$1/usr/share/cdpatch/python/cdpatch/__pycache__/_scripts.cpython-311.pyc"
+}
+# replaces_all BUILT: whether a make install over them leaves none of their files, and a make uninstall none at all.
+replaces_all() {
+    rm -rf earlier
+    earlier earlier
+    "$1" install DESTDIR="$PWD/earlier" PREFIX=/usr
+    ! grep -rqx earlier earlier && "$1" uninstall DESTDIR="$PWD/earlier" PREFIX=/usr && [ -z "$(find earlier -name '*cdpatch*')" ]
+}
+
+wrong_lists() {
+    local file
+    for file in bindir/cdpatch python/cdpatch/ man3dir/CALL docs/REPAIR libdir/libcdpatch.so.1; do
+        changed_tree dist.list "\\,$file,d"
+        built_otherwise install DESTDIR="$PWD/other_root" PREFIX=/usr
+        judge "and is refused, since it lacks $file" eval '! is_complete other_root'
+        rm -r other_root
+    done
+    changed_tree dist.list '/ gone /d'
+    judge 'and is refused, since it leaves a file of 1.2.0' eval '! replaces_all built_otherwise'
+    changed_tree tools/files.sh '/^remove_compiled/,/^}/s/rm -rf .*/:/'
+    judge 'and is refused, since it leaves what Python compiled' eval '! replaces_all built_otherwise'
+    changed_tree tools/files.sh 's/"\$pagedir" "\$cmakedir"; do/"$pagedir" "$cmakedir" "$man1dir" "$zshcompdir"; do/'
     built install DESTDIR="$PWD/others" PREFIX=/usr
-    built -f "$PWD/wrong.mk" uninstall DESTDIR="$PWD/others" PREFIX=/usr
+    built_otherwise uninstall DESTDIR="$PWD/others" PREFIX=/usr
     judge 'and is refused, since a directory that was there is gone' test -n "$(find others | sort | comm -13 - others.before)"
-    sed "/backend\.\*\.pyc/d" "$top/install.mk" > wrong.mk
-    judge 'an uninstall that leaves what pip has left is another' eval '! cmp -s wrong.mk "$top/install.mk"'
+    changed_tree tools/files.sh '/backend\.\*\.pyc/d'
     built install DESTDIR="$PWD/root" PREFIX=/usr
     used_by_python
-    built -f "$PWD/wrong.mk" uninstall DESTDIR="$PWD/root" PREFIX=/usr
+    built_otherwise uninstall DESTDIR="$PWD/root" PREFIX=/usr
     judge 'and is refused, since a file stays' test "$(files root)" != ./usr/bin/another
 }
 
 installed_elsewhere() {
+    local file
     built install DESTDIR="$PWD/local"
     judge 'without PREFIX into /usr/local' test -x local/usr/local/bin/cdpatch
     built uninstall DESTDIR="$PWD/local"
@@ -144,22 +185,20 @@ installed_elsewhere() {
     judge 'prefix, and places by their names' test -x 'with space/sbin/cdpatch' -a -f zsh/_cdpatch
     built uninstall "${places[@]}"
     judge 'and away from there' test -z "$(files 'with space')$(files zsh)"
-    built install PROGRAM="$PWD/nothing" DESTDIR="$PWD/none" 2> /dev/null
-    judge 'nothing that was built, nothing installed' test $? != 0 -a ! -e none
-    built install LIBRARY="$PWD/nothing" DESTDIR="$PWD/none" 2> /dev/null
-    judge 'no library that was built, nothing installed' test $? != 0 -a ! -e none
-    built install COMPLETIONS="$PWD/nothing" DESTDIR="$PWD/none" 2> /dev/null
-    judge 'no completions that were made, nothing installed' test $? != 0 -a ! -e none
+    for file in cdpatch library completions; do
+        mv "tree/$file" away
+        built install DESTDIR="$PWD/none" 2> log
+        judge "without $file nothing is installed, and it is named" test $? != 0 -a ! -e none -a -n "$(grep "^There is no $file" log)"
+        mv away "tree/$file"
+    done
 }
 
 if ! missing make make 'make install'; then
     enter installing
-    # INSTALL is installed without the parts for the sources.
-    sed '/^<!-- sources/,/^<!-- end/d' "$top/docs/INSTALL.md" > INSTALL.md
-    judge 'INSTALL has parts for the sources only' test "$(wc -l < INSTALL.md)" -lt "$(wc -l < "$top/docs/INSTALL.md")"
+    staged tree
     installed_for_a_package
     uninstalled_among_others
-    wrong_versions 'a wrong make uninstall' && wrong_uninstalls
+    judge 'make install over 1.2.0 and 1.3.0 leaves no file of theirs' replaces_all built
+    wrong_versions 'a wrong make install' && wrong_lists
     installed_elsewhere
 fi
-

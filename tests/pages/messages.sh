@@ -127,7 +127,7 @@ number() { sed 's/^script line [0-9N]*/script line N/'; }
         "$top/man/cdpatch.1" | sed 's/ :$//'
 } | number > page
 number < produced > numbered
-judge 'the man page has messages' test "$(wc -l < page)" -gt 22
+judge 'the man page has messages' test -s page
 while IFS= read -r message <&3; do
     judge "produced: $message" grep -qxF -- "$message" numbered
 done 3< page
@@ -138,7 +138,7 @@ done 3< page
     LC_ALL=C grep -aoE 'cdpatch: [a-zA-Z0-9 ]+' "$program" | sed -E 's/ than .*/ than /'
     sed -n 's/^ *ScriptFault::.* => "\(.*\)",$/\1/p' "$top/crates/cd_script/src/fault.rt" | grep -vx 'no memory'
 } | sort -u > messages
-judge 'there are messages to look for' test "$(wc -l < messages)" -gt 16
+judge 'there are messages to look for' test -s messages
 while IFS= read -r message <&3; do
     whole=x
     [ "${message% }" = "$message" ] || whole=

@@ -1,12 +1,11 @@
-# The pages against the sources: what tools/pages.py prints, links, the clauses of `apply`, the functions of C that are trusted,
-# what the program is linked to, and the commands that the tests need.
+# The pages against the sources: what tools/pages.py prints, links, files that pages name, and what the program is linked to.
 
 enter pages
 
-# What the sources say of themselves. Another tree says something else, and what says nothing is refused.
+# What the sources say of themselves. A file or a call that says nothing is refused.
 if ! missing python3 python3 'what the sources say of themselves'; then
     for page in map contracts audit; do
-        judge "make $page prints a page" eval 'python3 -B "$top/tools/pages.py" $page > $page && [ "$(grep -c "^| " $page)" -gt 50 ]'
+        judge "make $page prints a page" eval 'python3 -B "$top/tools/pages.py" $page > $page && grep -q "^| " $page'
     done
     grep -oE '^## cd[a-z_]*' contracts | sed 's/## //' | sort > got
     bash "$top/tools/library_crates.sh" | tr ' ' '\n' | sort - <(printf '%s\n' "${library_crates[@]}" cd_words) > wanted
@@ -14,8 +13,6 @@ if ! missing python3 python3 'what the sources say of themselves'; then
     sed -n 's/^[a-z].* \(cdpatch_[a-z0-9_]*\)(.*/\1/p' "$top/include/cdpatch.h" | sort > wanted
     grep -oE '^\| `cdpatch_[a-z0-9_]*`' contracts | grep -oE 'cdpatch_[a-z0-9_]*' | sort > got
     same 'make contracts has each call of the header' wanted got
-    judge 'a definition stands there with what it says' grep -qF '| `consistent` | `Consistent` | 2352 bytes of Mode 1 without a defect |' contracts
-    judge 'and a call with its clauses' grep -qE '^\| `encode` \| .* \| `consistent`, `header`, `user`, `unique` \|$' contracts
     cat "$top"/crates/*/src/laws.rt | sed -nE 's/^pub fn ([a-z_0-9]+).*/\1/p' | sort -u > wanted
     grep -oE '^\| `[a-z_0-9]+`' contracts | tr -d '|` ' | sort -u > got
     judge "make contracts has each law, and not only some: $(comm -23 wanted got | paste -sd ' ')" test -z "$(comm -23 wanted got)"
@@ -40,32 +37,20 @@ if ! missing python3 python3 'what the sources say of themselves'; then
         left_out=$(comm -12 <(declared "$crate") <(cited "$crate") | comm -23 - shown | paste -sd ' ')
         judge "make contracts has what contracts of $crate cite: ${left_out:-all}" test -z "$left_out"
     done
-    judge 'make map has a file with what it has' grep -qF '| `specs/Kind.antt` | The kind of a sector (ECMA-130, 14) |' map
+    for file in cd_sector/specs/Kind.antt cd_sector/src/encoding.rt; do
+        says=$(sed -nE '1s,^(--|//!?) (([^ ]+ ){2}[^ .]+).*,\2,p' "$top/crates/$file")
+        judge "make map has what ${file#*/} says of itself" grep -qF "| \`${file#*/}\` | ${says:-nothing} " map
+    done
     judge 'make audit has each file after those that it names' test "$(grep -n 'cd_sector/specs/Consistent.antt' audit | cut -d : -f 1)" -gt \
         "$(grep -n 'cd_sector/specs/Defect.antt' audit | cut -d : -f 1)"
     mkdir other
-    (cd "$top" && find crates -name out -prune -o \( -name '*.rt' -o -name '*.antt' -o -name '*.edit' \) -print0 |
-        xargs -0 cp -r --parents -t "$OLDPWD/other" &&
-        cp -r --parents crates.txt tools web tests bench examples include python "$OLDPWD/other")
-    sed -i '1s/kind/sort/' other/crates/cd_sector/specs/Kind.antt
-    python3 -B other/tools/pages.py map > changed
-    judge 'of another tree it prints another' cmp -s <(diff map changed | grep '^[<>]') \
-        <(printf '%s | `specs/Kind.antt` | The %s of a sector (ECMA-130, 14) |\n' '<' kind '>' sort)
-
-    # silent REASON PAGE EDIT: after an edit of the other tree a page is refused, with a reason.
-    silent() {
-        local reason=$1 page=$2
-        cp -r other silent
-        (cd silent && eval "$3")
-        judge "refused: $reason" eval '! python3 -B silent/tools/pages.py $page > said 2>&1 && grep -qF "$reason" said'
-        rm -r silent
-    }
-    silent 'web.sh does not say what it is' map "sed -i '2,10d' tools/web.sh"
-    silent 'specs/Kind.antt does not say what it is' map "sed -i '1d' crates/cd_sector/specs/Kind.antt"
-    silent 'Consistent.antt: header_of does not say what it is' contracts \
-        "sed -i '/^-- the header: minute/d' crates/cd_sector/specs/Consistent.antt"
-    silent 'cd_sector: encode does not say what it is' contracts "sed -i '/^\/\/\/ /d' crates/cd_sector/src/encoding.rt"
-    silent 'State.antt says what it is, and stands in UNSAID' map "sed -i '1i -- The state.' crates/cd_c/specs/State.antt"
+    (cd "$top" && find crates -name out -prune -o \( -name '*.rt' -o -name '*.antt' \) -print0 | xargs -0 cp -r --parents -t "$OLDPWD/other" &&
+        cp -r --parents crates.txt tools web tests targets bench examples include python "$OLDPWD/other")
+    sed -i '/^ *\/\/[/!]/d' other/crates/cd_sector/src/encoding.rt
+    for page in map contracts; do
+        judge "make $page refuses a file, or a call, that says nothing" eval '! python3 -B other/tools/pages.py $page > said 2>&1'
+        judge 'and names it' grep -q 'cd_sector.*enco' said
+    done
 fi
 
 if ! missing make make 'what make help prints'; then
@@ -90,36 +75,22 @@ while IFS=: read -r page link <&3; do
     judge "$page: $link is a heading" $found
 done 3< <(cd "$top" && grep -oE '\]\([^) ]*\)' README.md CONTRIBUTING.md SECURITY.md CHANGELOG.md docs/*.md | sed -e 's/](//' -e 's/)$//' | grep -v ':http')
 
-# docs/TRUST.md has a row for each clause of `apply`, and no others.
+# The contract that docs/CONTRACTS.md shows is that of the sources.
+sed -n 's/^    //p' "$top/docs/CONTRACTS.md" | sed 's/^ *//' > example
+sed 's/^ *//' "$top/crates/cd_sector/src/encoding.rt" | grep -xFf - example | cmp -s - example
+judge 'the contract that docs/CONTRACTS.md shows is that of encode' test $? = 0 -a -s example
+
+# docs/TRUST.md explains no clause of `apply` that is not there.
 sed -n '/^pub fn apply</,/^{/s/^ *ensures \([a-z_]*\) .*/\1/p' "$top/crates/cd_image/src/applying.rt" | sort > clauses
 sed -n '/^| Clause | In words/,/^$/s/^| \(`[^|]*`\) | .*/\1/p' "$top/docs/TRUST.md" | grep -o '[a-z_]*' | sort > rows
-same 'docs/TRUST.md has the clauses of apply' clauses rows
+gone=$(comm -23 rows clauses | paste -sd ' ')
+judge "each clause of apply that docs/TRUST.md explains is there: ${gone:-all}" test -s rows -a -z "$gone"
 
-# The drawing of a byte's path names what is in the sources.
-while read -r crate name <&3; do
-    judge "$crate has $name" grep -qrE "(fn|struct) $name\b" "$top/crates/$crate/src"
-done 3< <(sed -nE 's/^<text .*(cd_[a-z]+): ([A-Za-z]+_?[a-z]*)<.*/\1 \2/p' "$top/docs/apply.svg")
-
-# The C functions whose contracts are assumed have a row in docs/TRUST.md.
-sed -n '/^| Functions | Trusted for/,/^$/s/^| \(`.*`\) | .*/\1/p' "$top/docs/TRUST.md" | grep -o '`[a-z_0-9]*`' | tr -d '`' | sort > in_trust
-judge 'as many as docs/TRUST.md says' grep -q "\`reached\`: $(wc -l < in_trust) in " "$top/docs/TRUST.md"
+# What the program calls is nothing but what docs/TRUST.md says.
 if ! missing nm binutils 'what the program is linked to'; then
     nm -D --undefined-only "$program" | sed -e 's/.* //' -e 's/@.*//' | sort > linked
-    sed -n '/^| Names | What for/,/^$/s/^| \(`[^|]*`\) | .*/\1/p' "$top/docs/TRUST.md" | grep -o '`[A-Za-z_0-9]*`' | tr -d '`' > known
-    cat in_trust >> known
-    sort -o known known
-    judge "the program calls what docs/TRUST.md says, and not $(comm -23 linked known | paste -sd ' ')" \
-        test -s linked -a -z "$(comm -23 linked known)"
-    needless=$(comm -13 linked known | comm -23 - in_trust | grep -vx memcmp | paste -sd ' ')
-    judge "and names no other: ${needless:-none}" test -z "$needless"
+    sed -nE '/^\| (Functions|Names) \| (Trusted|What) for/,/^$/s/^\| (`[^|]*`) \| .*/\1/p' "$top/docs/TRUST.md" |
+        grep -o '`[A-Za-z_0-9]*`' | tr -d '`' | sort > known
+    unknown=$(comm -23 linked known | paste -sd ' ')
+    judge "the program calls only what docs/TRUST.md names: ${unknown:-all}" test -s linked -a -z "$unknown"
 fi
-
-# Each command without which a test is skipped has its packages in tools/packages.txt.
-{
-    grep -rhoE --include='*.sh' --include=run '(^ *|! |\|\| |&& )missing [a-z][a-z0-9-]+' "$top/tests" | sed 's/.*missing //'
-    sed -n 's/^```sh //p' "$top"/docs/*.md | tr ' ' '\n'
-} | sort -u > skipping
-unlisted=$(grep -vxE 'perl|rustc|dpkg-deb|npm|objcopy|out' skipping | while read -r command; do
-    grep -q "^$command: " "$top/tools/packages.txt" || echo "$command"
-done | paste -sd ' ')
-judge "tools/packages.txt has the packages of each command: ${unlisted:-all}" test -z "$unlisted"

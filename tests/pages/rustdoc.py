@@ -1,5 +1,5 @@
-"""The rustdoc of crates: `rustdoc.py CRATE..` prints a line as node's tests do for each: whether a test runs each of its examples, and whether
-each public call has one, or names the call whose example shows it."""
+"""The examples in the rustdoc of crates: `rustdoc.py CRATE..` prints a line for each crate, with the places of those
+that no test runs."""
 
 import re
 import sys
@@ -9,9 +9,6 @@ from pathlib import Path
 TOP = Path(__file__).resolve().parent.parent.parent
 sys.path.append(str(TOP / 'tools'))
 import contracts  # noqa: E402
-
-# The call that no test can show: the whole of `main`.
-WITHOUT_EXAMPLE = {'run_program'}
 
 
 def examples(crate: str) -> Iterator[tuple[str, list[str]]]:
@@ -28,19 +25,6 @@ def examples(crate: str) -> Iterator[tuple[str, list[str]]]:
                 lines.append(found[1])
 
 
-def calls(crate: str) -> dict[str, str]:
-    """The public calls of a crate, but for laws, which have no body: of each the name of the call whose example shows it, '' if none."""
-    made = {}
-    for call in contracts.calls_of(crate):
-        text = call.file.read_text(encoding='utf-8')
-        name = call.name.rpartition('::')[2]
-        declared = re.search(rf'(?m)^ *pub (?:const )?fn {name}\b(?:.*\n)*?(?: *\{{\}}$| *\{{|.*\{{$)', text)
-        if declared and not re.search(r'(?m)^\{\}$', declared[0]):
-            other = re.search(r'(?m)^See the example of \[`([A-Za-z_:]+)`\]\.$', call.doc)
-            made[call.name] = call.name if '```' in call.doc else other[1] if other else ''
-    return made
-
-
 def unspaced(text: str) -> str:
     """A text as it stays, however a formatter breaks its lines."""
     return re.sub(r'\s', '', text)
@@ -49,20 +33,9 @@ def unspaced(text: str) -> str:
 def main(crates: list[str]) -> None:
     tests = [file for name in ('cd_low_tests', 'cd_example_tests') for file in sorted((TOP / f'crates/{name}/src/tests').glob('*.rt'))]
     tested = unspaced('\n'.join(file.read_text(encoding='utf-8') for file in tests))
-    left_out = set[str]()
-    said = []
     for crate in crates:
         untested = [place for place, lines in examples(crate) if unspaced(''.join(lines)) not in tested]
-        said.append((not untested, f'the examples of {crate} that no test runs: {", ".join(untested) or "none"}'))
-        shown = calls(crate)
-        none = {call for call, by in shown.items() if shown.get(by) != by}
-        left_out |= none
-        missing = none - WITHOUT_EXAMPLE
-        said.append((not missing, f'the calls of {crate} without an example: {", ".join(sorted(missing)) or "none"}'))
-    needless = WITHOUT_EXAMPLE - left_out
-    said.append((not needless, f'the calls that may have no example, and have one or are gone: {", ".join(needless) or "none"}'))
-    for number, (holds, text) in enumerate(said, 1):
-        print(f'{"" if holds else "not "}ok {number} - {text}')
+        print(crate, *untested)
 
 
 if __name__ == '__main__':

@@ -154,6 +154,31 @@ images_take_no_memory() {
     echo 'applied 0 refused 0' | cmp -s - log && cmp -s out long
 }
 
+# resident WORD..: prints the largest resident size, in kB, of the program with these words, measured after it has read 47 MB of standard
+# input, except for the last bytes, which the pipe may still hold.
+resident() {
+    local size
+    mkfifo coming
+    "$program" "$@" < coming > log 2> errors &
+    exec 7> coming
+    rm coming
+    head -c 47040000 /dev/zero >&7
+    size=$(sed -n 's/^VmHWM:[^0-9]*\([0-9]*\) kB$/\1/p' "/proc/$!/status")
+    exec 7>&-
+    wait $! && echo "$size"
+    rm -f out
+}
+
+# No command keeps the image that it reads. A limit on memory does not show this: a program may keep what it reads, and continue when it gets
+# no more memory.
+images_are_not_kept() {
+    local image
+    for image in - /dev/stdin; do
+        [ "$(resident list $image)" -lt 8000 ] && [ "$(resident audit $image)" -lt 8000 ] &&
+            [ "$(resident check $image none.script)" -lt 8000 ] && [ "$(resident apply $image none.script out)" -lt 8000 ] || return
+    done
+}
+
 # A block device, such as a drive's.
 block_device() {
     run list "$device"
@@ -178,6 +203,7 @@ row 'two runs at once on one image' two_runs_at_once locks_its_inputs
 row 'links are followed' links_are_followed refuses_links
 row 'names are taken as they are' names_are_taken_as_they_are cuts_blanks_off_names
 row 'an image takes no memory' images_take_no_memory keeps_the_image
+row 'an image is not kept' images_are_not_kept keeps_as_much_as_it_can
 traced 'a read for each buffer' reads_are_large reads_a_sector_at_a_time
 for _ in 1 2 3 4; do cat "$vectors"; done > whole
 if device=$(losetup --find --show whole 2> /dev/null); then

@@ -85,6 +85,16 @@ def test_a_call_that_fails_lets_go_while_its_error_is_kept():
         assert kept.value
 
 
+@pytest.mark.parametrize('number', range(len(CALLS)))
+def test_each_call_refuses_bytes_that_are_not_in_a_row(number):
+    call, arguments = CALLS[number]
+    for i, data in enumerate(arguments):
+        apart = memoryview(bytes(byte for each in data for byte in (each, 0)))[::2]
+        assert bytes(apart) == data
+        with pytest.raises(BufferError):
+            call(*arguments[:i], apart, *arguments[i + 1:])
+
+
 def test_bytes_that_are_not_in_a_row_are_refused():
     for data in (memoryview(bytes(4704))[::2], memoryview(bytes(4704)).cast('H')[::-1]):
         with pytest.raises(BufferError):

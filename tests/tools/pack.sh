@@ -169,7 +169,7 @@ test_refusals() {
 release_tree() {
     local name
     mkdir -p release/library/x86-64-v3 kit/rattle stubs
-    cp -r "$top"/{Makefile,install.mk,README.md,CHANGELOG.md,crates.txt,.gitignore,docs,man,examples,include,python} release
+    cp -r "$top"/{Makefile,install.mk,dist.list,README.md,CONTRIBUTING.md,CHANGELOG.md,crates.txt,.gitignore,debian,docs,man,examples,include,python} release
     cp -r "$tree"/{tools,web} release
     while read -r name; do
         mkdir -p "kit/rattle/$name"
@@ -180,15 +180,19 @@ release_tree() {
     # Which types tsc makes is no matter of these tests.
     printf '%s\n' '#!/bin/sh' 'while [ "$1" != --outDir ]; do shift; done' 'cd web' \
         'find npm core -name "*.js" | while read -r file; do mkdir -p "$2/${file%/*}" && : > "$2/${file%.js}.d.ts"; done' > stubs/tsc
-    chmod +x stubs/rt stubs/tsc release/cdpatch
+    chmod +x stubs/* release/cdpatch
     ssh-keygen -q -t ed25519 -N '' -f owner && ssh-keygen -q -t ed25519 -N '' -f another || return
     sed -i -e 's/^\(address\|toolchain\|questions\):$/& a@localhost/' -e 's/^licence:$/& none/' \
         -e "s|^key:\$|& $(cut -d ' ' -f 1,2 owner.pub)|" release/tools/owner.txt
     echo terms > release/LICENSE
     sed -i '/^## Unreleased$/d' release/CHANGELOG.md
+    grep -rliE 'no licence has been chosen|no public release' release --include=*.md --include=*.[13] --include=copyright |
+        xargs sed -i -E 's/no licence has been chosen|no public release//I'
     mkdir release/completions
     : | tee release/completions/{_cdpatch,cdpatch.bash,cdpatch.fish,_cdscript,cdscript.bash} > release/completions/cdscript.fish
-    : | tee release/library/{libcdpatch.a,libcdpatch.so.1,x86-64-v3/libcdpatch.so.1} > release/library/libcdpatch.a
+    : | tee release/library/{libcdpatch.a,libcdpatch.so.1} > release/library/x86-64-v3/libcdpatch.so.1
+    # Debian's packages are of libraries that exist.
+    printf '%s\n' '#!/bin/sh' ': > ../cdpatch_stand-in.deb' > stubs/dpkg-buildpackage
     printf '\0asm\1\0\0\0' > release/library/cdpatch-wasm64.wasm
     echo 'logic=proved functions=0' > release/library/cdpatch-wasm64.txt
     (cd release && git init -q && git add . && commit && bash tools/notices.sh library/NOTICES &&
@@ -208,12 +212,21 @@ is_unfit() {
     ! release unfit && grep -q "^unfit to be released: .*$1" log && [ -z "$(ls made)" ]
 }
 
+# A make dist of a tree in which nothing of the owner is filled in.
+warns_once() {
+    rm -rf unfilled
+    cp -r release unfilled
+    sed -i 's/^\([a-z]*\):.*/\1:/' unfilled/tools/owner.txt
+    [ "$(bash unfilled/tools/dist.sh nothing 2>&1 > log | grep -c '^warning: ')" = 1 ]
+}
+
 # Each file that is released has a signature, which fits it, and no other file.
 signed() {
     local file
     release release SIGN="$PWD/owner" || return
     echo "cdpatch $(cut -d ' ' -f 1,2 owner.pub)" > signers
-    for file in made/cdpatch-*.tar.gz made/cdpatch.html made/cdscript.js; do
+    for file in made/*.sha256; do
+        file=${file%.sha256}
         ssh-keygen -Y verify -f signers -I cdpatch -n file -s "$file.sig" < "$file" > log || return
         ! ssh-keygen -Y verify -f signers -I cdpatch -n file -s "$file.sig" < owner.pub > log 2>&1 || return
     done
@@ -232,13 +245,20 @@ test_release() {
     mkdir -p made
     wanted 'make release makes what make dist makes' eval 'release release && [ -s made/cdpatch.html ] && (cd made && sha256sum --status -c ./*.sha256)'
     wanted 'what is not signed is said' grep -q '^Nothing was signed' log
+    wanted 'what is fit to be released has no warning' eval '! grep "^warning" log'
+    wanted 'the address of the owner is in the package of the sources' eval \
+        '{ [ -e made/cdpatch.html ] || release release; } && grep -q "^Maintainer: .* <a@localhost>$" made/cdpatch_*.dsc'
     wanted 'what make release signs is verified as INSTALL says' signed
     wanted 'a release is not signed with another key than the owner has given' eval '! release release SIGN="$PWD/another" && [ ! -e made/cdpatch.html.sig ]'
     unfit 'changes that are not committed' touch docs/NEW.md
     unfit 'tools/owner.txt has no licence' sed -i 's/^licence:.*/licence:/' tools/owner.txt
     unfit 'tools/owner.txt has no toolchain' sed -i 's/^toolchain:.*/toolchain:/' tools/owner.txt
     unfit 'tools/owner.txt has no address, licence, key, toolchain, questions' sed -i 's/^\([a-z]*\):.*/\1:/' tools/owner.txt
+    wanted 'make dist warns once of what the owner has not filled in' warns_once
     unfit 'there is no LICENSE' rm LICENSE
+    unfit 'README.md says that there is no licence, or no release' sed -i '1s/$/ No licence has been chosen yet./' README.md
+    unfit 'debian/copyright says that there is no licence, or no release' sed -i '1s/$/ no licence has been chosen yet/' debian/copyright
+    unfit "debian/changelog is not of version $version" sed -i '1s/([0-9.]*-/(1.2.3-/' debian/changelog
     unfit 'is not of version 9.9.9' sed -i '0,/^## [0-9.]* /s//## 9.9.9 /' CHANGELOG.md
     unfit "is not of version $version with a date" sed -i '0,/^## [0-9.]* .*/s//## '"$version"' (soon)/' CHANGELOG.md
     unfit "is not of version $version with a date" sed -i '0,/^## /s//## Unreleased\n\n&/' CHANGELOG.md
@@ -257,7 +277,7 @@ test_release() {
     rm stubs/esbuild
 }
 
-made_pairs() { python3 -B "$tree/tools/pairs.py" | cmp - "$tree/web/core/texts/pairs.js"; }
+made_pairs() { python3 -B "$tree/tools/pairs.py" | cmp - "$tree/web/core/encodings/pairs.js"; }
 
 test_pairs() {
     missing chromium chromium 'the pairs of bytes of other languages' && return
@@ -265,12 +285,14 @@ test_pairs() {
 }
 
 typed_tools() {
-    mypy --strict --cache-dir=types "$tree"/tools/{contracts,frequencies,header_{numbers,pages},options,pack,pages,pairs}.py \
+    mypy --strict --cache-dir=types "$tree"/tools/{contracts,frequencies,header_{numbers,pages},options,pack,pages,pairs,retarget}.py \
         "$tests/wrong/bodies.py" > log || { cat log; false; }
 }
 
 # lint DIRECTORY WORD..: runs eslint there. Debian's eslint finds its parts by NODE_PATH, if node is another than Debian's.
-lint() { (cd "$1" && NODE_PATH=/usr/share/nodejs eslint -f unix --rulesdir "$tree/tools/eslint" --rule 'import-cycle: error' "${@:2}"); }
+lint() {
+    (cd "$1" && NODE_PATH=/usr/share/nodejs eslint -f unix --rulesdir "$tree/tools/eslint" --rule 'import-cycle: error' --rule 'rooms: error' "${@:2}")
+}
 lint_tools() { lint "$tree/tools" --no-eslintrc -c "$tree/web/.eslintrc.json" --env browser,node --parser-options sourceType:module . ; }
 
 # refuses_form TEXT FILE LINE: notes a line more in a module of web/, of which eslint has to say this text. Each line of a module stands in
@@ -294,6 +316,12 @@ judge_forms() {
     done
 }
 is_said() { grep -F "/$2:" forms.log | grep -qF "$1"; }
+# has_type FILE LINE: whether eslint refuses a line more in the declarations of a room.
+has_type() {
+    rm -rf other
+    cp -r "$tree/web" other
+    lint other "$(dirname "$1")" > log && echo "$2" >> "other/$1" && ! lint other "$(dirname "$1")" > log && grep -qF 'in a higher room' log
+}
 
 # of_header NAME: the number CDPATCH_NAME of the header.
 of_header() { sed -nE "s/.*\bCDPATCH_$1 = ([0-9]+).*/\1/p" "$top/include/cdpatch.h"; }
@@ -325,6 +353,17 @@ test_forms() {
     wanted "the forms of the tools' JavaScript" lint_tools
     refuses_form './calls.js imports this module' core/module/arena.js "export { Calls } from './calls.js';"
     refuses_form './notices.js imports this module' page/ui/dom.js "import './notices.js';"
+    refuses_form '../texts/index.js is in a higher room' core/iso/files.js "import '../texts/index.js';"
+    refuses_form './module/index.js is in a higher room' core/bytes.js "import './module/index.js';"
+    refuses_form '../disc/disc.js is in a higher room' core/iso/files.js "/** @typedef {import('../disc/disc.js').Disc} Disc */"
+    refuses_form '../more/index.js is in a room that has no place in the order' core/iso/files.js "import '../more/index.js';"
+    refuses_form 'dataTrack is for the tasks of the core' command/help.js "import { dataTrack } from '../core/disc/index.js';"
+    refuses_form 'searchText is for the tasks of the core' page/disc/map.js "import { searchText } from '../../core/texts/index.js';"
+    refuses_form '../tasks/index.js is in a higher room' core/texts/search.js "import '../tasks/index.js';"
+    wanted "eslint refuses a type of a higher room in a room's declarations" has_type core/crew/jobs.d.ts "export { Lines } from '../script/sector_lines.js';"
+    for file in core/tasks/merge.js:.. page/disc/map.js:../../core command/help.js:../core npm/jobs.js:../core; do
+        refuses_form 'What a room gives to others stands in its index.js' "${file%:*}" "import '${file#*:}/sectors/runs.js';"
+    done
     refuses_form 'The core imports only of itself' core/sectors/runs.js "import '../../page/ui/dom.js';"
     refuses_form 'The core imports only of itself' core/bytes.js "import '../page/ui/dom.js';"
     refuses_form 'The core imports only of itself' core/bytes.js "import 'node:os';"

@@ -1,12 +1,14 @@
 #!/usr/bin/env python3
-"""Has the prover refuse wrong bodies: `bodies.py [--lanes N] [CRATE..]` tries the edits in `must-fail` of these crates, or of all, over the
-libraries that `rt ci` or `make` has left. It prints what was refused by which goal; the last line is 'N passed, M failed'.
+"""Has the prover refuse wrong bodies: `bodies.py [--lanes N] [CRATE..]` tries those of these crates, or of all, over the libraries that `rt ci`
+or `make` has left. It prints what was refused by which goal; the last line is 'N passed, M failed'.
+
+A crate's wrong bodies are its edits in `must-fail`, which rt tries too, and the tables `wrong-bodies/FILE.edits`, one for each source file. A
+block of a table is called FUNCTION.MISTAKE and has the rows of an edit. They are laid out for rt in a directory of their own.
 
 `rt must-fail` checks a crate once for each edit, and most of a check is spent on reading the libraries below it. Here one check has an edit
-of each function of the crate: between functions stand contracts, so each edit meets only the goals of its own function. Such an edit
-counts if the check refuses a goal of that function for itself, not for a function that it calls. What does not count so (an edit of a
-table or of several functions, one that only a caller refuses, one that cannot be read) is tried by itself as rt does, and has to be
-refused there."""
+of each function of the crate: functions are separated by contracts, so each edit meets only the goals of its own function. Such an edit
+counts if the check refuses a goal of that function for itself, not for a function that it calls. Every other edit (of a table or of several
+functions, one that only a caller refuses, one that cannot be read) is tried by itself as rt does, and has to be refused there."""
 
 from __future__ import annotations
 
@@ -14,6 +16,7 @@ import argparse
 import os
 import re
 import shutil
+import subprocess
 import sys
 import tempfile
 import time
@@ -24,8 +27,11 @@ from importlib.util import module_from_spec, spec_from_loader
 from pathlib import Path
 from typing import Any
 
-TOP = Path(__file__).resolve().parents[2]
+from tables import TOP, Block, blocks, needed, record, sum_of
+
 RT = Path(shutil.which('rt') or sys.exit('There is no rt on the path.')).resolve()
+# What the toolchain proves with.
+LOGIC = subprocess.run([RT, 'version'], stdout=subprocess.PIPE, text=True, check=True).stdout.partition('logic ')[2]
 FLAGS = ['--jobs', '1']
 # What rt says of a wrong body that was refused: True in release 13b; in 13f a word, as it also says one of those that were not.
 REFUSED = (True, 'refused', 'limit')
@@ -81,10 +87,31 @@ def changed_function(folder: Path, changes: str, named: str) -> str:
     return named
 
 
-def edits_of(crate: Any) -> list[Edit]:
-    good, bad = rt.edits_of(crate)
-    edits = [Edit(path, '', {}, 'it stands in a folder, or its name is none of an edit') for path in bad]
-    for path in good:
+def text_of(crate: Any) -> str:
+    """A sum of the sources, definitions, and proofs of a crate."""
+    files = sorted(path for room in ('src', 'specs', 'proofs') for path in Path(crate.folder, room).rglob('*') if path.is_file())
+    return sum_of(*(part for path in files for part in (bytes(path.relative_to(crate.folder)), path.read_bytes())))
+
+
+def totals(crate: Any) -> list[tuple[Block, str]]:
+    """The wrong bodies in the tables of a crate, with the sum of what each depends on: itself, its crate, those below, and the toolchain."""
+    below = sum_of(*(text_of(it) for it in [crate, *sorted(crate.below(), key=lambda it: str(it.name))]), LOGIC)
+    tables = sorted(Path(crate.folder, 'wrong-bodies').glob('*.edits'))
+    return [(block, sum_of(block.text, below)) for table in tables for block in blocks(table)]
+
+
+def laid_out(crate: Any, wrong: list[Block], room: Path) -> list[str]:
+    """The paths of a crate's edits: those of `must-fail`, and these blocks as files."""
+    paths = []
+    for block in wrong:
+        paths.append(str(room / f'{block.table.stem}.{block.name}.edit'))
+        Path(paths[-1]).write_text(block.text + '\n', encoding='utf-8')
+    return [*rt.edits_of(crate)[0], *paths]
+
+
+def edits_of(crate: Any, paths: list[str]) -> list[Edit]:
+    edits = [Edit(path, '', {}, 'it is in a folder, or its name is not that of an edit') for path in rt.edits_of(crate)[1]]
+    for path in paths:
         texts, why = rt.read_edit(path, crate.folder)
         parts = Path(path).stem.split('.')
         with open(path, encoding='utf-8') as file:
@@ -154,9 +181,14 @@ def tried_alone(crate: Any, edit: Edit, kept: str | None) -> tuple[bool, str]:
     return refused, f'{"alone" if refused else "FAILED:"} {text}'
 
 
-def try_crate(crate: Any) -> tuple[int, int]:
-    """How many wrong bodies of a crate were refused, and how many not."""
-    edits, began = edits_of(crate), time.monotonic()
+def try_crate(crate: Any, wrong: list[Block]) -> tuple[int, int]:
+    """How many of some wrong bodies of a crate were refused, and how many not."""
+    with tempfile.TemporaryDirectory(prefix='wrong-bodies-') as room:
+        return try_edits(crate, edits_of(crate, laid_out(crate, wrong, Path(room))))
+
+
+def try_edits(crate: Any, edits: list[Edit]) -> tuple[int, int]:
+    began = time.monotonic()
     lines, refused = [f'FAILED: {crate.name}: {it.name}: {it.why}' for it in edits if it.why], 0
     fit = [it for it in edits if not it.why]
     with tempfile.TemporaryDirectory(prefix='wrong-bodies-') as kept:
@@ -178,19 +210,29 @@ def try_crate(crate: Any) -> tuple[int, int]:
     return refused, len(edits) - refused
 
 
+def try_and_record(crate: Any, seed: str | None) -> tuple[int, int]:
+    """With a seed, tries what refused.txt lacks and a fifth of the others. Without one tries all, and records them if all are refused."""
+    found = totals(crate)
+    counts = try_crate(crate, [block for block, _ in found] if seed is None else needed(found, seed))
+    if seed is None:
+        record(found if counts[1] == 0 else [], {block.table for block, _ in found})
+    return counts
+
+
 def main() -> int:
     reader = argparse.ArgumentParser()
     reader.add_argument('--lanes', type=int, default=len(os.sched_getaffinity(0)))
+    reader.add_argument('--fifth', metavar='SEED', help='try what refused.txt lacks, and only a fifth of the others')
     reader.add_argument('crates', nargs='*')
     given = reader.parse_args()
-    crates = [it for it in rt.rtlib.crates_below(str(TOP)) if any(rt.edits_of(it)) and (not given.crates or it.name in given.crates)]
+    crates = [it for it in rt.rtlib.crates_below(str(TOP)) if (any(rt.edits_of(it)) or totals(it)) and it.name in (given.crates or [it.name])]
     unbuilt = {low.name for crate in crates for low in crate.below() if not os.path.isdir(low.rlib)}
     if unbuilt:
         sys.exit(f'not built: {", ".join(sorted(unbuilt))}; make builds them')
     rt.rtlib.guarded()
     with ThreadPoolExecutor(given.lanes) as pool:
-        crates.sort(key=lambda crate: -len(rt.edits_of(crate)[0]))
-        counts = [*pool.map(try_crate, crates)]
+        crates.sort(key=lambda crate: -len(totals(crate)))
+        counts = [*pool.map(lambda crate: try_and_record(crate, given.fifth), crates)]
     passed, failed = map(sum, zip(*counts))
     print(f'{passed} passed, {failed} failed')
     return 1 if failed else 0

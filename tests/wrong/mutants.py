@@ -22,7 +22,8 @@ from operator import or_
 from pathlib import Path
 from typing import Any
 
-from versions import MODULE, NOTICES, TESTS, TOP, WRONG, copied, in_cases, spent
+from tables import TOP, WRONG
+from versions import MODULE, NOTICES, TESTS, copied, in_cases, spent
 
 SOURCES = {'core': 'web/core', 'page': 'web/page', 'cdscript': 'web/command', 'python': 'python/cdpatch'}
 USUAL = ['core', 'cdscript', 'python']

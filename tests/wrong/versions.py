@@ -1,10 +1,11 @@
-"""Tries wrong versions: `versions.py SUITE [NAME..]` makes each wrong version of `wrong/SUITE`, or those of these names, as many at a time as there
+"""Tries wrong versions: `versions.py SUITE [NAME..]` makes each wrong version of a suite, or those with these names, as many at a time as there
 are processors, and runs the one test that it names. It prints a line for each: 'refused NAME', 'skipped NAME: WHY', or 'wrong NAME: WHY'.
-`--passed FILE` has the names of tests that pass on the right version, a line each; without it each test is first run on that.
+`--passed FILE` lists the tests that pass on the right version, one a line; without it each test is first run on that.
 
-A wrong version is a file of rows: `file:` below the suite's sources; `old:`, what stands there just once; `new:`, what stands there instead;
-`test:`, the test that has to fail; and `in:`, the file or the part of the suite that has the test, if its name does not tell. A text of
-several lines is as many rows. What the tests want beside these rows they find in the environment, as their suite's `run` gives it."""
+The wrong versions of a file of tests are in the table beside it: `find.wrong` has those of `find.test.mjs`. Those that worked or random cases
+refuse are in `cases.wrong`. A block has the rows `test:`, the test that has to fail; `file:`, below the suite's sources; `old:`, a text that
+occurs there once; `new:`, its replacement; and, in `tools`, `in:`, the part of pack.sh that has the test. A text of several lines is as many
+rows. The tests find everything else that they need in the environment, as their suite's `run` gives it."""
 
 import argparse
 import multiprocessing
@@ -16,15 +17,14 @@ import signal
 import subprocess
 import sys
 import tempfile
-import unittest
 from collections.abc import Callable, Iterator
 from dataclasses import dataclass
 from pathlib import Path
 from typing import Any
 
-WRONG = Path(__file__).resolve().parent
+from tables import TOP, WRONG, Block, blocks, needed, record, sum_of
+
 TESTS = WRONG.parent
-TOP = TESTS.parent
 MODULE = TOP / 'library/cdpatch.wasm'
 NOTICES = Path(os.environ.get('NOTICES', TOP / 'library/NOTICES'))
 sys.path[:0] = [str(TOP / 'tools'), str(TESTS / 'page')]
@@ -57,20 +57,25 @@ class Edit:
     old: str
     new: str
     test: str
-    inside: str
+    part: str
+    table: Path
 
 
-def read_edit(path: Path) -> Edit:
+def rows_of(block: Block) -> dict[str, str]:
     rows: dict[str, list[str]] = {}
-    for line in path.read_text().splitlines():
+    for line in block.text.splitlines():
         found = re.fullmatch(r'(file|old|new|test|in): ?(.*)', line)
         if not found:
             raise Unfit(f'this is no row of a wrong version: {line}')
         rows.setdefault(found[1], []).append(found[2])
+    return {key: '\n'.join(lines) for key, lines in rows.items()}
+
+
+def read_edit(block: Block) -> Edit:
+    rows = rows_of(block)
     if {*rows} - {'in'} != {'file', 'old', 'new', 'test'}:
-        raise Unfit('it wants the rows file, old, new and test')
-    said = {key: '\n'.join(lines) for key, lines in rows.items()}
-    return Edit(path.stem, said['file'], said['old'], said['new'], said['test'], said.get('in', ''))
+        raise Unfit('it needs the rows file, old, new, and test')
+    return Edit(block.name, rows['file'], rows['old'], rows['new'], rows['test'], rows.get('in', ''), block.table)
 
 
 def change(root: Path, edit: Edit) -> None:
@@ -121,12 +126,16 @@ def limit() -> None:
     resource.setrlimit(resource.RLIMIT_CPU, (LONGEST, LONGEST + 5))
 
 
-def file_of(test: str, pattern: str, form: str) -> Path:
-    """The file of tests that has a test of this name."""
-    found = [file for file in sorted(TESTS.glob(pattern)) if form.format(test) in file.read_text()]
-    if len(found) != 1:
-        raise Unfit(f'{len(found)} files have its test: {test}')
-    return found[0]
+def tests_beside(table: Path) -> Path | None:
+    """The file of tests that a table is beside."""
+    return next((file for file in map(table.with_suffix, ('.test.mjs', '.py', '.sh')) if file.exists()), None)
+
+
+def tests_of(edit: Edit) -> Path:
+    found = tests_beside(edit.table)
+    if not found:
+        raise Unfit(f'there are no tests beside {edit.table.name}')
+    return found
 
 
 def in_cases(test: str, client: str, path: Path, room: Path) -> bool:
@@ -140,7 +149,7 @@ def core(edit: Edit, wrong: Edit | None, room: Path) -> bool | None:
     directory = copied(TOP / 'web/core', wrong, room / 'core')
     if edit.test in CASES:
         return in_cases(edit.test, 'core', directory, room)
-    return in_node(TESTS / 'core' / edit.inside, edit.test, room, CORE=str(directory))
+    return in_node(tests_of(edit), edit.test, room, CORE=str(directory))
 
 
 def cdscript(edit: Edit, wrong: Edit | None, room: Path) -> bool | None:
@@ -149,7 +158,7 @@ def cdscript(edit: Edit, wrong: Edit | None, room: Path) -> bool | None:
     command.chmod(0o755)
     if edit.test in CASES:
         return in_cases(edit.test, 'cdscript', command, room)
-    return in_node(TESTS / 'cdscript' / edit.inside, edit.test, room, COMMAND=str(command))
+    return in_node(tests_of(edit), edit.test, room, COMMAND=str(command))
 
 
 def packed(door: str, web: Path) -> str:
@@ -159,34 +168,24 @@ def packed(door: str, web: Path) -> str:
 
 def page(edit: Edit, wrong: Edit | None, room: Path) -> bool | None:
     web = copied(TOP / 'web', wrong, room / 'web')
-    if is_logic(edit):
-        test = edit.test.removeprefix('logic: ')
-        file = TESTS / 'page' / edit.inside if edit.inside else file_of(test, 'page/*.test.mjs', "test('{}'")
-        return in_node(file, test, room, WEB=str(web))
+    if not is_browsed(edit.table):
+        return in_node(tests_of(edit), edit.test, room, WEB=str(web))
     made = room / 'cdpatch.html'
     made.write_text(packed('page', web))
     return in_browser(edit.test, made)
 
 
-def is_logic(edit: Edit) -> bool:
-    return edit.test.startswith('logic: ')
-
-
-def is_browsed(suite: str, edit: Edit) -> bool:
-    return suite == 'page' and not is_logic(edit)
-
-
-IN_BROWSER: dict[str, unittest.TestCase] = {}
+def is_browsed(table: Path) -> bool:
+    """Whether the tests beside a table run in a browser."""
+    return table.match('page/test_*')
 
 
 def in_browser(test: str, made: Path) -> bool:
     """Whether a test fails on a page, in the window of this process."""
-    import all as browser
-    if not IN_BROWSER:
-        IN_BROWSER.update({browser.named(it): it for it in browser.all_tests()})
-    if test not in IN_BROWSER:
+    import single
+    if test not in single.all_tests():
         raise Unfit(f'there is no test {test}')
-    failed = browser.fails_on(IN_BROWSER[test], made)
+    failed = single.fails_on(test, made)
     if failed is None:
         raise Skipped(f'its test is skipped: {test}')
     return failed
@@ -213,7 +212,6 @@ def python(edit: Edit, wrong: Edit | None, room: Path) -> bool | None:
     copied(TOP / 'python/cdpatch', wrong, package / 'cdpatch')
     if edit.test in CASES:
         return in_cases(edit.test, 'python', package, room)
-    file = file_of(edit.test, 'python/test_*.py', 'def {}(')
     sys.path.insert(0, str(package))
     os.environ['PYTHONPATH'] = str(package)
     seen = Seen()
@@ -221,7 +219,7 @@ def python(edit: Edit, wrong: Edit | None, room: Path) -> bool | None:
     with open(os.devnull, 'w', encoding='utf-8') as nothing:
         os.dup2(nothing.fileno(), 1)
     pytest.main(['-q', '-x', '-p', 'no:cacheprovider', '--rootdir', str(TESTS / 'python'), '--basetemp', str(room / 'made'),
-                 '--hypothesis-profile=first', '-k', edit.test, str(file)], plugins=[seen])
+                 '--hypothesis-profile=first', '-k', edit.test, str(tests_of(edit))], plugins=[seen])
     os.dup2(kept, 1)
     if edit.test not in seen.failed:
         raise Unfit('its test did not run')
@@ -233,7 +231,7 @@ def tools(edit: Edit, wrong: Edit | None, room: Path) -> bool | None:
         shutil.copytree(TOP / name, room / name, copy_function=linked)
     if wrong:
         change(room, wrong)
-    return judged('pack', edit.test, TREE=str(room), ONLY=edit.inside, CASE=edit.test)
+    return judged('pack', edit.test, TREE=str(room), ONLY=edit.part, CASE=edit.test)
 
 
 def judged(script: str, test: str, **more: str) -> bool:
@@ -248,15 +246,21 @@ def judged(script: str, test: str, **more: str) -> bool:
     return False
 
 
-def bodies(edit: Edit, wrong: Edit | None, room: Path) -> bool | None:
-    shutil.copy(WRONG / 'bodies.py', room)
-    if wrong:
-        change(room, wrong)
-    return judged('bodies', edit.test, BODIES=str(room / 'bodies.py'))
+def targets(edit: Edit, wrong: Edit | None, room: Path) -> bool | None:
+    """Those of memory.c are compiled for Windows."""
+    system = 'arm64' if edit.file == 'linux.c' else 'windows'
+    directory = copied(TOP / 'targets', wrong, room / 'targets')
+    ran = subprocess.run(['python3', '-B', str(TESTS / 'targets/shims.py'), system, str(directory), edit.test], stdout=subprocess.PIPE, check=False)
+    if ran.stdout.decode().split()[1:] != [edit.test]:
+        raise Unfit('its test did not run')
+    return ran.returncode != 0
 
 
 SUITES: dict[str, Callable[[Edit, Edit | None, Path], bool | None]] = {
-    'core': core, 'cdscript': cdscript, 'page': page, 'python': python, 'tools': tools, 'bodies': bodies}
+    'core': core, 'cdscript': cdscript, 'page': page, 'python': python, 'targets': targets, 'tools': tools}
+# The directories of tests with a suite's tables, and its sources.
+TABLES = {'page': ('page', 'hostile')}
+SOURCES = {'core': 'web/core', 'cdscript': 'web', 'page': 'web', 'python': 'python/cdpatch', 'targets': 'targets', 'tools': '.'}
 
 
 def failed(suite: str, edit: Edit, wrong: Edit | None) -> bool | None:
@@ -264,10 +268,10 @@ def failed(suite: str, edit: Edit, wrong: Edit | None) -> bool | None:
         return SUITES[suite](edit, wrong, Path(room))
 
 
-def outcome(suite: str, path: Path, passed: set[str] | None) -> str:
+def outcome(suite: str, block: Block, passed: set[str] | None) -> str:
     """The line of a wrong version."""
     try:
-        edit = read_edit(path)
+        edit = read_edit(block)
         if passed is not None and edit.test not in passed:
             raise Unfit(f'its test has not passed on the right version: {edit.test}')
         if passed is None and failed(suite, edit, None) is not False:
@@ -277,14 +281,14 @@ def outcome(suite: str, path: Path, passed: set[str] | None) -> str:
             raise Unfit(f'its test takes longer than {LONGEST} s on the right version too: {edit.test}')
         # A busy browser may show a wrong page as if it were right, and be too slow for the right one.
         at_once = refused is not False
-        if not at_once and not (is_browsed(suite, edit) and failed(suite, edit, edit)):
+        if not at_once and not (is_browsed(edit.table) and failed(suite, edit, edit)):
             raise Unfit(f'its test passes: {edit.test}')
     except Skipped as why:
-        return f'skipped {path.stem}: {why}'
+        return f'skipped {block.name}: {why}'
     except (Exception, SystemExit) as why:  # what a process of a pool raises may make the pool wait for ever
         name = '' if isinstance(why, Unfit) else f'{type(why).__name__}: '
-        return ' '.join(f'wrong {path.stem}: {name}{why}'.split())
-    return f'refused {path.stem}{"" if at_once else ": when it was tried once more"}'
+        return ' '.join(f'wrong {block.name}: {name}{why}'.split())
+    return f'refused {block.name}{"" if at_once else ": when it was tried once more"}'
 
 
 def spent() -> float:
@@ -292,19 +296,19 @@ def spent() -> float:
     return sum(it.ru_utime + it.ru_stime for it in map(resource.getrusage, (resource.RUSAGE_SELF, resource.RUSAGE_CHILDREN)))
 
 
-def tried(given: tuple[str, Path, set[str] | None]) -> str:
+def tried(given: tuple[str, Block, set[str] | None]) -> str:
     before = spent()
     return f'{outcome(*given)}{f" ({spent() - before:.1f} s)" if TIMES else ""}'
 
 
-def tried_in_window(given: tuple[int, list[Path], set[str] | None]) -> str:
+def tried_in_window(given: tuple[int, list[Block], set[str] | None]) -> str:
     """The lines of wrong pages, one after the other in one window, in which the right page still has to pass after them."""
     import chromium
-    number, paths, passed = given
-    right = Edit('', '', '', '', LAST, '')
+    number, wrong, passed = given
+    right = Edit('', '', '', '', LAST, '', TESTS / 'page/test_text.wrong')
     try:
-        for path in paths:
-            print(tried(('page', path, passed)), flush=True)
+        for block in wrong:
+            print(tried(('page', block, passed)), flush=True)
         if failed('page', right, None) and failed('page', right, None):
             return f'wrong window_{number}: the right page is refused after all wrong ones: {LAST}'
     except Exception as why:  # as above
@@ -317,14 +321,14 @@ def tried_in_window(given: tuple[int, list[Path], set[str] | None]) -> str:
 TIMES = False
 
 
-def lines_of(suite: str, paths: list[Path], passed: set[str] | None) -> Iterator[str]:
+def lines_of(suite: str, wrong: list[Block], passed: set[str] | None) -> Iterator[str]:
     """The lines of all wrong versions, as they come."""
     if suite == 'python':
         # Once for all processes that are forked.
         import hypothesis  # noqa: F401
         import pytest  # noqa: F401
-    browsed = [path for path in paths if suite == 'page' and '\ntest: logic: ' not in '\n' + path.read_text()]
-    others = [(suite, path, passed) for path in paths if path not in browsed]
+    browsed = [block for block in wrong if is_browsed(block.table)]
+    others = [(suite, block, passed) for block in wrong if not is_browsed(block.table)]
     with multiprocessing.Pool(os.cpu_count(), maxtasksperchild=1 if suite == 'python' else None) as pool:
         yield from pool.imap_unordered(tried, others)
         pool.close()
@@ -336,22 +340,52 @@ def lines_of(suite: str, paths: list[Path], passed: set[str] | None) -> Iterator
             pool.join()
 
 
+def all_of(suite: str) -> list[Block]:
+    """The wrong versions of a suite."""
+    found = [block for room in TABLES.get(suite, (suite,)) for table in sorted((TESTS / room).glob('*.wrong')) for block in blocks(table)]
+    names = [block.name for block in found]
+    if twice := {name for name in names if names.count(name) > 1}:
+        sys.exit(f'versions.py: two wrong versions have the name {min(twice)}')
+    return found
+
+
+def total(suite: str, block: Block) -> str:
+    """The sum of what a wrong version depends on: its block, the file that it changes, and the file of its test."""
+    source = TOP / SOURCES[suite] / next((line[6:] for line in block.text.splitlines() if line.startswith('file: ')), '')
+    tests = tests_beside(block.table)
+    return sum_of(block.text, *(file.read_bytes() for file in (source, tests) if file and file.is_file()))
+
+
+def selected(suite: str, given: argparse.Namespace) -> list[Block]:
+    """The wrong versions that are to be tried."""
+    wrong = all_of(suite)
+    if missing := {*given.names} - {block.name for block in wrong}:
+        sys.exit(f'versions.py: no wrong version has the name {min(missing)}')
+    if given.names:
+        return [block for block in wrong if block.name in given.names]
+    return wrong if given.fifth is None else needed([(block, total(suite, block)) for block in wrong], given.fifth)
+
+
 def main() -> int:
     global TIMES
     words = argparse.ArgumentParser(description='Tries wrong versions of what a suite tests.')
     words.add_argument('suite', choices=SUITES)
     words.add_argument('names', nargs='*', metavar='NAME')
     words.add_argument('--passed', type=Path, metavar='FILE', help='the tests that pass on the right version')
-    words.add_argument('--edits', type=Path, metavar='DIRECTORY', help='wrong versions of another directory')
+    words.add_argument('--fifth', metavar='SEED', help='try what refused.txt does not have, and only a fifth of the others')
+    words.add_argument('--record', action='store_true', help='write what was refused into refused.txt')
     words.add_argument('--times', action='store_true', help='print the seconds of a processor of each')
     given = words.parse_args()
     TIMES = given.times
     subprocess.run([sys.executable, '-B', str(TOP / 'tools/header_numbers.py')], check=True)
-    paths = [path for path in sorted((given.edits or WRONG / given.suite).glob('*.edit')) if not given.names or path.stem in given.names]
-    if missing := set(given.names) - {path.stem for path in paths}:
-        sys.exit(f'versions.py: no wrong version has the name {min(missing)}')
-    for line in lines_of(given.suite, paths, set(given.passed.read_text().splitlines()) if given.passed else None):
+    wrong, refused = selected(given.suite, given), set()
+    for line in lines_of(given.suite, wrong, set(given.passed.read_text().splitlines()) if given.passed else None):
         print(line, flush=True)
+        if line.startswith('refused '):
+            refused.add(line.split()[1].rstrip(':'))
+    if given.record and not given.names:
+        record([(block, total(given.suite, block)) for block in wrong if block.name in refused], {block.table for block in wrong})
+    print(f'tried {len(wrong)} of {len(all_of(given.suite))}')
     return 0
 
 

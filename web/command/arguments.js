@@ -1,10 +1,10 @@
 // The arguments of the command line.
 
-import { LAST_TRACK } from '../core/disc/cue.js';
+import { LAST_TRACK } from '../core/disc/index.js';
+import { ENCODINGS, encodingOf } from '../core/encodings/index.js';
 import { Fault } from '../core/faults.js';
-import { LAST_BASE, LAST_BLOCK } from '../core/module/numbers.js';
-import { ENCODINGS, encodingOf } from '../core/texts/encodings.js';
-import { bytesOfHex } from '../core/texts/hex.js';
+import { bytesOfHex } from '../core/hex_digits.js';
+import { LAST_BASE, LAST_BLOCK } from '../core/module/index.js';
 import { FORMS, OPTION_FORMS } from './forms.js';
 import { numberOf } from './numbers.js';
 import { didYouMean } from './suggesting.js';

@@ -1,15 +1,13 @@
 // The jobs that are the program's: `list`, `audit`, `check` and `apply`, with its texts, statuses and limits.
 
-import { sampledBase } from '../core/disc/base.js';
+import { sampledBase } from '../core/disc/index.js';
 import { FAULT, Fault, failedBy } from '../core/faults.js';
-import { STATUS } from '../core/module/records.js';
-import { NEAR_WRITTEN } from '../core/script/patch_run.js';
-import { passPatched } from '../core/script/patches.js';
-import { Refusal, readScript } from '../core/script/script.js';
-import { SECTOR_SIZE, imageTooLong } from '../core/sectors/sector.js';
-import { auditText, listText } from '../core/sectors/survey.js';
+import { SECTOR_SIZE, STATUS } from '../core/module/index.js';
+import { NEAR_WRITTEN, passPatched } from '../core/script/index.js';
+import { auditText, imageTooLong, listText } from '../core/sectors/index.js';
+import { assertBase, validScript } from '../core/tasks/index.js';
 import { MESSAGES } from './messages.js';
-import { assertBase, openTrack } from './opening.js';
+import { openTrackOf } from './opening.js';
 
 /** @typedef {import('../core/bytes.js').Piece} Piece */
 /** @typedef {import('../core/bytes.js').Reader} Reader */
@@ -63,6 +61,7 @@ async function orSay(messages, tried) {
         return await tried();
     } catch (error) {
         if (failedBy(error, FAULT.IMAGE_ENDED)) throw programFault(messages.read);
+        if (failedBy(error, FAULT.SCRIPT)) throw new Fault(`${error.message}\n`, FAULT.PROGRAM);
         if (!failedBy(error, FAULT.FILE)) throw error;
         const { attempt = 'open' } = error.facts;
         throw programFault(messages[attempt], attempt === 'make' ? error.message : '');
@@ -95,7 +94,7 @@ async function checkBase(run, name, reader) {
 async function openImage(run) {
     const [name] = run.names;
     const isSheet = /\.cue$/i.test(name);
-    if (isSheet) return (await openTrack(run, name, true)).image;
+    if (isSheet) return (await openTrackOf(run, name, true)).image;
     const { reader } = await orSay(OF_IMAGES, () => run.files.image(name));
     const { base } = run.options;
     if (base === undefined && !imageTooLong(reader.size)) await checkBase(run, name, reader);
@@ -127,9 +126,7 @@ export const auditJob = asProgram(run => report(run, auditText, 'survey'));
  */
 async function scriptNamed(run) {
     const pieces = run.files.piecesOf(run.names[1]);
-    const script = await orSay(OF_SCRIPTS, () => readScript(run.calls, pieces, run.options.long));
-    if (script instanceof Refusal) throw programFault(script.text);
-    return script;
+    return orSay(OF_SCRIPTS, () => validScript(run.calls, pieces, run.options.long));
 }
 
 /**
@@ -137,9 +134,14 @@ async function scriptNamed(run) {
  * @param {Run} run
  * @param {ReadScript} script
  */
-async function imageForScript(run, { bases }) {
+async function imageForScript(run, script) {
     const image = await openImage(run);
-    assertBase(bases, image.base);
+    try {
+        assertBase(script, image.base);
+    } catch (error) {
+        if (!failedBy(error, FAULT.OTHER_BASE) || !error.facts.other) throw error;
+        throw new Fault(`${error.message}: give --base ${error.facts.other.base}, or take that line out`);
+    }
     return image;
 }
 

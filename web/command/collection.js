@@ -2,7 +2,7 @@
 
 import { fstatSync, readFileSync, readdirSync, realpathSync, statSync } from 'node:fs';
 import { dirname, join } from 'node:path';
-import { sheetsOf } from '../core/disc/cue.js';
+import { sheetsOf } from '../core/disc/index.js';
 import { Fault } from '../core/faults.js';
 import { reasonOf } from './failures.js';
 import { nameOfBytes, pathOf } from './names.js';

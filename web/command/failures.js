@@ -16,6 +16,7 @@ const REASONS = {
     ENOMEM: 'no memory',
     ENOSPC: 'the disk is full',
     ENOTDIR: 'a part of the path is no directory',
+    ENXIO: 'it cannot be the name of a file',
     EDQUOT: 'the quota is used up',
     EPERM: 'no permission',
     EROFS: 'the disk is read-only',

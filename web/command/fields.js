@@ -1,12 +1,12 @@
 // How many bytes of which fields differ between two images: `diff --fields`.
 
 import { bytesOfLines } from '../core/bytes.js';
-import { Fault } from '../core/faults.js';
-import { FIELD_COUNT, tailsDiffer } from '../core/images/compare.js';
-import { FIELDS } from '../core/sectors/sector.js';
+import { FIELDS } from '../core/sectors/index.js';
+import { FIELD_COUNT, findDifferences } from '../core/tasks/index.js';
 
-/** @typedef {import('../core/images/compare.js').Differing} Differing */
-/** @typedef {import('../core/disc/disc.js').DiscImage} DiscImage */
+/** @typedef {import('../core/tasks/compare.js').Differing} Differing */
+/** @typedef {import('../core/bytes.js').Reader} Reader */
+/** @typedef {import('../core/tasks/opened.js').OpenedTrack} OpenedTrack */
 /** @typedef {import('./run.js').Run} Run */
 /** @typedef {import('./run.js').Target} Target */
 
@@ -21,18 +21,13 @@ function fieldLines({ blocks, fields }) {
 /**
  * @param {Run} run
  * @param {Target} target
- * @param {DiscImage} old
- * @param {DiscImage} fresh
+ * @param {OpenedTrack} opened
+ * @param {Reader} fresh of as many bytes
  */
-export async function differingFields(run, target, old, fresh) {
-    if (old.reader.size !== fresh.reader.size) throw new Fault(`the images have ${old.reader.size} and ${fresh.reader.size} bytes`);
-    let count = 0;
-    await run.crew.share('differ', [old.reader, fresh.reader], {}, { base: old.base }, async differing => {
-        await target.write(bytesOfLines(fieldLines(differing)));
-        count += differing.blocks.length;
-    });
-    const tail = await tailsDiffer(old.reader, fresh.reader);
+export async function differingFields(run, target, opened, fresh) {
+    const print = (/** @type {string[]} */ lines) => target.write(bytesOfLines(lines));
+    const { sectors, tail } = await findDifferences(run, opened, fresh, differing => print(fieldLines(differing)));
     if (tail) run.say('the bytes after the last sector differ');
-    await target.write(bytesOfLines([`sectors ${old.sectors} differ ${count}`]));
-    return Number(count > 0 || tail);
+    await print([`sectors ${opened.image.sectors} differ ${sectors}`]);
+    return Number(sectors > 0 || tail);
 }

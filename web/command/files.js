@@ -2,7 +2,7 @@
 
 import { closeSync, constants, fstatSync, open, read, readFileSync, readSync } from 'node:fs';
 import { Fault, inMemory } from '../core/faults.js';
-import { MOST_SECTORS, SECTOR_SIZE } from '../core/sectors/sector.js';
+import { MOST_SECTORS, SECTOR_SIZE } from '../core/module/index.js';
 import { hasCode, tryFile } from './failures.js';
 import { pathOf } from './names.js';
 import { NewFile } from './new_file.js';

@@ -1,7 +1,7 @@
 // The jobs and the options of the command line, and what help says of each.
 
-import { LAST_BASE } from '../core/module/numbers.js';
-import { ENCODINGS } from '../core/texts/encodings.js';
+import { ENCODINGS } from '../core/encodings/index.js';
+import { LAST_BASE } from '../core/module/index.js';
 import { applyJob, auditJob, checkJob, listJob } from './as_program.js';
 import { extractJob, mergeJob, rawJob, userJob } from './images.js';
 import { infoJob } from './informing.js';

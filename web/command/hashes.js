@@ -3,7 +3,7 @@
 import { createHash } from 'node:crypto';
 import { basename } from 'node:path';
 import { crc32 } from '../core/crc32.js';
-import { BAD_DUMP } from '../core/disc/dat.js';
+import { BAD_DUMP } from '../core/disc/index.js';
 
 /** @typedef {import('../core/disc/dat.js').Hashes} Hashes */
 /** @typedef {import('../core/disc/dat.js').KnownDumps} KnownDumps */

@@ -1,24 +1,22 @@
 // The jobs that write images: `merge`, `raw`, `user` and `extract`.
 
 import { bytesOfLines } from '../core/bytes.js';
-import { natureOf } from '../core/disc/file_type.js';
+import { natureOf } from '../core/disc/index.js';
 import { Fault } from '../core/faults.js';
-import { passFile, passUser } from '../core/images/convert.js';
-import { blocksBeyond, shiftOf, shiftText } from '../core/images/common_part.js';
-import { mergeImages } from '../core/images/merge.js';
-import { LAST_BASE } from '../core/module/numbers.js';
-import { kindName } from '../core/module/records.js';
-import { lostSectors, mode1Tracks } from '../core/sectors/lost.js';
-import { blocksIn, blocksText, commonRuns, joinedRuns } from '../core/sectors/runs.js';
-import { USER_SIZE } from '../core/sectors/sector.js';
+import { LAST_BASE, USER_SIZE, kindName } from '../core/module/index.js';
+import { blocksIn, blocksText } from '../core/sectors/index.js';
+import { passFile, passUser, repairTrack } from '../core/tasks/index.js';
 import { RunningHashes, sayKnown } from './hashes.js';
 import { fileAtPath } from './looking.js';
-import { openTrack } from './opening.js';
+import { openTrackOf } from './opening.js';
 import { MOST_UNTESTED, linesOfRuns, sayOfRuns, untestedText, visible } from './printed.js';
 
-/** @typedef {import('../core/images/merge.js').Repair} Repair */
+/** @typedef {import('../core/tasks/common_part.js').Ranges} Ranges */
+/** @typedef {import('../core/tasks/common_part.js').Shift} Shift */
+/** @typedef {import('../core/tasks/repair.js').Refusal} Refusal */
+/** @typedef {import('../core/tasks/repair.js').Repair} Repair */
 /** @typedef {import('../core/disc/disc.js').DiscImage} DiscImage */
-/** @typedef {import('../core/images/convert.js').KindRun} KindRun */
+/** @typedef {import('../core/tasks/convert.js').KindRun} KindRun */
 /** @typedef {import('../core/sectors/runs.js').Run} BlockRun */
 /** @typedef {import('./run.js').Run} Run */
 
@@ -33,10 +31,8 @@ const MOST_ALIKE = 10;
  * What was taken, and what could not be repaired, in lines.
  * @param {Repair} repair
  * @param {DiscImage[]} others
- * @param {BlockRun[]} lost
- * @param {BlockRun[]} unlike sectors that were not tested and are not the same in all dumps
  */
-function repairLines({ taken, damaged, alike, disputed, differing, different }, others, lost, unlike) {
+function repairLines({ taken, damaged, alike, disputed, differing, different, lost, unlike }, others) {
     const numbers = [taken, damaged, disputed].map(blocksIn).concat(different.reduce((sum, count) => sum + count, 0));
     const inBoth = differing.flatMap((runs, other) => runs.map(run => ({ ...run, other })));
     const sameDamage = `alike ${blocksIn(alike)}, damaged with the same bytes in all dumps:`;
@@ -68,17 +64,41 @@ function unlikeLines(unlike) {
  * @param {Run} run
  * @param {DiscImage} image
  * @param {DiscImage} other
- * @param {{ from: number, to: number }} part of the image that the other has
+ * @param {Ranges} ranges
  * @param {string} out
  */
-function sayOtherRange(run, image, other, { from, to }, out) {
-    const isPart = to - from < image.sectors;
-    const part = { first: from + image.base, last: to + image.base - 1 };
-    if (isPart) run.say(`${other.name} has only ${blocksText([part])} of ${image.name}`);
-    const beyond = blocksBeyond(image, other);
+function sayOtherRange(run, image, other, { common, missing, beyond }, out) {
+    if (missing.length > 0) run.say(`${other.name} has only ${blocksText(common)} of ${image.name}`);
     if (beyond.length === 0) return;
     const what = `${other.name} has ${blocksText(beyond)}, which ${image.name} has not, so ${out} has not either`;
-    run.say(isPart ? what : `${what}: name ${other.name} first`);
+    run.say(missing.length > 0 ? what : `${what}: name ${other.name} first`);
+}
+
+/**
+ * Why nothing is repaired.
+ * @param {Repair} repair
+ * @param {Refusal} refused
+ * @param {string[]} names of the image, and of the other ones
+ */
+function refusedText({ different, sectors }, refused, [name, ...others]) {
+    const other = others[refused.other];
+    if (refused.why === 'apart') {
+        const [own, first] = refused.first;
+        return `${name} begins with block ${own}, ${other} with block ${first}: they are not the same part of a disc`;
+    }
+    const sound = `${different[refused.other]} of ${sectors} sectors are sound in ${name} and in ${other}, and differ`;
+    const { shift } = refused;
+    return `${sound}: ${shift ? shiftText(shift, shift.isOther ? other : name) : 'one of them is patched, shifted or of another disc'}`;
+}
+
+/**
+ * @param {Shift} shift
+ * @param {string} name of the image that is shifted
+ */
+function shiftText({ by, first }, name) {
+    const count = Math.abs(by);
+    const [sectors, are] = count === 1 ? ['1 sector', 'is'] : [`${count} sectors`, 'are'];
+    return `from block ${first} on ${name} is shifted, for ${sectors} before it ${are} ${by > 0 ? 'missing' : 'too many'}`;
 }
 
 /** @param {Run} run */
@@ -87,30 +107,22 @@ export async function mergeJob(run) {
     const known = await run.knownDumps();
     const out = await run.files.make(more.pop() || '');
     const hash = known && new RunningHashes(known.needs);
-    const { image, part, disc, track } = await openTrack(run, name, true);
-    const opened = [];
-    for (const other of more) opened.push(await openTrack(run, other, true));
-    const others = opened.map(it => it.image);
+    const opened = await openTrackOf(run, name, true);
+    const dumps = [];
+    for (const other of more) dumps.push(await openTrackOf(run, other, true));
+    const [image, ...others] = [opened, ...dumps].map(it => it.image);
     const seen = (/** @type {Uint8Array} */ bytes) => void (hash && hash.update(bytes));
-    const repair = await mergeImages(run.crew, image, others, {}, piece => out.writePiece(image.reader, piece, seen));
-    if (repair.refused) {
-        const i = repair.different.indexOf(Math.max(...repair.different));
-        const sound = `${repair.different[i]} of ${repair.sectors} sectors are sound in ${name} and in ${others[i].name}`;
-        const shift = await shiftOf(run.calls, image, others[i], repair.differing[i]);
-        throw new Fault(`${sound}, and differ: ${shift ? shiftText(shift) : 'one of them is patched, shifted or of another disc'}`);
-    }
-    repair.parts.forEach((common, i) => sayOtherRange(run, image, others[i], common, out.name));
+    const repair = await repairTrack(run, opened, dumps, piece => out.writePiece(image.reader, piece, seen), run.watch);
+    const { refused, doubtful, untested } = repair;
+    if (refused) throw new Fault(refusedText(repair, refused, [image, ...others].map(it => it.name)));
+    repair.ranges.forEach((ranges, i) => sayOtherRange(run, image, others[i], ranges, out.name));
     others.filter((_, i) => repair.tails[i]).forEach(other => run.say(`${TAILS} in ${other.name}; those of ${name} are kept`));
-    const later = others.map((it, i) => repair.parts[i].later + image.base - it.base);
-    const dumps = [{ image, part, later: 0 }, ...opened.map((it, i) => ({ ...it, later: later[i] }))];
-    const { lost, untested } = await lostSectors(image, repair, mode1Tracks(disc, track.file, image.base), dumps);
-    const unlike = commonRuns(repair.unlike, joinedRuns(untested));
-    await run.output.write(bytesOfLines(repairLines(repair, others, lost, unlike).map(visible)));
-    if (untested.length > 0) run.say(untestedText(untested, disc.sheet !== null));
+    await run.output.write(bytesOfLines(repairLines(repair, others).map(visible)));
+    if (untested.length > 0) run.say(untestedText(untested, opened.disc.sheet !== null));
     const isBad = known !== null && hash !== null && sayKnown(run, known, out.name, image.reader.size, hash.digest());
-    sayOfRuns(run, repair.doubtful, it => `${blocksText([it])}: taken from ${others[it.other].name}, but ${OTHER_EDC}`);
+    sayOfRuns(run, doubtful, it => `${blocksText([it])}: taken from ${others[it.other].name}, but ${OTHER_EDC}`);
     if (isBad) return 1;
-    return Number([repair.damaged, repair.doubtful, lost, unlike].some(runs => runs.length > 0));
+    return Number([repair.damaged, doubtful, repair.lost, repair.unlike].some(runs => runs.length > 0));
 }
 
 /** @param {Run} run */
@@ -142,7 +154,7 @@ function sayOthers(run, others) {
 /** @param {Run} run */
 export async function userJob(run) {
     const out = await run.files.make(run.names[1]);
-    const { part } = await openTrack(run, run.names[0]);
+    const { part } = await openTrackOf(run, run.names[0]);
     const how = { base: part.base };
     const has = sayOthers(run, await passUser(run.crew, part.reader, part.sectors * USER_SIZE, how, user => out.write(user)));
     if (part.base > 0) run.say(`for the way back: cdscript raw --first ${part.base}`);
@@ -154,7 +166,7 @@ export async function userJob(run) {
 /** @param {Run} run */
 export async function extractJob(run) {
     const out = await run.files.make(run.names[2]);
-    const { part } = await openTrack(run, run.names[0]);
-    const { extents } = await fileAtPath(part, run.names[1]);
-    return Number(sayOthers(run, await passFile(run.crew, part, extents, {}, user => out.write(user))));
+    const opened = await openTrackOf(run, run.names[0]);
+    const { extents } = await fileAtPath(opened, run.names[1]);
+    return Number(sayOthers(run, await passFile(run.crew, opened.part, extents, {}, user => out.write(user))));
 }

@@ -2,19 +2,18 @@
 
 import { basename } from 'node:path';
 import { bytesOfLines } from '../core/bytes.js';
-import { natureOf } from '../core/disc/file_type.js';
-import { SECTOR_KIND } from '../core/module/records.js';
-import { fileIn } from '../core/sectors/lost.js';
-import { blocksIn } from '../core/sectors/runs.js';
-import { kindRuns, listText } from '../core/sectors/survey.js';
+import { fileIn, natureOf } from '../core/disc/index.js';
+import { SECTOR_KIND } from '../core/module/index.js';
+import { blocksIn, kindRuns, listText } from '../core/sectors/index.js';
+import { findingsIn, unsurveyedTracks } from '../core/tasks/index.js';
 import { SHA1_ONLY, Verdicts } from './hashes.js';
 import { openDiscOf } from './opening.js';
 import { linesOfRuns, untestedText, visible } from './printed.js';
-import { findingsIn, foundInFiles, hashesOf, unsurveyedTracks } from './surveying.js';
+import { foundInFiles, hashesOf } from './surveying.js';
 
 /** @typedef {import('../core/disc/disc.js').Disc} Disc */
 /** @typedef {import('../core/disc/disc.js').DiscTrack} DiscTrack */
-/** @typedef {import('../core/sectors/lost.js').Lost} Lost */
+/** @typedef {import('../core/disc/lost.js').Lost} Lost */
 /** @typedef {import('../core/disc/dat.js').Hashes} Hashes */
 /** @typedef {import('./run.js').Run} Run */
 /** @typedef {{ found: boolean, lines: string[] }} Informed whether something is wrong, and what is printed */
@@ -37,7 +36,7 @@ function trackText(disc, { number, type, file, block, sectors, part }) {
 
 /**
  * What is said of blocks that the image lacks of its volume.
- * @param {import('../core/iso/volume_end.js').Lack} lack
+ * @param {import('../core/disc/volume_end.js').Lack} lack
  */
 function lackText({ missing: { first, last }, blocks, file, isSure }) {
     const what = `${first}-${last} not in the image`;

@@ -2,28 +2,28 @@
 
 import { bytesOfLines } from '../core/bytes.js';
 import { Fault } from '../core/faults.js';
-import { fileOrder } from '../core/iso/file_order.js';
-import { filesIfAny, filesLines, filesOf, wholeFile } from '../core/iso/files.js';
-import { kindName } from '../core/module/records.js';
-import { sectorsOfRange } from '../core/script/replace_bytes.js';
-import { FIELDS, USER_SIZE, addressIn, addressText } from '../core/sectors/sector.js';
-import { findingOf } from '../core/sectors/survey.js';
-import { LONGEST_CHARACTER, LOOKED_BACK, bytesInside, charactersFrom } from '../core/texts/boundaries.js';
-import { shownCell } from '../core/texts/codes.js';
-import { FilesAlong, bytesAround, contextsOf } from '../core/texts/context.js';
-import { hexText } from '../core/texts/hex.js';
+import { hexText } from '../core/hex_digits.js';
+import { filesLines, wholeFile } from '../core/iso/index.js';
+import { USER_SIZE, kindName } from '../core/module/index.js';
+import { FIELDS, addressIn, addressText, findingOf } from '../core/sectors/index.js';
+import { sectorsOfRange } from '../core/tasks/index.js';
+import { FilesAlong, LONGEST_CHARACTER, LOOKED_BACK, bytesAround, bytesInside, charactersFrom, contextsOf } from '../core/texts/index.js';
+import { shownCell } from '../core/texts/index.js';
 import { placeGiven } from './numbers.js';
-import { openTrack } from './opening.js';
+import { openTrackOf } from './opening.js';
 import { visible } from './printed.js';
-import { encodingsOf, hitsOf } from './searching.js';
+import { encodingsOf, foundText } from './searching.js';
 import { nearest } from './suggesting.js';
 
 /** @typedef {import('../core/disc/disc.js').DiscImage} DiscImage */
-/** @typedef {import('../core/script/replace_bytes.js').Place} Place */
+/** @typedef {import('../core/disc/disc.js').OrderedImage} OrderedImage */
+/** @typedef {import('../core/sectors/sector.js').Place} Place */
 /** @typedef {import('../core/iso/files.js').FileEntry} FileEntry */
-/** @typedef {import('../core/texts/encoding.js').Encoding} Encoding */
+/** @typedef {import('../core/encodings/encoding.js').Encoding} Encoding */
 /** @typedef {import('../core/texts/find.js').Hit} Hit */
 /** @typedef {import('../core/texts/context.js').Context} Context */
+/** @typedef {import('../core/tasks/opened.js').OpenedTrack} OpenedTrack */
+/** @typedef {import('../core/tasks/opened.js').TrackContents} TrackContents */
 /** @typedef {import('./run.js').Run} Run */
 /** @typedef {import('./run.js').Target} Target */
 
@@ -35,11 +35,11 @@ const BYTES_SHOWN = 128;
 
 /**
  * The file of a path, and what names the files of its volume. Throws a Fault if there is none.
- * @param {DiscImage} part
+ * @param {OpenedTrack} opened
  * @param {string} path
  */
-export async function fileAtPath(part, path) {
-    const names = await filesOf(part.reader, part.base);
+export async function fileAtPath(opened, path) {
+    const names = volumeIn(await opened.contents());
     const { files } = names;
     const rooted = (/** @type {string} */ name) => `/${name}`.replace(/^\/+/, '/');
     const named = files.filter(file => [file.path, visible(file.path)].map(rooted).includes(rooted(path)));
@@ -48,27 +48,32 @@ export async function fileAtPath(part, path) {
     throw new Fault(`there is no file ${path}; ${meant === null ? 'cdscript files lists them' : `there is ${meant}`}`);
 }
 
-/** @param {Run} run */
-export async function filesJob(run) {
-    const target = await run.target();
-    const { part } = await openTrack(run, run.names[0]);
-    const { files, faults } = await filesOf(part.reader, part.base);
-    await target.write(bytesOfLines(filesLines(files, visible)));
-    faults.forEach(fault => run.say(fault));
-    return Number(faults.length > 0 || files.some(({ fault }) => fault !== ''));
+/**
+ * The volume of a track. Throws a Fault, VOLUME, if there is none.
+ * @param {TrackContents} contents
+ */
+function volumeIn({ volume, fault }) {
+    if (volume === null) throw fault;
+    return volume;
 }
 
 /**
- * The data track that a job means, as `openTrack` gives it, whose texts are read in the order of its files; and these.
+ * Says why no file is named, if there is no volume.
  * @param {Run} run
- * @param {string} name
- * @param {boolean} [whole]
+ * @param {TrackContents} contents
  */
-export async function openTexts(run, name, whole) {
-    const { image, part, ...opened } = await openTrack(run, name, whole);
-    const found = await filesIfAny(part);
-    const inOrder = (/** @type {DiscImage} */ it) => ({ ...it, order: fileOrder(it, found.files) });
-    return { ...opened, image: inOrder(image), part: inOrder(part), ...found };
+export function sayNoVolume(run, { fault }) {
+    if (fault !== null) run.say(`no file is named: ${fault.message}`);
+}
+
+/** @param {Run} run */
+export async function filesJob(run) {
+    const target = await run.target();
+    const opened = await openTrackOf(run, run.names[0]);
+    const { files, faults } = volumeIn(await opened.contents());
+    await target.write(bytesOfLines(filesLines(files, visible)));
+    faults.forEach(fault => run.say(fault));
+    return Number(faults.length > 0 || files.some(({ fault }) => fault !== ''));
 }
 
 /**
@@ -102,14 +107,14 @@ function hitLine(files, hit, { before, hit: text, after, doubt }) {
 /**
  * Writes the lines of hits.
  * @param {Target} target
- * @param {DiscImage} part
+ * @param {OrderedImage} image
  * @param {FileEntry[]} files
  * @param {Encoding} encoding
  * @param {Hit[]} hits
  */
-async function writeHits(target, part, files, encoding, hits) {
+async function writeHits(target, image, files, encoding, hits) {
     const along = printedFiles(files);
-    for await (const near of contextsOf(part, encoding, hits)) {
+    for await (const near of contextsOf(image, encoding, hits)) {
         await target.write(bytesOfLines(Array.from(near, ({ hit, context }) => hitLine(along, hit, context))));
     }
 }
@@ -118,14 +123,14 @@ async function writeHits(target, part, files, encoding, hits) {
 export async function findJob(run) {
     const { limit = DEFAULT_LIMIT } = run.options;
     const target = await run.target();
-    const { files, why, ...opened } = await openTexts(run, run.names[0]);
-    const { part } = opened;
-    const found = await hitsOf(run, opened, run.names[1], Math.max(limit, 1));
-    const { count, hits } = found || { count: 0, hits: [] };
+    const opened = await openTrackOf(run, run.names[0]);
+    const { image, best } = await foundText(run, opened, run.names[1], Math.max(limit, 1));
+    const { count, hits } = best || { count: 0, hits: [] };
     const printed = hits.slice(0, limit);
-    if (found !== null) {
-        why.forEach(text => run.say(text));
-        await writeHits(target, part, files, found.encoding, printed);
+    if (best !== null) {
+        const contents = await opened.contents();
+        sayNoVolume(run, contents);
+        await writeHits(target, image, contents.files, best.encoding, printed);
     }
     run.say(`hits ${count} printed ${printed.length}`);
     return Number(count === 0);
@@ -139,7 +144,7 @@ export async function findJob(run) {
  * @param {number} size how many bytes are shown, or all that there are
  */
 async function rowLines(image, encoding, place, size) {
-    const { at, bytes } = await bytesAround(image, place, LOOKED_BACK, size + LONGEST_CHARACTER);
+    const { at, bytes } = await bytesAround({ ...image, order: undefined }, place, LOOKED_BACK, size + LONGEST_CHARACTER);
     const shown = bytes.subarray(at, at + size);
     const texts = new Array(Math.ceil(shown.length / ROW)).fill('');
     for (const it of charactersFrom(encoding, bytes, at + bytesInside(encoding, bytes, at))) {
@@ -156,19 +161,19 @@ async function rowLines(image, encoding, place, size) {
 /**
  * What is known of a sector: its kind and address, what is wrong with it, its EDC, and the file in which a byte of it lies.
  * @param {Run} run
- * @param {DiscImage} part
+ * @param {OpenedTrack} opened
  * @param {Uint8Array} sector
  * @param {Place} place
  */
-async function sectorLines(run, part, sector, place) {
+async function sectorLines(run, opened, sector, place) {
     const found = findingOf(run.calls, place.block, run.calls.survey(sector, place.block));
-    const { files, why } = await filesIfAny(part);
-    why.forEach(text => run.say(text));
+    const contents = await opened.contents();
+    sayNoVolume(run, contents);
     const [kind, edc] = [kindName(run.calls.kind(sector)), hexText(sector.subarray(FIELDS.edc, FIELDS.zeros))];
     return [
         `block ${place.block} address ${addressText(addressIn(sector, 0))} ${kind} edc ${edc}`,
         ...found === '' ? [] : [`wrong: ${found}`],
-        `file ${filesText(printedFiles(files), place)}`,
+        `file ${filesText(printedFiles(contents.files), place)}`,
     ];
 }
 
@@ -180,8 +185,9 @@ export async function showJob(run) {
     const first = Math.floor(place.offset / ROW) * ROW;
     const size = run.names.length < 3 ? USER_SIZE : BYTES_SHOWN;
     const target = await run.target();
-    const { image, part } = await openTrack(run, name, true);
-    const lines = await sectorLines(run, part, await sectorsOfRange(image, place, 1), place);
+    const opened = await openTrackOf(run, name, true);
+    const { image } = opened;
+    const lines = await sectorLines(run, opened, await sectorsOfRange(image, place, 1), place);
     await target.write(bytesOfLines([...lines, ...await rowLines(image, encoding, { block: place.block, offset: first }, size)]));
     return 0;
 }

@@ -3,7 +3,7 @@
 import { isMainThread, workerData } from 'node:worker_threads';
 import { gunzipSync } from 'node:zlib';
 import { FAULT, Fault, failedBy } from '../core/faults.js';
-import { STATUS } from '../core/module/records.js';
+import { STATUS } from '../core/module/index.js';
 import { isLimited, runAgain } from './again.js';
 import { argumentsOf } from './arguments.js';
 import { Files } from './files.js';

@@ -1,6 +1,7 @@
 // Names of files as the system has them: bytes, which are UTF-8 as a rule. For a byte that is not, a name here has a lone surrogate.
 
 import { readFileSync } from 'node:fs';
+import { win32 } from 'node:path';
 
 /** What is added to a byte, so that it becomes a lone surrogate. */
 const ESCAPE = 0xDC00;
@@ -46,6 +47,19 @@ export function wordsOfProcess() {
     } catch {
         return words;
     }
+}
+
+/** A device of Windows, which may have any extension. */
+const DEVICE = /^(?:con|prn|aux|nul|conin\$|conout\$|(?:com|lpt)[0-9\xB9\xB2\xB3])(?:[ .]|$)/i;
+
+/**
+ * Whether Windows has no file of this path, but a device, or a stream beside a file's bytes. Node would make a file that no other program
+ * could open.
+ * @param {string} path
+ */
+export function isNoFileOfWindows(path) {
+    const { root, base } = win32.parse(path);
+    return DEVICE.test(base) || path.slice(root.length).includes(':') || /^[\\/]{2}\.[\\/]/.test(path);
 }
 
 /**

@@ -7,6 +7,7 @@ import { realpathSync, renameSync, statSync, unlinkSync, writeSync } from 'node:
 import { basename, dirname, join } from 'node:path';
 import { READ_SIZE, bytesOfPieces } from '../core/bytes.js';
 import { fileFault, hasCode, tryFile } from './failures.js';
+import { isNoFileOfWindows } from './names.js';
 import { later, letSignalsIn } from './pausing.js';
 
 /** @typedef {import('../core/bytes.js').Piece} Piece */
@@ -106,6 +107,7 @@ function openedBeside(name) {
  * @param {string} name
  */
 function openedNew(name) {
+    if (process.platform === 'win32' && isNoFileOfWindows(name)) throw Object.assign(new Error(), { code: 'ENXIO' });
     assertNew(name);
     const isName = basename(name) !== '' && !/[/\\]$/.test(name);
     return isName && openedBeside(name) || { place: name, descriptor: openSync(name, 'wx') };

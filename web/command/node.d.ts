@@ -17,6 +17,7 @@ declare const process: {
     execArgv: string[];
     execPath: string;
     pid: number;
+    platform: string;
     exit(status: number): never;
     kill(pid: number, signal: string | number): void;
     off(signal: string, listener: (signal: string) => void): void;
@@ -77,6 +78,7 @@ declare module 'node:path' {
     export function basename(path: string): string;
     export function dirname(path: string): string;
     export function join(...parts: string[]): string;
+    export const win32: { parse(path: string): { root: string, base: string } };
 }
 
 declare module 'node:tty' {

@@ -1,7 +1,7 @@
 // Numbers of the command line.
 
 import { Fault } from '../core/faults.js';
-import { LAST_BLOCK, USER_SIZE } from '../core/module/numbers.js';
+import { LAST_BLOCK, USER_SIZE } from '../core/module/index.js';
 
 /**
  * A number of decimal digits within its limits.

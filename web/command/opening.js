@@ -2,12 +2,10 @@
 
 import { dirname } from 'node:path';
 import { wholeOf } from '../core/bytes.js';
-import { sheetsOf } from '../core/disc/cue.js';
-import { dataTrack, openDisc } from '../core/disc/disc.js';
-import { natureOf } from '../core/disc/file_type.js';
+import { natureOf, openDisc, sheetsOf } from '../core/disc/index.js';
 import { FAULT, Fault, failedBy } from '../core/faults.js';
-import { baseFault } from '../core/script/base_said.js';
-import { imageTooLong } from '../core/sectors/sector.js';
+import { imageTooLong } from '../core/sectors/index.js';
+import { openTrack } from '../core/tasks/index.js';
 import { tryFile } from './failures.js';
 import { MESSAGES } from './messages.js';
 import { pathsOfSheet } from './sheet_files.js';
@@ -60,16 +58,6 @@ async function filesOfSheet(run, { name, reader }) {
 }
 
 /**
- * An image with another base.
- * @param {DiscImage} image
- * @param {number} shift how many blocks later it begins
- * @returns {DiscImage}
- */
-function shifted(image, shift) {
-    return { ...image, base: image.base + shift, addressed: null };
-}
-
-/**
  * Says which other tracks of data there are, if no track was asked for.
  * @param {Run} run
  * @param {Disc} disc
@@ -96,32 +84,14 @@ export function sayUnknownBase(run, { name, base, addressed }) {
 }
 
 /**
- * Throws a Fault if a script is for another base.
- * @param {import('../core/script/base_said.js').BaseSaid[]} bases
- * @param {number} base of the image
- */
-export function assertBase(bases, base) {
-    const fault = baseFault(bases, base);
-    const other = bases.find(said => said.base !== base);
-    if (other) throw new Fault(`${fault}: give --base ${other.base}, or take that line out`);
-}
-
-/**
- * The data track that a job means, its part of an image, and that whole image, which scripts are for. The base is that of `--base`, or
- * else what the addresses of the sectors say.
+ * Opens the data track that a job means, and says which others are not looked at and whether its base is unknown.
  * @param {Run} run
  * @param {string} name
  * @param {boolean} [whole] whether the job looks at the whole image, not only at the track
  */
-export async function openTrack(run, name, whole = false) {
-    const { base, track: number = null } = run.options;
-    const disc = await openDiscOf(run, name);
-    const { image, part, ...track } = dataTrack(disc, number);
-    sayOtherTracks(run, disc, track, whole);
-    if (base !== undefined) {
-        const shift = base - image.base;
-        return { disc, track, image: shifted(image, shift), part: shifted(part, shift) };
-    }
-    sayUnknownBase(run, image);
-    return { disc, track, image, part };
+export async function openTrackOf(run, name, whole = false) {
+    const opened = openTrack(await openDiscOf(run, name), run.options);
+    sayOtherTracks(run, opened.disc, opened.track, whole);
+    if (run.options.base === undefined) sayUnknownBase(run, opened.image);
+    return opened;
 }

@@ -1,11 +1,11 @@
 // Words that several jobs print.
 
-import { blocksIn, blocksText, joinedRuns } from '../core/sectors/runs.js';
+import { blocksIn, blocksText, joinedRuns } from '../core/sectors/index.js';
 
 /** @typedef {import('../core/sectors/runs.js').Run} BlockRun */
 /** @typedef {import('./run.js').Run} Run */
 
-export { visible } from '../core/texts/visible.js';
+export { visible } from '../core/texts/index.js';
 
 /** Of more runs of blocks only the number is said. */
 const MOST_NAMED = 1000;

@@ -2,11 +2,10 @@
 
 import { gunzipSync } from 'node:zlib';
 import { joinedBytes, watchedReader } from '../core/bytes.js';
-import { KnownDumps } from '../core/disc/dat.js';
+import { KnownDumps } from '../core/disc/index.js';
 import { FAULT, Fault, failedBy } from '../core/faults.js';
-import { Calls } from '../core/module/calls.js';
-import { addToRuns } from '../core/sectors/runs.js';
-import { SECTOR_SIZE, sectorCount } from '../core/sectors/sector.js';
+import { Calls, SECTOR_SIZE, sectorCount } from '../core/module/index.js';
+import { addToRuns } from '../core/sectors/index.js';
 import { visible } from './printed.js';
 import { Output } from './stdout.js';
 import { Threads } from './threads.js';
@@ -49,7 +48,9 @@ export class Run {
         this.said = new Set();
         this.output = new Output(streams.output, () => messages.hideProgress());
         this.calls = new Calls(compiledModule());
-        this.crew = new Threads(compiledModule(), this.calls, (done, all) => messages.progress(done, all));
+        /** What a task that does not share its work is told to show how far it is. */
+        this.watch = { progress: (/** @type {number} */ done, /** @type {number} */ all) => messages.progress(done, all) };
+        this.crew = new Threads(compiledModule(), this.calls, this.watch.progress);
     }
 
     /**
@@ -119,7 +120,7 @@ export class Run {
         const filled = [];
         await this.crew.share(job, [reader], { shift }, { base }, answer => {
             parts.push(answer.records);
-            for (const run of answer.filled || []) addToRuns(filled, run);
+            if ('filled' in answer) answer.filled.forEach(run => addToRuns(filled, run));
         });
         return { block: base, records: joinedBytes(parts), filled };
     }

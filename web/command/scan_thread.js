@@ -1,17 +1,17 @@
 // A thread that looks into one image after the other, each by itself, for `scan`.
 
 import { parentPort } from 'node:worker_threads';
-import { natureOf } from '../core/disc/file_type.js';
+import { natureOf } from '../core/disc/index.js';
 import { Fault } from '../core/faults.js';
-import { kindName } from '../core/module/records.js';
-import { blocksIn } from '../core/sectors/runs.js';
-import { kindRuns } from '../core/sectors/survey.js';
+import { kindName } from '../core/module/index.js';
+import { blocksIn, kindRuns } from '../core/sectors/index.js';
+import { findingsIn, unsurveyedTracks } from '../core/tasks/index.js';
 import { Files } from './files.js';
 import { openDiscOf } from './opening.js';
 import { untestedText } from './printed.js';
 import { Run, takeModule } from './run.js';
 import { NONE } from './scan_list.js';
-import { findingsIn, foundInFiles, hashesOf, unsurveyedTracks } from './surveying.js';
+import { foundInFiles, hashesOf } from './surveying.js';
 
 /** @typedef {import('../core/disc/disc.js').Disc} Disc */
 /** @typedef {import('../core/disc/disc.js').DiscFile} DiscFile */

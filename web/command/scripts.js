@@ -1,25 +1,18 @@
 // The jobs that write scripts of whole images: `diff`, `rebuilds` and `undo`. The core has applied what it writes.
 
-import { dataTrack } from '../core/disc/disc.js';
 import { Fault } from '../core/faults.js';
-import { compareImages } from '../core/images/compare.js';
-import { MOST_SCRIPT_BYTES, RECORD_SIZE } from '../core/module/records.js';
-import { baseComment } from '../core/script/base_said.js';
-import { assertFits } from '../core/script/fitting.js';
-import { LineList } from '../core/script/line_list.js';
-import { Refusal } from '../core/script/script.js';
-import { ScriptParts } from '../core/script/script_writer.js';
-import { leftText } from '../core/script/sector_lines.js';
-import { undoScript } from '../core/script/undo.js';
-import { blocksIn, blocksText } from '../core/sectors/runs.js';
-import { isDamaged } from '../core/sectors/survey.js';
+import { RECORD_SIZE } from '../core/module/index.js';
+import { LineList, ScriptParts, assertFits, baseComment, baseFault, headLine, leftText, scriptForBase } from '../core/script/index.js';
+import { blocksIn, blocksText, isDamaged } from '../core/sectors/index.js';
+import { compareTrack, openTrack, undoScript } from '../core/tasks/index.js';
 import { differingFields } from './fields.js';
 import { NewFile } from './new_file.js';
-import { openDiscOf, openTrack } from './opening.js';
+import { openDiscOf, openTrackOf } from './opening.js';
 import { sayOfRuns } from './printed.js';
 
 /** @typedef {import('../core/disc/disc.js').DiscImage} DiscImage */
-/** @typedef {import('../core/images/compare.js').Comparison} Comparison */
+/** @typedef {import('../core/tasks/compare.js').Comparison} Comparison */
+/** @typedef {import('../core/tasks/undo.js').NoUndo} NoUndo */
 /** @typedef {import('../core/script/script_writer.js').Script} Script */
 /** @typedef {import('./run.js').Run} Run */
 /** @typedef {import('./run.js').Target} Target */
@@ -30,6 +23,8 @@ const SOME_LEFT_OUT = 1;
 /** Threads that compare what this one patches: more would wait for it. */
 const UNDOING_THREADS = 2;
 
+const NOTHING_TO_TAKE_BACK = 'the image already has what the script writes, so nothing can be taken back: ' +
+    'it must be the image before the script';
 const DAMAGE_STAYS_OUT = 'damage does not come back; address and user data do';
 
 /**
@@ -39,10 +34,19 @@ const DAMAGE_STAYS_OUT = 'damage does not come back; address and user data do';
  * @param {Script} script
  * @param {number} base of the image that it is for
  */
-export async function writeScript(run, target, script, base) {
-    const [head, ...pieces] = script.pieces;
-    for (const piece of [head, new TextEncoder().encode(commentOf(base)), ...pieces]) await target.write(piece);
-    sayOfScript(run, script, base);
+export function writeScript(run, target, script, base) {
+    return writeFinished(run, target, scriptForBase(script, base));
+}
+
+/**
+ * Writes a script that says its base.
+ * @param {Run} run
+ * @param {Target} target
+ * @param {Script} script
+ */
+export async function writeFinished(run, target, script) {
+    for (const piece of script.pieces) await target.write(piece);
+    sayOfScript(run, script);
 }
 
 /**
@@ -61,24 +65,14 @@ export async function writeParts(run, target, parts, image, none) {
 }
 
 /**
- * The comment that says a base, '' for 0.
- * @param {number} base
- */
-function commentOf(base) {
-    return base === 0 ? '' : baseComment(base);
-}
-
-/**
- * Says what a script, with the comment that says its base, asks of who applies it.
+ * Says what a finished script asks of who applies it.
  * @param {Run} run
  * @param {Script} script
- * @param {number} base
  */
-function sayOfScript(run, { size, patches, long, carry }, base) {
-    const isLong = long || size + commentOf(base).length > MOST_SCRIPT_BYTES;
+function sayOfScript(run, { patches, long, carry }) {
     if (patches === 0) run.say('the script has no patch');
     if (carry) run.say('the script patches damaged sectors: it needs --carry');
-    if (isLong) run.say('the script is longer than cdpatch takes: cdscript apply --long applies it');
+    if (long) run.say('the script is longer than cdpatch takes: cdscript apply --long applies it');
 }
 
 /**
@@ -98,37 +92,31 @@ function remedyOf({ left, tail }, newName) {
  */
 async function takingLines(target, base) {
     if (!(target instanceof NewFile)) return {};
-    await target.write(new TextEncoder().encode(`cdpatch 1\n${commentOf(base)}`));
+    await target.write(new TextEncoder().encode(`${headLine()}\n${baseComment(base)}`));
     return { take: (/** @type {Uint8Array} */ text) => target.write(text) };
-}
-
-/**
- * Ends a file that has got the lines of a script.
- * @param {Run} run
- * @param {NewFile} file
- * @param {Script} script
- * @param {number} base
- */
-async function endLines(run, file, script, base) {
-    await file.writeFirst(script.pieces[0]);
-    sayOfScript(run, script, base);
 }
 
 /** @param {Run} run */
 export async function diffJob(run) {
-    const { skipDamaged = false, partial = false, track = null } = run.options;
+    const { skipDamaged, partial = false, track, fields = false } = run.options;
     const [oldName, newName] = run.names;
     const target = await run.target();
-    const { image } = await openTrack(run, oldName, true);
-    const fresh = dataTrack(await openDiscOf(run, newName), track).image;
-    if (run.options.fields) return differingFields(run, target, image, fresh);
-    const how = { base: image.base, skipDamaged, partial, ...await takingLines(target, image.base) };
-    const made = await compareImages(run.calls, run.crew, image.reader, fresh.reader, how);
+    const opened = await openTrackOf(run, oldName, true);
+    const { image } = opened;
+    const fresh = openTrack(await openDiscOf(run, newName), { track }).image.reader;
+    if (image.reader.size !== fresh.size) {
+        const sizes = `the images have ${image.reader.size} and ${fresh.size} bytes`;
+        throw new Fault(fields ? sizes : `${sizes}, and no script changes a length`);
+    }
+    if (fields) return differingFields(run, target, opened, fresh);
+    const made = await compareTrack(run, opened, fresh, { skipDamaged, partial, ...await takingLines(target, image.base) });
     sayOfRuns(run, made.left, left => leftText([left], newName));
     if (made.tail) run.say('the bytes after the last sector differ, and no script changes them');
     if (made.script === null) throw new Fault(`no script leads to that image, so none is written${remedyOf(made, newName)}`);
-    if (target instanceof NewFile) await endLines(run, target, made.script, image.base);
-    else await writeScript(run, target, made.script, image.base);
+    if (target instanceof NewFile) {
+        await target.writeFirst(made.script.pieces[0]);
+        sayOfScript(run, made.script);
+    } else await writeFinished(run, target, made.script);
     const left = blocksIn(made.left);
     if (left > 0) run.say(`${partial ? '' : 'damaged '}blocks that are left out: ${left}`);
     return left > 0 || made.tail ? SOME_LEFT_OUT : 0;
@@ -137,7 +125,7 @@ export async function diffJob(run) {
 /** @param {Run} run */
 export async function rebuildsJob(run) {
     const target = await run.target();
-    const { image } = await openTrack(run, run.names[0], true);
+    const { image } = await openTrackOf(run, run.names[0], true);
     const { block, records } = await run.survey(image.reader, image.base);
     const [script, lines] = [new ScriptParts(), new LineList()];
     for (let at = 0; at < records.length; at += RECORD_SIZE) {
@@ -148,20 +136,37 @@ export async function rebuildsJob(run) {
     return 0;
 }
 
+/**
+ * How many patches are refused, and what to ask then.
+ * @param {number} refused
+ * @param {string} name of the image
+ */
+function refusedText(refused, name) {
+    return `${refused === 1 ? '1 patch is' : `${refused} patches are`} refused on ${name}: is it the image before the script?`;
+}
+
+/**
+ * Why a script cannot be reverted.
+ * @param {NoUndo} made
+ * @param {DiscImage} image
+ */
+function whyNoUndo(made, { name, base }) {
+    if (made.why === 'error') return made.line.replace(/^cdpatch: /, '');
+    if (made.why === 'base') return baseFault(made.bases, base);
+    return made.why === 'refused' ? refusedText(made.refused, name) : NOTHING_TO_TAKE_BACK;
+}
+
 /** @param {Run} run */
 export async function undoJob(run) {
-    const { carry = false, long = false } = run.options;
     const target = await run.target();
-    const { image } = await openTrack(run, run.names[0], true);
+    const opened = await openTrackOf(run, run.names[0], true);
+    const { image } = opened;
     const script = run.files.piecesOf(run.names[1]);
-    const crew = run.crew.crew(image.sectors, UNDOING_THREADS);
-    const made = await undoScript(run.calls, run.watched(image.reader), script, { base: image.base, carry, long, crew });
-    if (made instanceof Refusal) throw new Fault(new TextDecoder().decode(made.text).trim().replace(/^cdpatch: /, ''));
-    const refused = made.patched.outcomes.filter(({ result }) => result !== 0).length;
-    const why = `${refused === 1 ? '1 patch is' : `${refused} patches are`} refused on ${image.name}: is it the image before the script?`;
-    if (refused > 0 && made.script.patches === 0 && made.left.length === 0) throw new Fault(why);
-    if (refused > 0) run.say(why);
+    const engine = { calls: run.calls, crew: run.crew.crew(image.sectors, UNDOING_THREADS) };
+    const made = await undoScript(engine, opened, script, run.options, run.watch);
+    if (made.script === null) throw new Fault(whyNoUndo(made, image));
+    if (made.refused > 0) run.say(refusedText(made.refused, image.name));
     sayOfRuns(run, made.left, left => left.why === 'damaged' ? `${blocksText([left])}: ${DAMAGE_STAYS_OUT}` : leftText([left], image.name));
-    await writeScript(run, target, made.script, image.base);
-    return refused > 0 || made.left.length > 0 ? SOME_LEFT_OUT : 0;
+    await writeFinished(run, target, made.script);
+    return made.refused > 0 || made.left.length > 0 ? SOME_LEFT_OUT : 0;
 }

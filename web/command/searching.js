@@ -1,14 +1,11 @@
 // Texts in a data track, by an encoding that is given or by those that are searched for.
 
 import { wholeOf } from '../core/bytes.js';
-import { Fault } from '../core/faults.js';
-import { SEARCHED, encodingOf, tableTextOf } from '../core/texts/encodings.js';
-import { encodingsWith, searchText } from '../core/texts/search.js';
-import { leftOutText, tableEncoding } from '../core/texts/table.js';
+import { SEARCHED, encodingOf, leftOutText, tableEncoding, tableTextOf } from '../core/encodings/index.js';
+import { findText } from '../core/tasks/index.js';
 
-/** @typedef {import('../core/texts/encoding.js').Encoding} Encoding */
-/** @typedef {import('../core/texts/search.js').Hits} Hits */
-/** @typedef {Awaited<ReturnType<import('./opening.js').openTrack>>} Opened */
+/** @typedef {import('../core/encodings/encoding.js').Encoding} Encoding */
+/** @typedef {import('../core/tasks/opened.js').OpenedTrack} OpenedTrack */
 /** @typedef {import('./run.js').Run} Run */
 
 /**
@@ -35,28 +32,25 @@ export async function encodingsOf(run) {
 }
 
 /**
- * The hits of a text in the first encoding in which it stands there, but one in which it stands only in the middle of characters last. Says
- * which it is, and in which others the text stands there. Null if there is none.
+ * What the task finds of a text. Says in which encoding it was found, in which others it is too, or where it was searched for in vain.
  * @param {Run} run
- * @param {Opened} opened
+ * @param {OpenedTrack} opened
  * @param {string} text
- * @param {number} limit how many are kept
- * @returns {Promise<Hits | null>}
+ * @param {number} limit how many hits are kept
  */
-export async function hitsOf(run, opened, text, limit) {
-    if (text === '') throw new Fault('there is nothing to find in a text without characters');
-    const { loose } = run.options;
-    const { encodings, names, faults } = encodingsWith(await encodingsOf(run), text, loose);
-    const [first, ...others] = await searchText(run.crew, opened.part, { text, encodings, limit, loose });
+export async function foundText(run, opened, text, limit) {
+    const { options: { loose, encoding, table } } = run;
+    const found = await findText(run, opened, { text, encodings: await encodingsOf(run), loose, limit });
+    const { image, best, others, searched, faults } = found;
     faults.forEach(({ message }) => run.say(message));
-    if (first === undefined) {
+    if (best === null) {
         const which = opened.disc.sheet === null ? '' : `track ${opened.track.number} in `;
-        run.say(`${which}${opened.part.name} was searched for the text in ${names.join(', ')}`);
-        return null;
+        run.say(`${which}${image.name} was searched for the text in ${searched.join(', ')}`);
+        return found;
     }
-    if (run.options.encoding === undefined && run.options.table === undefined) run.say(`the text stands there in ${first.encoding.name}`);
+    if (encoding === undefined && table === undefined) run.say(`the text stands there in ${best.encoding.name}`);
     for (const { begins, encoding: { name } } of others) {
         run.say(`in ${name} it stands there ${begins ? `too: --encoding ${name}` : 'only in the middle of characters'}`);
     }
-    return first;
+    return found;
 }

@@ -3,21 +3,21 @@
 import { readSync } from 'node:fs';
 import { cpus } from 'node:os';
 import { Worker, parentPort } from 'node:worker_threads';
-import { Crew, JOBS, UNREAD, localHand, serving, transfersOf } from '../core/jobs.js';
-import { Calls } from '../core/module/calls.js';
-import { sectorCount } from '../core/sectors/sector.js';
-import { textsOfRangeJob } from '../core/texts/range.js';
+import { Crew, UNREAD, localHand, serving, transfersOf } from '../core/crew/index.js';
+import { JOBS } from '../core/jobs/index.js';
+import { Calls, sectorCount } from '../core/module/index.js';
 import { isTested } from './again.js';
 
-/** @typedef {import('../core/jobs.js').Hand} Hand */
-/** @typedef {import('../core/jobs.js').Message} Message */
-/** @typedef {import('../core/jobs.js').Reply} Reply */
+/** @typedef {import('../core/crew/crew.js').Hand} Hand */
+/** @typedef {import('../core/crew/jobs.js').JobName} JobName */
+/** @typedef {Uint8Array | { descriptor: number, at: number, length: number }} Piece bytes, or what is lent of a file */
+/** @typedef {import('../core/crew/jobs.js').Message<JobName, Piece>} Message */
+/** @typedef {import('../core/crew/jobs.js').Reply} Reply */
 /** @typedef {{ module: WebAssembly.Module, scans: boolean }} ThreadData what a thread begins with; whether it is one of `scan` */
-
-JOBS.texts = textsOfRangeJob;
 
 /** Fewer sectors are done sooner than threads have begun; and so are any number by these jobs. */
 const SECTORS_FOR_THREADS = 8000;
+/** @type {JobName[]} */
 const QUICK = ['kinds'];
 const MOST_THREADS = 8;
 
@@ -26,7 +26,7 @@ const rooms = [];
 
 /**
  * The bytes of a piece, which are read if they are lent. Throws if the file has become shorter, and what reading throws.
- * @param {Uint8Array | { descriptor: number, at: number, length: number }} piece
+ * @param {Piece} piece
  * @param {number} i its place among those of a range
  */
 function readPiece(piece, i) {
@@ -38,7 +38,7 @@ function readPiece(piece, i) {
 }
 
 /**
- * @param {(message: Message) => Reply} serve
+ * @param {ReturnType<typeof serving>} serve
  * @param {Message} message
  */
 function replyTo(serve, message) {
@@ -73,11 +73,11 @@ export function begunThread(data) {
  * @param {Calls} calls
  */
 function threadHand(module, calls) {
-    const serve = serving(calls);
+    const serve = serving(calls, JOBS);
     const thread = begunThread({ module, scans: false });
     /** @type {Hand & { close(): void }} */
     const hand = {
-        post(message, transfer) {
+        post(/** @type {Message} */ message, transfer) {
             const here = () => hand.onreply(replyTo(serve, message));
             if (thread === null) setImmediate(here);
             else void thread.begun.then(isBegun => isBegun ? thread.worker.postMessage(message, transfer) : here());
@@ -98,9 +98,9 @@ function threadHand(module, calls) {
  */
 export function serveThread(module) {
     if (parentPort === null) return;
-    const serve = serving(new Calls(module));
+    const serve = serving(new Calls(module), JOBS);
     const port = parentPort;
-    port.on('message', message => {
+    port.on('message', (/** @type {Message} */ message) => {
         const reply = replyTo(serve, message);
         port.postMessage(reply, transfersOf(reply));
     });
@@ -123,7 +123,15 @@ export class Threads {
         this.threads = [];
     }
 
-    /** @type {Crew['share']} */
+    /**
+     * As Crew.share.
+     * @template {JobName} Name
+     * @param {Name} job
+     * @param {import('../core/bytes.js').Reader[]} readers
+     * @param {import('../core/crew/jobs.js').Shared<Name>} args
+     * @param {import('../core/crew/crew.js').Sharing} how
+     * @param {(answer: import('../core/crew/jobs.js').Jobs[Name]['answer']) => void | Promise<void>} take
+     */
     share(job, readers, args, how, take) {
         const crew = this.crew(QUICK.includes(job) ? 0 : sectorCount(readers[0].size));
         return crew.share(job, readers, args, { progress: this.progress, ...how }, take);
@@ -139,7 +147,7 @@ export class Threads {
      * @param {number} [most] how many threads at most
      */
     crew(sectors, most = MOST_THREADS) {
-        if (!this.hasThreads(sectors)) return new Crew([localHand(this.calls)]);
+        if (!this.hasThreads(sectors)) return new Crew([localHand(this.calls, JOBS)]);
         const count = Math.min(cpus().length || 1, most); // where the system does not say it, there are none
         while (this.threads.length < count) this.threads.push(threadHand(this.module, this.calls));
         return new Crew(this.threads, true);

@@ -1,13 +1,12 @@
 // What other programs in JavaScript, in node and in browsers, call of cdpatch: the interface of the package for npm.
 
 import { Fault } from '../core/faults.js';
-import { Calls } from '../core/module/calls.js';
-import { RECORD, RECORD_SIZE, STATUS, kindName } from '../core/module/records.js';
-import { auditText, listText } from '../core/sectors/survey.js';
+import { Calls, RECORD, RECORD_SIZE, STATUS, kindName } from '../core/module/index.js';
+import { auditText, listText } from '../core/sectors/index.js';
 import { patchLines, patched, reported, surveyed, textOf } from './jobs.js';
 
 export { Fault };
-export { RESULT } from '../core/module/numbers.js';
+export { RESULT } from '../core/module/index.js';
 export { ScriptError } from './errors.js';
 
 /** What reads a file: bytes from a place on, as many as were asked for or fewer, and none only at its end. More are refused. */
@@ -145,7 +144,7 @@ export function patchedStream(cdpatch, image, script, settings) {
 }
 
 /**
- * Loads the library: `cdpatch.wasm` that lies beside this file, or another module or its bytes.
+ * Loads the library: `cdpatch.wasm` that lies beside this file, or another module or its bytes. Throws a Fault if a server lacks that file.
  * @param {WebAssembly.Module | BufferSource} [module]
  * @returns {Promise<Cdpatch>}
  */
@@ -177,11 +176,15 @@ export async function openFile(path) {
 }
 
 /**
+ * The bytes of the module at a place.
  * @param {URL} place
  * @returns {Promise<BufferSource>}
  */
 async function ownModule(place) {
-    if (place.protocol !== 'file:') return (await fetch(place)).arrayBuffer();
-    const { readFile } = await import('node:fs/promises');
-    return readFile(place);
+    if (place.protocol === 'file:') return (await import('node:fs/promises')).readFile(place);
+    const response = await fetch(place);
+    // Some servers answer with a page instead of a file that they lack.
+    const isPage = /^text\//.test(response.headers.get('content-type') || '');
+    if (response.ok && !isPage) return response.arrayBuffer();
+    throw new Fault(`cdpatch.wasm is not at ${place}; put it there, or give its bytes to load`);
 }

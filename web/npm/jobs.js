@@ -1,12 +1,11 @@
 // The jobs of the package, over the core.
 
 import { READ_SIZE, bytesOfPieces, readBytes } from '../core/bytes.js';
-import { RECORD_SIZE, STATUS } from '../core/module/records.js';
-import { baseFault } from '../core/script/base_said.js';
-import { readLines } from '../core/script/long_script.js';
-import { passPatched } from '../core/script/patches.js';
-import { Refusal, readScript } from '../core/script/script.js';
-import { LAST_BASE, LONG_IMAGE, SECTOR_SIZE, imageTooLong, sectorCount } from '../core/sectors/sector.js';
+import { FAULT, failedBy } from '../core/faults.js';
+import { LAST_BASE, RECORD_SIZE, SECTOR_SIZE, STATUS, sectorCount } from '../core/module/index.js';
+import { passPatched, readLines } from '../core/script/index.js';
+import { LONG_IMAGE, imageTooLong } from '../core/sectors/index.js';
+import { scriptFor, validScript } from '../core/tasks/index.js';
 import { ScriptError } from './errors.js';
 import { assertWanted, piecesOf, scriptSource, sourceOf, watchedSource } from './inputs.js';
 
@@ -77,14 +76,12 @@ export async function reported(calls, image, settings, made) {
 }
 
 /**
- * A script within the limits of the program. Throws ScriptError.
- * @param {Calls} calls
- * @param {ScriptInput} script
+ * Throws a ScriptError if a script is refused.
+ * @param {unknown} error
+ * @returns {never}
  */
-async function validScript(calls, script) {
-    const read = await readScript(calls, piecesOf(scriptSource(script)));
-    if (read instanceof Refusal) throw new ScriptError(textOf(read.text).trimEnd());
-    return /** @type {{ text: Uint8Array, bases: import('../core/script/base_said.js').BaseSaid[] }} */ (read);
+function refuse(error) {
+    throw failedBy(error, FAULT.SCRIPT, FAULT.OTHER_BASE) ? new ScriptError(error.message) : error;
 }
 
 /**
@@ -93,23 +90,10 @@ async function validScript(calls, script) {
  * @param {ScriptInput} script
  */
 export async function patchLines(calls, script) {
-    const { text } = await validScript(calls, script);
-    const read = readLines(calls, text);
+    const valid = await validScript(calls, piecesOf(scriptSource(script))).catch(refuse);
+    const read = readLines(calls, /** @type {{ text: Uint8Array }} */ (valid).text);
     if (read instanceof Uint8Array) throw new ScriptError(textOf(read).trimEnd());
     return read.patches;
-}
-
-/**
- * A script for an image that begins with a block. Throws ScriptError.
- * @param {Calls} calls
- * @param {ScriptInput} script
- * @param {number} base
- */
-async function scriptFor(calls, script, base) {
-    const read = await validScript(calls, script);
-    const fault = baseFault(read.bases, base);
-    if (fault !== '') throw new ScriptError(fault);
-    return read;
 }
 
 /**
@@ -124,8 +108,9 @@ async function scriptFor(calls, script, base) {
 export async function patched(calls, image, script, { base = 0, carry = false, signal, progress = () => {} }, write) {
     assertBase(base);
     const source = watchedSource(sourceOf(image), signal, at => write || progress(at, source.size));
+    const read = await scriptFor(calls, piecesOf(scriptSource(script)), base).catch(refuse);
     let done = 0;
-    const made = await passPatched(calls, source, await scriptFor(calls, script, base), { base, carry }, write && (async piece => {
+    const made = await passPatched(calls, source, read, { base, carry }, write && (async piece => {
         for await (const bytes of bytesOfPieces(source, [piece])) {
             assertWanted(signal);
             await write(bytes);

@@ -1,6 +1,6 @@
 // The page: its parts are put together and started.
 
-import { Calls } from '../core/module/calls.js';
+import { Calls } from '../core/module/index.js';
 import { App, crewOf, packedParts } from './app/index.js';
 import { mountDisc } from './disc/index.js';
 import { mountOpening } from './open/index.js';

@@ -1,23 +1,21 @@
 // What the page does in a worker: ranges of jobs, and one long SHA-1. The joined page and its workers are one script.
 
-import { JOBS, UNREAD, serving, transfersOf } from '../core/jobs.js';
-import { Calls } from '../core/module/calls.js';
-import { textsOfRangeJob } from '../core/texts/range.js';
+import { UNREAD, serving, transfersOf } from '../core/crew/index.js';
+import { JOBS } from '../core/jobs/index.js';
+import { Calls } from '../core/module/index.js';
 import { Sha1 } from './app/sha1.js';
-import { sumsJob } from './app/sums_job.js';
 
-/** @typedef {import('../core/jobs.js').Message} Message */
+/** @typedef {import('../core/crew/jobs.js').JobName} JobName */
+/** @typedef {Uint8Array | { file: File, from: number, size: number }} Piece bytes, or a slice of a file, which is read here */
+/** @typedef {import('../core/crew/jobs.js').Message<JobName, Piece>} Message */
 /**
  * What a worker is told: the module, before all else; a range of a job; or bytes that go into a SHA-1 after those before, null at the end.
  * @typedef {{ module: WebAssembly.Module } | Message | { sum: Uint8Array | null }} Order
  */
 
-JOBS.texts = textsOfRangeJob;
-JOBS.sums = sumsJob;
-
 /**
- * The bytes of a range, or of a slice of a file, which is read here.
- * @param {Uint8Array | { file: File, from: number, size: number }} piece
+ * The bytes of a piece.
+ * @param {Piece} piece
  */
 async function readPiece(piece) {
     if (piece instanceof Uint8Array) return piece;
@@ -31,7 +29,7 @@ class Bench {
     /** @param {WebAssembly.Module} module */
     constructor(module) {
         const calls = new Calls(module);
-        this.serve = serving(calls);
+        this.serve = serving(calls, JOBS);
         this.sha1 = new Sha1(calls);
     }
 

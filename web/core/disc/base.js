@@ -1,9 +1,8 @@
 // The block with which a raw image begins, by the addresses of its sectors. A cue sheet is asked only if these say none: its gaps may be
 // missing in the file.
 
-import { SECTOR_KIND } from '../module/records.js';
-import { SECTOR_SIZE, addressIn, blockAt } from '../sectors/sector.js';
-import { isSound } from '../sectors/survey.js';
+import { SECTOR_KIND, SECTOR_SIZE } from '../module/index.js';
+import { addressIn, blockAt, isSound } from '../sectors/index.js';
 import { sampledSectors } from './file_type.js';
 
 /** @typedef {import('../module/calls.js').Calls} Calls */

@@ -1,8 +1,8 @@
 // Cue sheets: which tracks a disc has, and which bytes of which file each of them is.
 
+import { textsOfFile } from '../encodings/index.js';
 import { Fault } from '../faults.js';
-import { SECTOR_SIZE } from '../module/numbers.js';
-import { textsOfFile } from '../texts/encodings.js';
+import { SECTOR_SIZE } from '../module/index.js';
 
 /** @typedef {{ name: string, raw: boolean }} SheetFile `raw` if its bytes are sectors, as in BINARY */
 /** @typedef {{ track: SheetTrack, index: number, file: number, frame: number }} Point where an index of a track begins in a file */

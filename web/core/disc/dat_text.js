@@ -1,8 +1,8 @@
 // Decodes a DAT, and recognises files that are often mistaken for one.
 
 import { joinedBytes } from '../bytes.js';
+import { windowsText } from '../encodings/index.js';
 import { Fault } from '../faults.js';
-import { windowsText } from '../texts/windows_1252.js';
 import { kindByBeginning } from './file_type.js';
 
 /** The encoding follows from these bytes. An XML declaration is shorter. */

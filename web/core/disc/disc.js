@@ -3,7 +3,7 @@
 
 import { sliceOf, wholeOf } from '../bytes.js';
 import { FAULT, Fault } from '../faults.js';
-import { SECTOR_SIZE, sectorCount } from '../sectors/sector.js';
+import { SECTOR_SIZE, sectorCount } from '../module/index.js';
 import { baseByAddresses } from './base.js';
 import { sheetsOf, tracksOf } from './cue.js';
 import { natureOf } from './file_type.js';
@@ -16,9 +16,13 @@ import { natureOf } from './file_type.js';
 /** @typedef {{ name: string, reader: Reader }} DiscFile */
 /**
  * An image of sectors, and the block of its first one. `addressed` is that block as most addresses of some sectors give it; if it is
- * null or below 0, `base` is what the cue sheet says, or 0. Texts are read in `order`, if it is there.
- * @typedef {{ name: string, reader: Reader, base: number, addressed: number | null, sectors: number, tail: number,
- *     order?: import('../iso/file_order.js').FileOrder }} DiscImage
+ * null or below 0, `base` is what the cue sheet says, or 0.
+ * @typedef {{ name: string, reader: Reader, base: number, addressed: number | null, sectors: number, tail: number }} DiscImage
+ */
+/**
+ * An image whose texts are read in the order of its files; undefined is the order of its sectors. The functions on texts take no other
+ * image, so that no caller forgets the order.
+ * @typedef {DiscImage & { order: import('../iso/file_order.js').FileOrder | undefined }} OrderedImage
  */
 /**
  * A track. Without a cue sheet there is one. `file` counts the files of the disc from 0; it is -1 if that is not open. `image` is that

@@ -1,9 +1,8 @@
 // What a file is: a raw image, or what it has to be made into first.
 
 import { readBytes, wholeOf } from '../bytes.js';
-import { SECTOR_KIND } from '../module/records.js';
-import { SECTOR_SIZE, USER_SIZE } from '../sectors/sector.js';
-import { textOfFile } from '../texts/encodings.js';
+import { textOfFile } from '../encodings/index.js';
+import { SECTOR_KIND, SECTOR_SIZE, USER_SIZE } from '../module/index.js';
 import { isSubchannelFile } from './subchannels.js';
 
 /** @typedef {import('../module/calls.js').Calls} Calls */

@@ -1,8 +1,7 @@
 // The cue sheet of a disc that has one track, for an image of which none is known.
 
 import { readBytes } from '../bytes.js';
-import { SECTOR_KIND } from '../module/records.js';
-import { SECTOR_SIZE } from '../sectors/sector.js';
+import { SECTOR_KIND, SECTOR_SIZE } from '../module/index.js';
 import { sampledSectors } from './file_type.js';
 
 /** @typedef {import('../module/calls.js').Calls} Calls */

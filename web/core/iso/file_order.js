@@ -1,7 +1,7 @@
 // The order in which the files of a track have its sectors: the extents of a file may lie apart.
 
 import { firstAfter } from '../bytes.js';
-import { SECTOR_SIZE, USER_SIZE } from '../sectors/sector.js';
+import { SECTOR_SIZE, USER_SIZE } from '../module/index.js';
 
 /** @typedef {import('../bytes.js').Reader} Reader */
 /** @typedef {import('./files.js').FileEntry} FileEntry */

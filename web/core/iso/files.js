@@ -1,14 +1,15 @@
 // The files of an ISO 9660 volume in a track of raw sectors, with Rock Ridge's or Joliet's names if it has them.
 
 import { readBytes } from '../bytes.js';
-import { FAULT, Fault, failedBy } from '../faults.js';
-import { SECTOR_SIZE, USER_SIZE, joinedUser, sectorCount } from '../sectors/sector.js';
+import { FAULT, Fault } from '../faults.js';
+import { SECTOR_SIZE, USER_SIZE, sectorCount } from '../module/index.js';
+import { joinedUser } from '../sectors/index.js';
 import { FIRST_DESCRIPTOR, ownBlocks, tableBlocks } from './own_blocks.js';
 import { SEVERAL_EXTENTS, isSelf, recordAt, sharingSkip } from './records.js';
 import { walked } from './walk.js';
 
 /** @typedef {import('../bytes.js').Reader} Reader */
-/** @typedef {import('../script/replace_bytes.js').Place} Place */
+/** @typedef {import('../sectors/sector.js').Place} Place */
 /** @typedef {import('./own_blocks.js').OwnBlock} OwnBlock */
 /**
  * A file, or one extent of a file that has several, and how many bytes it has before that. `fault` says why its bytes are not just those
@@ -130,21 +131,6 @@ export async function filesOf(reader, base) {
     const own = ownBlocks(volume, count, found.flatMap(it => [...it.met]));
     const tables = tableBlocks(volume, joliet === null ? [primary] : [primary, joliet]);
     return { files, faults: [...faults], entries: found.flatMap(it => it.files), udf, own, tables, first };
-}
-
-/**
- * The files of a part. If it has no volume that can be listed there are none, and `why` is what to say then.
- * @param {{ reader: Reader, base: number }} part
- * @returns {Promise<{ files: FileEntry[], why: string[] }>}
- */
-export async function filesIfAny(part) {
-    try {
-        const { files } = await filesOf(part.reader, part.base);
-        return { files, why: [] };
-    } catch (error) {
-        if (!failedBy(error, FAULT.VOLUME)) throw error;
-        return { files: [], why: [`no file is named: ${error.message}`] };
-    }
 }
 
 /**

@@ -1,6 +1,6 @@
 // The blocks of a volume that belong to no file: descriptors, directories, and path tables.
 
-import { USER_SIZE } from '../sectors/sector.js';
+import { USER_SIZE } from '../module/index.js';
 
 /** @typedef {import('./files.js').VolumeReader} VolumeReader */
 /** @typedef {'descriptor' | 'directory'} OwnBlock */

@@ -1,8 +1,8 @@
 // The records of a directory of ISO 9660, and what Rock Ridge adds to them.
 
 import { joinedBytes, sameBytes } from '../bytes.js';
-import { USER_SIZE } from '../sectors/sector.js';
-import { textOfFile } from '../texts/encodings.js';
+import { textOfFile } from '../encodings/index.js';
+import { USER_SIZE } from '../module/index.js';
 
 /**
  * A directory record: its place in the bytes, where its extent begins, its bytes, whether both are the same with the most significant byte

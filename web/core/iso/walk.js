@@ -1,6 +1,6 @@
 // What the directories of a volume have. A volume may lie: its sectors are read once, and what is kept is bounded by its image.
 
-import { USER_SIZE } from '../sectors/sector.js';
+import { USER_SIZE } from '../module/index.js';
 import { isTurnDue, letOthersIn } from '../turns.js';
 import { SEVERAL_EXTENTS, entriesOfDirectory } from './records.js';
 

@@ -1,7 +1,6 @@
 // The calls of the module of libcdpatch: here those on scripts, over bytes and numbers of JavaScript. cdpatch.h says what each does.
 
-import { SECTOR_SIZE } from '../sectors/sector.js';
-import { ADDRESS_SIZE, ENTRY_STRUCT, LINE_STRUCT, PATCH_STRUCT, ROOMS_STRUCT, RUN_STRUCT, STEP_STRUCT } from './numbers.js';
+import { ADDRESS_SIZE, ENTRY_STRUCT, LINE_STRUCT, PATCH_STRUCT, ROOMS_STRUCT, RUN_STRUCT, SECTOR_SIZE, STEP_STRUCT } from './numbers.js';
 import { MOST_PATCHES, SECTORS_IN_HAND, STEP, VERB } from './records.js';
 import { SectorCalls } from './sector_calls.js';
 

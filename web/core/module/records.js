@@ -1,6 +1,6 @@
 // The numbers and records of cdpatch.h by the names that the core has for them. `make` makes numbers.js of the header.
 
-import { CONTENT, RECORD_STRUCT, SECTOR_KIND, STEP_KIND } from './numbers.js';
+import { CONTENT, RECORD_STRUCT, SECTOR_KIND, SECTOR_SIZE, STEP_KIND } from './numbers.js';
 
 export { CONTENT, RESULT, RUN_FLAG, SECTOR_KIND, STATUS, VERB } from './numbers.js';
 export { MOST_PATCHES, MOST_SCRIPT_BYTES, PATCH_SIZE, SECTORS_IN_HAND } from './numbers.js';
@@ -26,4 +26,12 @@ export function isFault(content) {
  */
 export function kindName(kind) {
     return Object.keys(SECTOR_KIND)[kind].toLowerCase();
+}
+
+/**
+ * The number of whole sectors of an image. The bytes after them are its tail.
+ * @param {number} size of the image in bytes
+ */
+export function sectorCount(size) {
+    return Math.floor(size / SECTOR_SIZE);
 }

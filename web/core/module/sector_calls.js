@@ -1,10 +1,9 @@
 // The calls of the module of libcdpatch on sectors and images, over bytes and numbers of JavaScript. cdpatch.h says what each does.
 
 import { newBytes } from '../faults.js';
-import { SECTOR_SIZE, USER_SIZE, sectorCount } from '../sectors/sector.js';
 import { Arena } from './arena.js';
-import { ADDRESS_SIZE, COLUMNS, DIAGONALS, DIGEST_SIZE, SHA1_STRUCT } from './numbers.js';
-import { RECORD, RECORD_SIZE } from './records.js';
+import { ADDRESS_SIZE, COLUMNS, DIAGONALS, DIGEST_SIZE, SECTOR_SIZE, SHA1_STRUCT, USER_SIZE } from './numbers.js';
+import { RECORD, RECORD_SIZE, sectorCount } from './records.js';
 
 /**
  * The bytes, if they have the size that a call takes for granted.

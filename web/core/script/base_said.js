@@ -1,7 +1,9 @@
 // The base for which a script was written, as a comment in it says.
 
+import { MOST_SCRIPT_BYTES } from '../module/index.js';
 import { LINE_FEED, endsOfLines } from './line_words.js';
 
+/** @typedef {import('./script_writer.js').Script} Script */
 /** @typedef {{ line: number, base: number }} BaseSaid the comment's line, and the base that it says */
 
 const BASE_COMMENT = /^# base (\d{1,6})\s*$/;
@@ -9,9 +11,24 @@ const LONGEST_BASE_COMMENT = 21;
 const HASH = 0x23;
 const LETTER_B = 0x62;
 
-/** @param {number} base for which a script is written */
+/**
+ * The comment that says for which base a script is written. There is none for base 0.
+ * @param {number} base
+ */
 export function baseComment(base) {
-    return `# base ${base}\n`;
+    return base === 0 ? '' : `# base ${base}\n`;
+}
+
+/**
+ * Finishes a script: adds the comment that says its base, after the first line. Every script that is written passes through here.
+ * @param {Script} script whose first piece is its first line
+ * @param {number} base
+ * @returns {Script}
+ */
+export function scriptForBase({ pieces: [head, ...lines], ...script }, base) {
+    const comment = new TextEncoder().encode(baseComment(base));
+    const size = script.size + comment.length;
+    return { ...script, pieces: [head, comment, ...lines], size, long: script.long || size > MOST_SCRIPT_BYTES };
 }
 
 /**

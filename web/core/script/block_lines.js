@@ -1,7 +1,6 @@
 // What the lines of a script do with one block: a rebuild mends a damaged sector for the changes that come after it.
 
-import { VERB } from '../module/records.js';
-import { USER_SIZE } from '../sectors/sector.js';
+import { USER_SIZE, VERB } from '../module/index.js';
 
 /** @typedef {import('./model.js').ScriptLine} ScriptLine */
 /** @typedef {import('./model.js').ScriptModel} ScriptModel */

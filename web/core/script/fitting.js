@@ -1,7 +1,7 @@
 // Whether a script that this core has written fits its image.
 
 import { Fault } from '../faults.js';
-import { STATUS } from '../module/records.js';
+import { STATUS } from '../module/index.js';
 import { passPatched } from './patches.js';
 import { Refusal, readScript } from './script.js';
 

@@ -1,8 +1,9 @@
 // Lines of a script as they are written.
 
 import { ByteList } from '../bytes.js';
-import { addToRuns, runOf } from '../sectors/runs.js';
-import { SECTOR_SIZE, USER_OFFSET, USER_SIZE, addressIn, addressText, asWords, hasZeroByte, sameAddress } from '../sectors/sector.js';
+import { SECTOR_SIZE, USER_SIZE } from '../module/index.js';
+import { USER_OFFSET, addToRuns, addressIn, addressText, asWords, hasZeroByte, runOf, sameAddress } from '../sectors/index.js';
+import { VERBS } from './language.js';
 
 /** @typedef {import('./sector_lines.js').Left} Left */
 /** @typedef {import('./sector_lines.js').Lines} Lines */
@@ -117,7 +118,7 @@ export class LineList extends ByteList {
     address(block, address) {
         this.text(`address ${block} ${addressText(address)}\n`);
         this.patches += 1;
-        this.version = 2;
+        this.version = VERBS.address.version;
     }
 
     /**

@@ -1,8 +1,10 @@
 // The lines of a script, the words of a line, and by the calls which of these is wrong.
 
-import { CONTENT } from '../module/records.js';
+import { CONTENT } from '../module/index.js';
+import { NEWEST_VERSION, VERBS } from './language.js';
 
 /** @typedef {import('../module/calls.js').Calls} Calls */
+/** @typedef {import('./language.js').Verb} Verb */
 
 /** What ends a line of bytes. CR before it belongs to it. */
 export const LINE_FEED = 0x0A;
@@ -10,10 +12,6 @@ export const LINE_FEED = 0x0A;
 /** What ends a line, and what separates words. */
 const ENDS = /\r?\n/;
 const GAPS = /([ \t]+)/;
-
-/** A line of each verb that has no fault. @type {Record<string, string[]>} */
-const SOUND = Object.fromEntries(['set 0 0 00 was 00', 'fill 0 0 1 00', 'rebuild 0', 'address 0 00:02:00'].map(line => line.split(' '))
-    .map(words => [words[0], words]));
 
 /** The faults of one word, which is as wrong in any other line of its verb. */
 const FAULTS_OF_A_WORD = [CONTENT.BAD_NUMBER, CONTENT.BAD_HEX, CONTENT.BAD_OFFSET, CONTENT.BAD_ADDRESS];
@@ -79,8 +77,9 @@ export function faultyWord(calls, line, fault) {
     const words = wordsOf(line);
     if (fault === CONTENT.UNKNOWN_VERB) return 0;
     if (!FAULTS_OF_A_WORD.includes(fault)) return -1;
-    const sound = SOUND[words[0]].slice(0, words.length);
-    return words.findIndex((word, k) => contentOf(calls, CONTENT.VERSION_2, sound.map((it, i) => i === k ? word : it).join(' ')) === fault);
+    const sound = wordsOf(VERBS[/** @type {Verb} */ (words[0])].line).slice(0, words.length);
+    const { content } = NEWEST_VERSION;
+    return words.findIndex((word, k) => contentOf(calls, content, sound.map((it, i) => i === k ? word : it).join(' ')) === fault);
 }
 
 /**

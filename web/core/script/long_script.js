@@ -1,7 +1,8 @@
 // The patches of a script line by line: of one that is longer than a run takes, which is cut into parts that have a run each.
 
 import { joinedBytes } from '../bytes.js';
-import { CONTENT, MOST_PATCHES, MOST_SCRIPT_BYTES, isFault } from '../module/records.js';
+import { CONTENT, MOST_PATCHES, MOST_SCRIPT_BYTES, isFault } from '../module/index.js';
+import { headLine } from './language.js';
 import { LINE_FEED, endsOfLines } from './line_words.js';
 import { faultOr } from './patch_run.js';
 
@@ -15,7 +16,7 @@ const TEXT_WINDOW = 1 << 19;
 const END_OF_LINE = Uint8Array.of(LINE_FEED);
 
 /** What stands before lines until their head line was found. */
-const ANY_HEAD = new TextEncoder().encode('cdpatch 1');
+const ANY_HEAD = new TextEncoder().encode(headLine());
 
 /**
  * The whole lines of a text, as many at a time as a window takes, or one that is longer.

@@ -1,7 +1,8 @@
 // Lines that come into a script, each in the place of those that write the same bytes.
 
-import { VERB } from '../module/records.js';
+import { VERB } from '../module/index.js';
 import { isTurnDue, letOthersIn } from '../turns.js';
+import { headLine } from './language.js';
 import { ScriptModel, byNumber, modelInParts, userPlace } from './model.js';
 
 /** @typedef {import('./model.js').ScriptLine} ScriptLine */
@@ -24,7 +25,7 @@ function givesWay(line, range, isMade) {
 }
 
 /** @param {string[]} texts of lines that set bytes */
-const scriptOf = texts => ['cdpatch 1', ...texts].join('\n');
+const scriptOf = texts => [headLine(), ...texts].join('\n');
 
 /**
  * Lines that set bytes, as they are read.

@@ -1,9 +1,9 @@
 // A script by its lines: what each of them has, as the calls read it, kept up as lines come and go; and where they write.
 
-import { CONTENT, PATCH_SIZE, VERB, isFault } from '../module/records.js';
-import { USER_SIZE } from '../sectors/sector.js';
-import { hexText } from '../texts/hex.js';
-import { contentOf, linesOfText, partOfWord, lineParts, wordsOf } from './line_words.js';
+import { hexText } from '../hex_digits.js';
+import { CONTENT, PATCH_SIZE, USER_SIZE, VERB, isFault } from '../module/index.js';
+import { VERSIONS } from './language.js';
+import { contentOf, lineParts, linesOfText, partOfWord, wordsOf } from './line_words.js';
 
 /** @typedef {import('../module/calls.js').Calls} Calls */
 /** @typedef {import('../module/calls.js').PatchRange} PatchRange */
@@ -136,7 +136,7 @@ export class ScriptModel {
             at += taken;
             if (this.head < 0 && content !== CONTENT.NOTHING) {
                 this.head = first + i - 1;
-                this.version = content === CONTENT.NO_HEAD ? CONTENT.VERSION_1 : content;
+                this.version = content === CONTENT.NO_HEAD ? VERSIONS[0].content : content;
             }
             const patch = content === CONTENT.PATCH ? calls.patchRange() : null;
             const line = { number: first + i, text: own, content, patch };

@@ -1,7 +1,7 @@
 // A run of a script on an image by the calls, of which this only moves the bytes.
 
 import { ByteList, PieceCutter } from '../bytes.js';
-import { RUN_FLAG, STATUS, STEP } from '../module/records.js';
+import { RUN_FLAG, STATUS, STEP } from '../module/index.js';
 import { ReadAhead } from '../read_ahead.js';
 import { isTurnDue, letOthersIn } from '../turns.js';
 

@@ -1,9 +1,8 @@
 // The patches of a script on an image, of which only the sectors that they meet are read.
 
 import { ByteList, PieceKeeper, pieceWithin } from '../bytes.js';
-import { RESULT, STATUS } from '../module/records.js';
+import { RESULT, SECTOR_SIZE, STATUS } from '../module/index.js';
 import { pieceReader } from '../piece_reader.js';
-import { SECTOR_SIZE } from '../sectors/sector.js';
 import { runScript } from './patch_run.js';
 
 /** @typedef {import('../module/calls.js').Calls} Calls */

@@ -1,9 +1,9 @@
 // A script, whose bytes come in pieces.
 
 import { joinedBytes } from '../bytes.js';
-import { MOST_SCRIPT_BYTES } from '../module/records.js';
+import { MOST_SCRIPT_BYTES } from '../module/index.js';
 import { basesSaid } from './base_said.js';
-import { scriptParts, readLines } from './long_script.js';
+import { readLines, scriptParts } from './long_script.js';
 import { faultOr } from './patch_run.js';
 
 /** @typedef {import('../module/calls.js').Calls} Calls */

@@ -1,6 +1,7 @@
 // Whether a text is a script, or meant as one, by the first of its lines that says something.
 
-import { CONTENT } from '../module/records.js';
+import { CONTENT } from '../module/index.js';
+import { NEWEST_VERSION, VERSIONS } from './language.js';
 import { wordsOf } from './line_words.js';
 
 /** @typedef {import('../module/calls.js').Calls} Calls */
@@ -29,7 +30,7 @@ function firstLineSaying(calls, text, version) {
  */
 export function isScript(calls, text) {
     const first = firstLineSaying(calls, text, 0);
-    return first !== null && (first.content === CONTENT.VERSION_1 || first.content === CONTENT.VERSION_2);
+    return first !== null && VERSIONS.some(({ content }) => content === first.content);
 }
 
 /**
@@ -38,7 +39,7 @@ export function isScript(calls, text) {
  * @param {Uint8Array} text
  */
 export function isMeantAsScript(calls, text) {
-    const first = firstLineSaying(calls, text, CONTENT.VERSION_2);
+    const first = firstLineSaying(calls, text, NEWEST_VERSION.content);
     if (first === null) return false;
     const words = wordsOf(new TextDecoder().decode(first.line));
     return words.length > 1 && (/^cdpatch$/i.test(words[0]) || first.content !== CONTENT.UNKNOWN_VERB);

@@ -2,8 +2,9 @@
 
 import { joinedBytes } from '../bytes.js';
 import { Fault } from '../faults.js';
-import { CONTENT, MOST_SCRIPT_BYTES } from '../module/records.js';
-import { addToRuns } from '../sectors/runs.js';
+import { CONTENT, MOST_SCRIPT_BYTES } from '../module/index.js';
+import { addToRuns } from '../sectors/index.js';
+import { headLine } from './language.js';
 import { lineText } from './line_list.js';
 
 /** @typedef {import('../module/calls.js').Calls} Calls */
@@ -31,11 +32,12 @@ function tooManyPatches(calls, patches) {
 }
 
 /**
- * The lines of a script that was made, after its head.
+ * The lines of a script that was made, after its head and the comment that says its base.
  * @param {Script} script
  */
 export function linesMade({ pieces, patches }) {
-    return patches === 0 ? [] : new TextDecoder().decode(joinedBytes(pieces.slice(1))).trimEnd().split('\n');
+    if (patches === 0) return [];
+    return new TextDecoder().decode(joinedBytes(pieces.slice(1))).trimEnd().split('\n').filter(line => !line.startsWith('#'));
 }
 
 /** The parts of a script, in order, and what they leave. */
@@ -80,7 +82,7 @@ export class ScriptParts {
      * @returns {Script}
      */
     script(calls) {
-        const head = new TextEncoder().encode(`cdpatch ${this.version}\n`);
+        const head = new TextEncoder().encode(`${headLine(this.version)}\n`);
         const size = head.length + this.size;
         const long = size > MOST_SCRIPT_BYTES || tooManyPatches(calls, this.patches);
         return { pieces: [head, ...this.pieces], size, patches: this.patches, long, carry: this.carry };

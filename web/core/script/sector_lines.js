@@ -2,10 +2,10 @@
 
 import { sameBytes } from '../bytes.js';
 import { Fault } from '../faults.js';
-import { CONTENT, RECORD, RECORD_SIZE, RESULT, RUN_FLAG, SECTOR_KIND, STATUS, STEP, kindName } from '../module/records.js';
-import { blocksText } from '../sectors/runs.js';
-import { LAST_BASE, SECTOR_SIZE, addressIn, differingSectors, sectorOf, userOf } from '../sectors/sector.js';
-import { isDamaged } from '../sectors/survey.js';
+import { CONTENT, LAST_BASE, RECORD, RECORD_SIZE, RESULT, RUN_FLAG, SECTOR_KIND, SECTOR_SIZE, STATUS, STEP } from '../module/index.js';
+import { kindName } from '../module/index.js';
+import { addressIn, blocksText, differingSectors, isDamaged, sectorOf, userOf } from '../sectors/index.js';
+import { NEWEST_VERSION, headLine } from './language.js';
 import { LineList, asWritten } from './line_list.js';
 import { stepsOf } from './patch_run.js';
 
@@ -62,8 +62,11 @@ function canBeNamed(calls, address) {
     const line = new LineList();
     line.address(0, address);
     calls.hold(line.bytes());
-    return calls.readLine(2, 2, 0, 0, line.size - 1) === CONTENT.PATCH;
+    return calls.readLine(NEWEST_VERSION.content, 2, 0, 0, line.size - 1) === CONTENT.PATCH;
 }
+
+/** @type {import('../crew/jobs.js').Job<'lines'>} */
+export const linesJob = (calls, [old, fresh], _, { blocks, how }) => linesBetween(calls, { blocks, old, fresh }, how);
 
 /**
  * The lines that make sectors others, applied before they are given out; and what no line can do.
@@ -158,7 +161,7 @@ function firstWrong(calls, { version, text }, { blocks, old, fresh }, carry) {
     const size = (blocks[blocks.length - 1] + 1 - base) * SECTOR_SIZE;
     const made = old.slice();
     const places = new Map(blocks.map((block, i) => [block, i]));
-    const head = new TextEncoder().encode(`cdpatch ${version}\n`);
+    const head = new TextEncoder().encode(`${headLine(version)}\n`);
     for (const step of stepsOf(calls, [head, text], base, size, carry ? RUN_FLAG.CARRY : 0)) {
         const { kind, result, status } = step;
         const i = places.get(base + step.at / SECTOR_SIZE);

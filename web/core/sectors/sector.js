@@ -2,26 +2,16 @@
 
 import { joinedBytes, sameBytes } from '../bytes.js';
 import { newBytes } from '../faults.js';
-import { MOST_SECTORS, SECTOR_SIZE, USER_SIZE } from '../module/numbers.js';
+import { MOST_SECTORS, SECTOR_SIZE, USER_SIZE, sectorCount } from '../module/index.js';
 
 /** @typedef {import('../module/calls.js').Calls} Calls */
-
-// No call asks for the most sectors of an image: who opens one does.
-export { LAST_BASE, MOST_SECTORS, SECTOR_SIZE, USER_SIZE } from '../module/numbers.js';
+/** @typedef {{ block: number, offset: number }} Place a user byte */
 
 /** Where the fields of a sector begin, in their order. */
 export const FIELDS = Object.freeze({ sync: 0, header: 12, user: 16, edc: 2064, zeros: 2068, parity: 2076 });
 export const HEADER_OFFSET = FIELDS.header;
 export const USER_OFFSET = FIELDS.user;
 const WORDS = SECTOR_SIZE / 4;
-
-/**
- * The number of whole sectors of an image. The bytes after them are its tail.
- * @param {number} size of the image in bytes
- */
-export function sectorCount(size) {
-    return Math.floor(size / SECTOR_SIZE);
-}
 
 /**
  * Whether an image has more bytes than cdpatch takes.

@@ -1,9 +1,9 @@
 // What is found in sectors: their records, and the reports of `list` and `audit`.
 
 import { ByteList, joinedBytes } from '../bytes.js';
-import { RECORD, RECORD_SIZE, SECTOR_KIND, STATUS } from '../module/records.js';
+import { RECORD, RECORD_SIZE, SECTOR_KIND, SECTOR_SIZE, STATUS, sectorCount } from '../module/index.js';
 import { runOf } from './runs.js';
-import { SECTOR_SIZE, asWords, isFilled, sectorCount } from './sector.js';
+import { asWords, isFilled } from './sector.js';
 
 /** @typedef {import('../module/calls.js').Calls} Calls */
 
@@ -14,6 +14,8 @@ import { SECTOR_SIZE, asWords, isFilled, sectorCount } from './sector.js';
  * The records of neighbouring sectors, RECORD_SIZE bytes each, from a block on.
  * @typedef {{ block: number, records: Uint8Array }} Survey
  */
+
+/** @typedef {Survey & { filled: FilledRun[] }} RangeSurvey with the runs that one byte fills */
 
 /**
  * What a command prints, and its status.
@@ -26,6 +28,7 @@ import { SECTOR_SIZE, asWords, isFilled, sectorCount } from './sector.js';
  * @param {Uint8Array} bytes
  * @param {number} block
  * @param {{ shift?: number }} args how many blocks later those are whose addresses the sectors have
+ * @returns {RangeSurvey}
  */
 export function surveyRange(calls, bytes, block, { shift = 0 } = {}) {
     const records = shift === 0 ? calls.survey(bytes, block) : shiftedSurvey(calls, bytes, block + shift);

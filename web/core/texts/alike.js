@@ -3,10 +3,10 @@
 // replaced are those that stand there.
 
 import { joinedBytes } from '../bytes.js';
+import { lacks, numbersOf } from '../encodings/index.js';
 import { FAULT, failedBy } from '../faults.js';
-import { lacks, numbersOf } from './characters.js';
 
-/** @typedef {import('./encoding.js').Encoding} Encoding */
+/** @typedef {import('../encodings/encoding.js').Encoding} Encoding */
 
 /** What composes one character: a character with marks, or the letters of a Korean syllable. */
 const COMPOSING = /\P{M}\p{M}+|[\u1100-\u1112][\u1161-\u1175][\u11A8-\u11C2]?/gu;

@@ -2,15 +2,15 @@
 
 import { sliceOf } from '../bytes.js';
 import { cancelled } from '../faults.js';
-import { SECTOR_SIZE, USER_SIZE } from '../sectors/sector.js';
+import { SECTOR_SIZE, USER_SIZE } from '../module/index.js';
 import { rowText } from './cells.js';
 import { bytesBefore } from './context.js';
 import { BEYOND, keptOf } from './told.js';
 import { visible } from './visible.js';
 
-/** @typedef {import('../disc/disc.js').DiscImage} DiscImage */
+/** @typedef {import('../disc/disc.js').OrderedImage} OrderedImage */
 /** @typedef {import('../iso/files.js').FileEntry} FileEntry */
-/** @typedef {import('../jobs.js').Sharer} Sharer */
+/** @typedef {import('../crew/crew.js').Sharer} Sharer */
 /** @typedef {import('./range.js').AskedTexts} AskedTexts */
 /** @typedef {import('./range.js').Told} Told */
 /**
@@ -41,7 +41,7 @@ function sectorsOf({ size }) {
 
 /**
  * The stretches of a part, in the order of its files.
- * @param {DiscImage} part
+ * @param {OrderedImage} part
  * @param {FileEntry[]} files
  * @returns {Stretch[]}
  */
@@ -71,10 +71,10 @@ export function stretchesOf(part, files) {
 /**
  * The texts of a stretch.
  * @param {Sharer} crew
- * @param {DiscImage} part
+ * @param {OrderedImage} part
  * @param {Stretch} stretch
  * @param {AskedTexts} asked
- * @param {import('../jobs.js').Sharing} watch
+ * @param {import('../crew/crew.js').Sharing} watch
  */
 async function textsOf(crew, { reader, order }, stretch, asked, watch) {
     /** @type {Told[][]} of each range its own */
@@ -87,7 +87,7 @@ async function textsOf(crew, { reader, order }, stretch, asked, watch) {
 }
 
 /**
- * @param {DiscImage} part
+ * @param {OrderedImage} part
  * @param {Stretch} stretch
  * @param {Told} told
  */
@@ -100,7 +100,7 @@ function cellsOf({ base, order }, { path, before, first }, { start, end, room, s
 /**
  * The table of the texts of some stretches, in pieces, with how many texts each has. The first one names the columns.
  * @param {Sharer} crew
- * @param {DiscImage} part whose order is that of its files
+ * @param {OrderedImage} part whose order is that of its files
  * @param {Stretch[]} stretches
  * @param {TableHow} how
  * @returns {AsyncGenerator<{ text: string, count: number }>}

@@ -1,6 +1,6 @@
 // Where characters begin in bytes of a disc.
 
-/** @typedef {import('./encoding.js').Encoding} Encoding */
+/** @typedef {import('../encodings/encoding.js').Encoding} Encoding */
 
 /** How far back to look for a character boundary, in bytes. */
 export const LOOKED_BACK = 2048;

@@ -1,6 +1,6 @@
 // Places of bytes that may be texts, each in one encoding, with a score.
 
-import { asWords } from '../sectors/sector.js';
+import { asWords } from '../sectors/index.js';
 import { PathFinder } from './best_path.js';
 import { ASCII, BAD, HALF_WIDTH, allScores, codeAt, seedBits, strengthOf } from './scores.js';
 import { SURE } from './told.js';

@@ -1,13 +1,13 @@
 // Texts in the cells of a table, in which bytes that are no plain character stand as codes, as {00}.
 
+import { usualBytes } from '../encodings/index.js';
 import { FAULT, Fault, failedBy } from '../faults.js';
+import { bytesOfHex, hexText } from '../hex_digits.js';
 import { isTurnDue, letOthersIn } from '../turns.js';
 import { unitsAlike } from './alike.js';
 import { charactersFrom } from './boundaries.js';
-import { usualBytes } from './encoding.js';
-import { bytesOfHex, hexText } from './hex.js';
 
-/** @typedef {import('./encoding.js').Encoding} Encoding */
+/** @typedef {import('../encodings/encoding.js').Encoding} Encoding */
 /** @typedef {{ number: number, encoding: string, text: string, fresh: string }} CodedRow a row with an old text and a new one */
 /**
  * A code that new texts leave out, as its digits; how often they do so in all, in how many rows, and the numbers of the first of these.

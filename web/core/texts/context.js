@@ -1,15 +1,16 @@
 // User bytes at a place of a data track and around it, and the text there.
 
 import { readBytes } from '../bytes.js';
-import { filesAt } from '../iso/files.js';
-import { SECTOR_SIZE, USER_SIZE, joinedUser } from '../sectors/sector.js';
+import { hexText } from '../hex_digits.js';
+import { filesAt } from '../iso/index.js';
+import { SECTOR_SIZE, USER_SIZE } from '../module/index.js';
+import { joinedUser } from '../sectors/index.js';
 import { LONGEST_CHARACTER, LOOKED_BACK, bytesInside, charactersFrom } from './boundaries.js';
-import { hexText } from './hex.js';
 
-/** @typedef {import('../disc/disc.js').DiscImage} DiscImage */
-/** @typedef {import('../script/replace_bytes.js').Place} Place */
+/** @typedef {import('../disc/disc.js').OrderedImage} OrderedImage */
+/** @typedef {import('../sectors/sector.js').Place} Place */
 /** @typedef {import('../iso/files.js').FileEntry} FileEntry */
-/** @typedef {import('./encoding.js').Encoding} Encoding */
+/** @typedef {import('../encodings/encoding.js').Encoding} Encoding */
 /** @typedef {import('./find.js').Hit} Hit */
 /**
  * A hit's bytes; `doubt`, which says what is known of it if it may begin in the middle of a character, else ''; and the characters before
@@ -29,7 +30,7 @@ const READ_TOGETHER = 1 << 19;
 
 /**
  * How many user bytes come before a place, in the order of files if the image has one.
- * @param {Pick<DiscImage, 'base' | 'order'>} image
+ * @param {Pick<OrderedImage, 'base' | 'order'>} image
  * @param {Place} place
  */
 export function bytesBefore({ base, order }, { block, offset }) {
@@ -38,7 +39,7 @@ export function bytesBefore({ base, order }, { block, offset }) {
 
 /**
  * User bytes around a place, as many before it and from it on, or as many as there are, in that order; and the place in them.
- * @param {DiscImage} image
+ * @param {OrderedImage} image
  * @param {Place} place
  * @param {number} before
  * @param {number} after
@@ -83,7 +84,7 @@ function contextIn(encoding, bytes, at, size, around) {
 
 /**
  * The same of a hit in an image.
- * @param {DiscImage} image
+ * @param {OrderedImage} image
  * @param {Encoding} encoding
  * @param {Hit} hit
  * @param {number} [around]
@@ -95,7 +96,7 @@ export async function contextOf(image, encoding, hit, around = AROUND) {
 
 /**
  * The contexts of many hits in their order, by groups of those that lie near one another, for which is read at once.
- * @param {DiscImage} image
+ * @param {OrderedImage} image
  * @param {Encoding} encoding
  * @param {Hit[]} hits
  * @returns {AsyncGenerator<Iterable<{ hit: Hit, context: Context }>>}
@@ -114,7 +115,7 @@ export async function* contextsOf(image, encoding, hits) {
 
 /**
  * The contexts of hits, each read from as many bytes as if it were the only one.
- * @param {DiscImage} image
+ * @param {OrderedImage} image
  * @param {Encoding} encoding
  * @param {{ start: number, bytes: Uint8Array }} read user bytes, and how many come before them
  * @param {Hit[]} hits
@@ -129,7 +130,7 @@ function* contextsIn(image, encoding, { start, bytes }, hits) {
 
 /**
  * Whether one of several hits is not in the middle of a character.
- * @param {DiscImage} image
+ * @param {OrderedImage} image
  * @param {Encoding} encoding
  * @param {Hit[]} hits
  */

@@ -1,7 +1,8 @@
 // Search over the user data of sectors, of any kind. A hit may lie over borders of sectors, and of the ranges that workers share.
 
 import { joinedBytes } from '../bytes.js';
-import { USER_SIZE, asWords, userOfRange } from '../sectors/sector.js';
+import { USER_SIZE } from '../module/index.js';
+import { asWords, userOfRange } from '../sectors/index.js';
 
 /** How many bytes of a range are counted to know which are rare, and how many of the wanted ones are weighed. */
 const SAMPLES = 4000;

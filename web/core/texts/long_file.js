@@ -1,9 +1,8 @@
 // The text of a long file that somebody wrote, read and decoded in parts: others get turns in between.
 
 import { joinedBytes, readBytes } from '../bytes.js';
+import { CP932, markOf } from '../encodings/index.js';
 import { letOthersIn } from '../turns.js';
-import { CP932 } from './cp932.js';
-import { markOf } from './encodings.js';
 
 /** @typedef {import('../bytes.js').Reader} Reader */
 /** @typedef {import('../turns.js').Signal} Signal */

@@ -1,16 +1,15 @@
 // The texts of a range of sectors, which is a part of a file.
 
-import { USER_SIZE, userOfRange } from '../sectors/sector.js';
+import { encodingOf, fillingAfter, tableEncoding } from '../encodings/index.js';
+import { USER_SIZE } from '../module/index.js';
+import { userOfRange } from '../sectors/index.js';
 import { cellOf } from './codes.js';
-import { encodingOf } from './encodings.js';
-import { fillingAfter } from './list.js';
 import { allScores, tableScores } from './scores.js';
-import { tableEncoding } from './table.js';
 import { TextTeller } from './telling.js';
 import { BESIDE } from './told.js';
 
-/** @typedef {import('./encoding.js').Encoding} Encoding */
-/** @typedef {import('./encoding.js').TableEncoding} TableEncoding */
+/** @typedef {import('../encodings/encoding.js').Encoding} Encoding */
+/** @typedef {import('../encodings/encoding.js').TableEncoding} TableEncoding */
 /** @typedef {import('./scores.js').Scores} Scores */
 /**
  * The name of an encoding, or a table, or neither for the usual encodings; and whether each line is a text by itself.
@@ -66,9 +65,3 @@ export function textsOfRange(sectors, first, { count, size, lines, ...asked }) {
     }
     return told.reverse();
 }
-
-/**
- * The job `texts` of a crew, with tables of its own: only workers carry it.
- * @type {import('../jobs.js').Job}
- */
-export const textsOfRangeJob = (_, [bytes], first, args) => textsOfRange(bytes, first, args);

@@ -1,12 +1,10 @@
 // How likely bytes are Japanese text: scores of characters in quarter bits, by encodings.
 
-import { CP932 } from './cp932.js';
-import { TableEncoding, encodeText } from './encoding.js';
-import { SEARCHED } from './encodings.js';
+import { CP932, SEARCHED, TableEncoding, encodeText } from '../encodings/index.js';
 import { CHARACTERS_BY_BITS } from './frequencies.js';
 
-/** @typedef {import('./encoding.js').Encoding} Encoding */
-/** @typedef {import('./encoding.js').Usual} Usual */
+/** @typedef {import('../encodings/encoding.js').Encoding} Encoding */
+/** @typedef {import('../encodings/encoding.js').Usual} Usual */
 /**
  * An encoding whose texts can be told from other bytes: by each byte and each pair what it scores as a character, and its kind; whether
  * characters have two bytes always; how many bytes those of more than one have, two, or in UTF-8 three; whether it is a game's own table;

@@ -5,10 +5,10 @@ import { unitsAlike } from './alike.js';
 import { anyBegins } from './context.js';
 import { joinFound, sectorsBeyond } from './find.js';
 
-/** @typedef {import('../disc/disc.js').DiscImage} DiscImage */
-/** @typedef {import('../jobs.js').Sharer} Sharer */
-/** @typedef {import('../jobs.js').Sharing} Sharing */
-/** @typedef {import('./encoding.js').Encoding} Encoding */
+/** @typedef {import('../disc/disc.js').OrderedImage} OrderedImage */
+/** @typedef {import('../crew/crew.js').Sharer} Sharer */
+/** @typedef {import('../crew/crew.js').Sharing} Sharing */
+/** @typedef {import('../encodings/encoding.js').Encoding} Encoding */
 /** @typedef {import('./find.js').Found} Found */
 /** @typedef {Found & { encoding: Encoding, begins: boolean }} Hits whether one of them is not in the middle of a character */
 
@@ -42,7 +42,7 @@ export function encodingsWith(encodings, text, loose) {
  * The hits of a text in each encoding in which it stands there. One in which it stands only in the middle of characters, which may be
  * bytes of another one, comes last.
  * @param {Sharer} crew
- * @param {DiscImage} image
+ * @param {OrderedImage} image
  * @param {{ text: string, encodings: Encoding[], limit: number, loose?: boolean }} asked how many hits are kept in each
  *     encoding, one at least
  * @param {Sharing} [watch]

@@ -1,12 +1,13 @@
 // The workers of the page. Each is started when it is first given something to do.
 
+import { Crew } from '../../core/crew/index.js';
 import { Fault, cancelled } from '../../core/faults.js';
-import { Crew } from '../../core/jobs.js';
 import * as texts from '../texts/index.js';
 import { told } from '../texts/index.js';
 
-/** @typedef {import('../../core/jobs.js').Message} Message */
-/** @typedef {import('../../core/jobs.js').Reply} Reply */
+/** @typedef {import('../../core/crew/jobs.js').JobName} JobName */
+/** @typedef {import('../../core/crew/jobs.js').Message} Message */
+/** @typedef {import('../../core/crew/jobs.js').Reply} Reply */
 /** @typedef {import('./state.js').Parts} Parts */
 
 const MOST_WORKERS = 8;
@@ -81,13 +82,21 @@ class ReadingCrew extends Crew {
         this.shared = 0;
     }
 
-    /** @type {Crew['share']} what Cancel ends does not wait for a worker that a stranger's table or text keeps busy */
+    /**
+     * As Crew.share, but what Cancel ends does not wait for a worker that a stranger's table or text keeps busy.
+     * @template {JobName} Name
+     * @param {Name} job
+     * @param {import('../../core/bytes.js').Reader[]} readers
+     * @param {import('../../core/crew/jobs.js').Shared<Name>} args
+     * @param {import('../../core/crew/crew.js').Sharing} how
+     * @param {(answer: import('../../core/crew/jobs.js').Jobs[Name]['answer']) => void | Promise<void>} take
+     */
     async share(job, readers, args, how, take) {
         const [own, signal] = [++this.shared, /** @type {AbortSignal | undefined} */ (how.signal)];
         const stop = () => { setTimeout(() => this.endShared(own), MOMENT); };
         if (signal && signal.addEventListener) signal.addEventListener('abort', stop, { once: true });
         try {
-            return await super.share(job, readers, { ...args, own }, how, take);
+            return await super.share(job, readers, args, { ...how, own }, take);
         } finally {
             if (signal && signal.removeEventListener && !signal.aborted) signal.removeEventListener('abort', stop);
         }
@@ -99,9 +108,9 @@ class ReadingCrew extends Crew {
      */
     endShared(own) {
         for (const hand of this.hands) {
-            if (![...hand.held.values()].some(({ args }) => args.own === own)) continue;
+            if (![...hand.held.values()].some(message => message.own === own)) continue;
             for (const message of hand.end()) {
-                if (message.args.own === own) this.settle(hand, { number: message.number, fault: cancelled() });
+                if (message.own === own) this.settle(hand, { number: message.number, fault: cancelled() });
                 else this.postAgain(hand, message);
             }
         }

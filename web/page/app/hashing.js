@@ -3,7 +3,7 @@
 import { forwardOf, readBytes } from '../../core/bytes.js';
 import { crc32, joinedCrc } from '../../core/crc32.js';
 import { cancelled } from '../../core/faults.js';
-import { SECTOR_SIZE } from '../../core/sectors/sector.js';
+import { SECTOR_SIZE } from '../../core/module/index.js';
 import { hexOf } from '../ui/index.js';
 import { startedWorker } from './crew.js';
 
@@ -11,8 +11,8 @@ import { startedWorker } from './crew.js';
 /** @typedef {import('./state.js').App} App */
 /** @typedef {import('./state.js').Parts} Parts */
 /** @typedef {{ sha1: string, crc32: string }} Sums in digits as others print them */
-/** @typedef {ReturnType<import('../../core/sectors/survey.js').surveyRange>} RangeSurvey */
-/** @typedef {RangeSurvey & { bytes: Uint8Array, crc: number }} Summed what a hand gives of a range */
+/** @typedef {{ digest?: Uint8Array }} Hashed the reply of a worker that hashes, at the end with the digest */
+/** @typedef {import('../../core/sectors/survey.js').RangeSurvey} RangeSurvey */
 
 const HASH_STEP = 1 << 22;
 /** Ranges of an image that may wait for its SHA-1, some 64 MB: so the survey is not held up by it at once. */
@@ -26,7 +26,7 @@ export class RunningHash {
      */
     constructor(parts, most = 2) {
         this.most = most;
-        /** @type {{ resolve: (reply: any) => void, reject: (error: Error) => void }[]} */
+        /** @type {{ resolve: (reply: Hashed) => void, reject: (error: Error) => void }[]} */
         this.waiting = [];
         this.fault = /** @type {Error | null} */ (null);
         this.worker = startedWorker(parts, ({ data }) => (this.waiting.shift() || { resolve() {} }).resolve(data),
@@ -53,7 +53,7 @@ export class RunningHash {
     /**
      * @param {Uint8Array | null} bytes
      * @param {ArrayBufferLike[]} transfer
-     * @returns {Promise<any>}
+     * @returns {Promise<Hashed>}
      */
     post(bytes, transfer) {
         return new Promise((resolve, reject) => {
@@ -67,7 +67,7 @@ export class RunningHash {
     async end() {
         for (const added of this.coming) await added;
         const { digest } = await this.post(null, []);
-        return hexOf(digest).toLowerCase();
+        return hexOf(/** @type {Uint8Array} */ (digest)).toLowerCase();
     }
 
     close() {
@@ -121,13 +121,13 @@ export class Summing {
 
     /**
      * Reads all sectors. Throws what Crew.share throws.
-     * @param {import('../../core/jobs.js').Sharing} how
-     * @param {((answer: Summed) => void) | null} [surveyed] who wants their survey
+     * @param {import('../../core/crew/crew.js').Sharing} how
+     * @param {((survey: RangeSurvey) => void) | null} [surveyed] who wants their survey
      */
     async read(how, surveyed = null) {
-        await this.crew.share('sums', [this.ahead], { surveys: surveyed !== null }, how, async answer => {
-            if (surveyed !== null) surveyed(answer);
-            await this.add(answer.bytes, answer.crc);
+        await this.crew.share('sums', [this.ahead], { surveys: surveyed !== null }, how, async ({ bytes, crc, survey }) => {
+            if (surveyed !== null && survey !== null) surveyed(survey);
+            await this.add(bytes, crc);
         });
     }
 

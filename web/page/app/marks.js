@@ -1,6 +1,6 @@
 // What the map shows of each sector: its kind, or what was found in it.
 
-import { RECORD, RECORD_SIZE, SECTOR_KIND } from '../../core/module/records.js';
+import { RECORD, RECORD_SIZE, SECTOR_KIND } from '../../core/module/index.js';
 import * as texts from '../texts/index.js';
 
 /** What a sector can be on the map. Of the sectors that share a pixel the one with the greatest number is shown. */

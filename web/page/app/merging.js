@@ -1,7 +1,6 @@
 // Lines of a table that come into the script, while the page goes on.
 
-import { mergedInTurns } from '../../core/script/merge_lines.js';
-import { modelInParts } from '../../core/script/model.js';
+import { mergedInTurns, modelInParts } from '../../core/script/index.js';
 import { letOthersIn } from '../../core/turns.js';
 import { isLong } from './script_long.js';
 
@@ -25,6 +24,7 @@ export async function mergeOf(script, texts, signal) {
     }
     const before = script.text();
     const { lines, counts } = await mergedInTurns(script, texts, ({ text }) => script.made.has(text), signal);
+    lines.splice(1, 0, ...script.comments());
     const text = lines.join('\n');
     const known = isLong(text) ? null : await modelInParts(script.calls, text, () => letOthersIn(signal));
     // A script that was edited meanwhile has other lines.

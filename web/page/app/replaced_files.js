@@ -1,11 +1,7 @@
 // The lines of a script that replace files of the disc: those of a file go when it is replaced once more.
 
-import { RESULT, VERB } from '../../core/module/records.js';
-import { linesOfText } from '../../core/script/line_words.js';
-import { patchesOf } from '../../core/script/long_script.js';
-import { userPlace } from '../../core/script/model.js';
-import { passPatched } from '../../core/script/patches.js';
-import { Refusal, readScript } from '../../core/script/script.js';
+import { RESULT, VERB } from '../../core/module/index.js';
+import { NEWEST_VERSION, Refusal, headLine, linesOfText, passPatched, patchesOf, readScript, userPlace } from '../../core/script/index.js';
 
 /** @typedef {import('../../core/module/calls.js').PatchRange} PatchRange */
 /** @typedef {import('../../core/bytes.js').Reader} Reader */
@@ -47,7 +43,7 @@ function mayReplace({ patch }, places) {
  * @param {Line[]} lines
  */
 async function fittingLines(script, image, lines) {
-    const text = [`cdpatch ${script.versionName() || 2}`, ...lines.map(line => line.text), ''].join('\n');
+    const text = [headLine(script.versionName() || NEWEST_VERSION.name), ...lines.map(line => line.text), ''].join('\n');
     const read = await readScript(script.calls, [new TextEncoder().encode(text)]);
     if (read instanceof Refusal) return [];
     const { outcomes } = await passPatched(script.calls, image.reader, read, { base: image.base, carry: true });

@@ -1,9 +1,7 @@
 // The script of the page: its lines, edits that can be undone, whether it is in a file, and what Check has said of its lines.
 
-import { RESULT, isFault } from '../../core/module/records.js';
-import { afterColon, linesOfText, wordsOn } from '../../core/script/line_words.js';
-import { countOld, oldBytesOf } from '../../core/script/long_script.js';
-import { ScriptModel } from '../../core/script/model.js';
+import { RESULT, isFault } from '../../core/module/index.js';
+import { ScriptModel, afterColon, baseComment, countOld, headLine, linesOfText, oldBytesOf, wordsOn } from '../../core/script/index.js';
 import { lineDoesNotFit, lineFits, told } from '../texts/index.js';
 import { MOST_LINES, MOST_SHOWN, isLong } from './script_long.js';
 
@@ -20,7 +18,7 @@ import { MOST_LINES, MOST_SHOWN, isLong } from './script_long.js';
 /** @typedef {{ text: string, saved: boolean, before: object }} LongScript whether it is in a file, and what stood there before it */
 
 /** The head line of a new script, which is all that it has. */
-const HEAD = 'cdpatch 1';
+const HEAD = headLine();
 
 /** The script. Of one that is too long to be shown it has only the text, and no lines. */
 export class ScriptLines extends ScriptModel {
@@ -42,6 +40,8 @@ export class ScriptLines extends ScriptModel {
         this.made = new Set();
         /** The name of its file, or ''. */
         this.name = '';
+        /** The base of the open image. */
+        this.base = 0;
         this.long = /** @type {LongScript | null} */ (null);
         /** @type {Map<number, string>} the program's words for each fault that was met */
         this.faultWords = new Map();
@@ -55,6 +55,11 @@ export class ScriptLines extends ScriptModel {
     isNew() {
         const [head, rest] = this.lines;
         return !this.long && this.lines.length === 2 && head.text === HEAD && rest.text === '';
+    }
+
+    /** The comment that says the base of the image, for a new script. */
+    comments() {
+        return this.head < 0 || this.isNew() ? linesOfText(baseComment(this.base)).slice(0, -1) : [];
     }
 
     /**
@@ -119,13 +124,14 @@ export class ScriptLines extends ScriptModel {
     }
 
     /**
-     * Adds lines at the end, after a head line if no line says anything yet. Returns the number of the last of them, 0 if it is not shown.
+     * Adds lines at the end. A new script gets its head line and the comment that says its base first. Returns the number of the last of
+     * the lines, 0 if it is not shown.
      * @param {string[]} texts
      * @param {Typed} typed
      * @param {number} [before] the line before which they are put in, if not at the end
      */
     add(texts, typed, before = 0) {
-        const come = this.head < 0 ? [HEAD, ...texts] : texts;
+        const come = [...this.head < 0 ? [HEAD] : [], ...this.comments(), ...texts];
         if (typed === '') for (const text of texts) this.made.add(text);
         const size = come.reduce((sum, text) => sum + text.length + 1, 1);
         const last = this.lines.length - Number(this.lines[this.lines.length - 1].text === '');

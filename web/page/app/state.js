@@ -4,7 +4,9 @@ import { Store } from './store.js';
 
 /** @typedef {import('../../core/disc/disc.js').Disc} Disc */
 /** @typedef {import('../../core/disc/disc.js').DiscImage} DiscImage */
+/** @typedef {import('../../core/disc/volume_end.js').Lack} Lack */
 /** @typedef {import('../../core/sectors/survey.js').FilledRun} FilledRun */
+/** @typedef {import('../../core/tasks/opened.js').OpenedTrack} OpenedTrack */
 /** @typedef {import('./marks.js').SurveyMarks} SurveyMarks */
 /** @typedef {import('../ui/fill.js').Child} Child */
 
@@ -13,17 +15,18 @@ import { Store } from './store.js';
 
 /**
  * An image that was opened. `from` is the name of the cue sheet and `sheet` its text, or both are ''; `number` is that of the track
- * which is meant, and `part` only that track; `sha1` is '' until it is known, and `crc32` too. `renamed` has the files of the disc that
- * were saved patched, with their new names.
- * @typedef {DiscImage & { part: DiscImage, from: string, sheet: string, disc: Disc, number: number, sha1: string, crc32: string,
- *     renamed: Map<string, string> }} Image
+ * which is meant, `part` only that track, and `opened` is what tasks take; `sha1` is '' until it is known, and `crc32` too. `renamed` has
+ * the files of the disc that were saved patched, with their new names.
+ * @typedef {DiscImage & { opened: OpenedTrack, part: DiscImage, from: string, sheet: string, disc: Disc, number: number, sha1: string,
+ *     crc32: string, renamed: Map<string, string> }} Image
  */
 
 /**
  * The records of an image's sectors, RECORD_SIZE bytes each, of which the first `known` were read so far; those that one byte fills; what
- * the map shows of them; and when reading began and ended, 0 if it did not come to its end. `over` says that it goes on no more.
- * @typedef {{ block: number, records: Uint8Array, filled: FilledRun[], known: number, marks: SurveyMarks, began: number, ended: number,
- *     over: boolean }} Surveyed
+ * the map shows of them; what the image lacks of its volume, which is known when all is read; and when reading began and ended, 0 if it
+ * did not come to its end. `over` says that it goes on no more.
+ * @typedef {{ block: number, records: Uint8Array, filled: FilledRun[], known: number, marks: SurveyMarks, lack: Lack | null, began: number,
+ *     ended: number, over: boolean }} Surveyed
  */
 
 /**

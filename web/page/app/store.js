@@ -1,19 +1,19 @@
 // What the page knows: the disc, what was found in it, the script, the second image, and who wants to hear of changes.
 
+import { USUAL_ENCODING } from '../../core/encodings/index.js';
 import { newBytes } from '../../core/faults.js';
-import { RECORD_SIZE } from '../../core/module/records.js';
-import { addToRuns } from '../../core/sectors/runs.js';
-import { USUAL_ENCODING } from '../../core/texts/encodings.js';
+import { RECORD_SIZE } from '../../core/module/index.js';
+import { addToRuns } from '../../core/sectors/index.js';
 import { SurveyMarks } from './marks.js';
 import { ScriptLines } from './script_lines.js';
 
-/** @typedef {import('../../core/jobs.js').Crew} Crew */
+/** @typedef {import('../../core/crew/crew.js').Crew} Crew */
 /** @typedef {import('../../core/disc/dat.js').KnownDumps} KnownDumps */
-/** @typedef {import('../../core/images/merge.js').Repair} Repair */
+/** @typedef {import('../../core/tasks/repair.js').Repair} Repair */
 /** @typedef {import('../../core/iso/files.js').VolumeFiles} VolumeFiles */
 /** @typedef {import('../../core/module/calls.js').Calls} Calls */
 /** @typedef {import('../../core/sectors/survey.js').FilledRun} FilledRun */
-/** @typedef {import('../../core/texts/encoding.js').Encoding} Encoding */
+/** @typedef {import('../../core/encodings/encoding.js').Encoding} Encoding */
 /** @typedef {import('./state.js').Happening} Happening */
 /** @typedef {import('./state.js').Image} Image */
 /** @typedef {import('./state.js').PairJob} PairJob */
@@ -111,6 +111,7 @@ export class Store {
         this.closing.abort();
         [this.reading, this.closing] = [new AbortController(), new AbortController()];
         [this.image, this.second, this.repair, this.survey, this.files] = [image, null, null, null, null];
+        this.script.base = image === null ? 0 : image.base;
         this.place = { block: -1, offset: -1 };
         this.tell('image');
         this.tell('second');
@@ -139,7 +140,8 @@ export class Store {
      */
     beginSurvey(base, sectors) {
         const [records, marks, began] = [newBytes(sectors * RECORD_SIZE), new SurveyMarks(base, sectors), performance.now()];
-        const survey = /** @type {Surveyed} */ ({ block: base, records, filled: [], known: 0, marks, began, ended: 0, over: false });
+        const read = { block: base, records, filled: [], known: 0, marks, lack: null };
+        const survey = /** @type {Surveyed} */ ({ ...read, began, ended: 0, over: false });
         [this.survey, this.told] = [survey, began];
         this.tell('survey');
         return survey;

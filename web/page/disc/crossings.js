@@ -1,7 +1,8 @@
 // Which bytes of a sector lie in broken P columns and Q diagonals both. No rule of these codes stands here: a byte of a sound sector is
 // changed, and the module says which column and which diagonal that breaks.
 
-import { HEADER_OFFSET, SECTOR_SIZE, USER_SIZE } from '../../core/sectors/sector.js';
+import { SECTOR_SIZE, USER_SIZE } from '../../core/module/index.js';
+import { HEADER_OFFSET } from '../../core/sectors/index.js';
 
 /** @typedef {import('../../core/module/calls.js').Calls} Calls */
 

@@ -1,20 +1,18 @@
 // The tab Files: the files of the disc by their blocks. The chosen one is saved as a file, or replaced by one.
 
 import { Fault } from '../../core/faults.js';
-import { passFile } from '../../core/images/convert.js';
-import { filesLines, wholeFile } from '../../core/iso/files.js';
-import { placesOfFile, replaceFile, sharingText } from '../../core/script/replace_file.js';
-import { linesMade } from '../../core/script/script_writer.js';
-import { leftText } from '../../core/script/sector_lines.js';
-import { blocksIn } from '../../core/sectors/runs.js';
-import { visible } from '../../core/texts/visible.js';
+import { filesLines, wholeFile } from '../../core/iso/index.js';
+import { leftText, linesMade } from '../../core/script/index.js';
+import { blocksIn } from '../../core/sectors/index.js';
+import { passFile, placesOfFile, replaceFile, sharingText } from '../../core/tasks/index.js';
+import { visible } from '../../core/texts/index.js';
 import { ReplacedFiles, linesIn, linesReplacing } from '../app/index.js';
 import { fileReader } from '../open/index.js';
 import { downloadBytes, watched } from '../save/index.js';
 import * as texts from '../texts/index.js';
 import { counted, say, told } from '../texts/index.js';
-import { announce, button, element, fill, isCancelled, jobBar, keyed, messageParts, nameOf, notice } from '../ui/index.js';
-import { runAt, seen, stemOf, term } from '../ui/index.js';
+import { announce, button, element, fill, isCancelled, jobBar, keyed, messageParts, nameOf, notice, runAt, seen } from '../ui/index.js';
+import { stemOf, term } from '../ui/index.js';
 
 /** @typedef {import('../app/state.js').App} App */
 /** @typedef {import('../app/state.js').Image} Image */

@@ -1,6 +1,6 @@
 // The card under the map: findings in places, files, runs of one kind, and the text that the program prints.
 
-import { auditText, kindRuns, listText } from '../../core/sectors/survey.js';
+import { auditText, kindRuns, listText } from '../../core/sectors/index.js';
 import { MARK, lookOf, lookOfKind } from '../app/index.js';
 import { downloadText } from '../save/index.js';
 import * as texts from '../texts/index.js';

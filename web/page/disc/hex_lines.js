@@ -1,13 +1,14 @@
 // How the bytes of a sector are drawn: lines of hexadecimal digits, with the texts that they are beside them.
 
-import { SECTOR_SIZE, USER_OFFSET, USER_SIZE } from '../../core/sectors/sector.js';
-import { charactersFrom } from '../../core/texts/boundaries.js';
+import { SECTOR_SIZE, USER_SIZE } from '../../core/module/index.js';
+import { USER_OFFSET } from '../../core/sectors/index.js';
+import { charactersFrom } from '../../core/texts/index.js';
 import { columnLabel, signOf } from '../text/index.js';
 import * as texts from '../texts/index.js';
 import { told } from '../texts/index.js';
 import { element } from '../ui/index.js';
 
-/** @typedef {import('../../core/texts/encoding.js').Encoding} Encoding */
+/** @typedef {import('../../core/encodings/encoding.js').Encoding} Encoding */
 /** @typedef {{ name: string, label: string, from: number, to: number }} Field */
 /**
  * What is shown: the bytes, the fields that they lie in, those that are outlined, those that the script has changed, and those of a

@@ -1,6 +1,7 @@
 // The bytes of a sector, in hex and as text, with what is chosen of them, and the strip of the whole sector beside them.
 
-import { SECTOR_SIZE, USER_OFFSET } from '../../core/sectors/sector.js';
+import { SECTOR_SIZE } from '../../core/module/index.js';
+import { USER_OFFSET } from '../../core/sectors/index.js';
 import * as texts from '../texts/index.js';
 import { told } from '../texts/index.js';
 import { element, fill, styleValue } from '../ui/index.js';

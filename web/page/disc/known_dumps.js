@@ -1,7 +1,6 @@
 // Lists of known dumps (DAT, Logiqx XML): one that is opened names the disc, as long as the page is open.
 
-import { KnownDumps } from '../../core/disc/dat.js';
-import { beginsLikeDat } from '../../core/disc/dat_text.js';
+import { KnownDumps, beginsLikeDat } from '../../core/disc/index.js';
 import { fileReader } from '../open/index.js';
 import * as texts from '../texts/index.js';
 import { say, told } from '../texts/index.js';

@@ -1,6 +1,6 @@
 // The panel Disc: the map and what was found on the left, a sector on the right.
 
-import { filesAt } from '../../core/iso/files.js';
+import { filesAt } from '../../core/iso/index.js';
 import { SecondCard } from '../second/index.js';
 import * as texts from '../texts/index.js';
 import { told } from '../texts/index.js';

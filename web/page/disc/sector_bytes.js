@@ -1,8 +1,8 @@
 // The bytes of one sector: those of the file, and those that it has after the script.
 
 import { readBytes } from '../../core/bytes.js';
-import { applyPatches } from '../../core/script/patches.js';
-import { SECTOR_SIZE } from '../../core/sectors/sector.js';
+import { SECTOR_SIZE } from '../../core/module/index.js';
+import { applyPatches } from '../../core/script/index.js';
 
 /** @typedef {import('../app/state.js').App} App */
 /** @typedef {import('../app/state.js').Image} Image */

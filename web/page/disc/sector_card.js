@@ -1,9 +1,8 @@
 // The card of one sector: what is wrong with it in words, its fields, its bytes, and the byte that is chosen.
 
-import { filesAt } from '../../core/iso/files.js';
-import { SECTOR_KIND } from '../../core/module/records.js';
-import { USER_OFFSET, USER_SIZE } from '../../core/sectors/sector.js';
-import { isSound } from '../../core/sectors/survey.js';
+import { filesAt } from '../../core/iso/index.js';
+import { SECTOR_KIND, USER_SIZE } from '../../core/module/index.js';
+import { USER_OFFSET, isSound } from '../../core/sectors/index.js';
 import { sectorOfSecond } from '../second/index.js';
 import { bindEncodings, chosenEncoding, encodingLabel } from '../text/index.js';
 import * as texts from '../texts/index.js';

@@ -1,10 +1,11 @@
 // What keys, copy and paste do with the bytes of a sector.
 
+import { encodeText } from '../../core/encodings/index.js';
 import { Fault } from '../../core/faults.js';
-import { SECTOR_SIZE, USER_OFFSET } from '../../core/sectors/sector.js';
-import { charactersFrom } from '../../core/texts/boundaries.js';
-import { encodeText } from '../../core/texts/encoding.js';
-import { bytesOfHex } from '../../core/texts/hex.js';
+import { bytesOfHex } from '../../core/hex_digits.js';
+import { SECTOR_SIZE } from '../../core/module/index.js';
+import { USER_OFFSET } from '../../core/sectors/index.js';
+import { charactersFrom } from '../../core/texts/index.js';
 import { chosenEncoding, signOf } from '../text/index.js';
 import * as texts from '../texts/index.js';
 import { told } from '../texts/index.js';

@@ -1,9 +1,8 @@
 // What is wrong with a sector, in words: first the program's line, then what it means.
 
-import { RECORD, SECTOR_KIND } from '../../core/module/records.js';
-import { firstLinesOf } from '../../core/script/block_lines.js';
-import { lineText } from '../../core/script/line_list.js';
-import { SECTOR_SIZE, USER_OFFSET, USER_SIZE, addressIn, addressText } from '../../core/sectors/sector.js';
+import { RECORD, SECTOR_KIND, SECTOR_SIZE, USER_SIZE } from '../../core/module/index.js';
+import { firstLinesOf, lineText } from '../../core/script/index.js';
+import { USER_OFFSET, addressIn, addressText } from '../../core/sectors/index.js';
 import { MARK } from '../app/index.js';
 import { repairOf } from '../second/index.js';
 import * as texts from '../texts/index.js';

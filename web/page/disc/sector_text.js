@@ -1,8 +1,7 @@
 // A sector in words: what it is, and what was found in it, by the program's own text.
 
-import { RECORD, RECORD_SIZE } from '../../core/module/records.js';
-import { addressText } from '../../core/sectors/sector.js';
-import { findingOf } from '../../core/sectors/survey.js';
+import { RECORD, RECORD_SIZE } from '../../core/module/index.js';
+import { addressText, findingOf } from '../../core/sectors/index.js';
 import { MARK, lookOfKind } from '../app/index.js';
 import * as texts from '../texts/index.js';
 import { told } from '../texts/index.js';

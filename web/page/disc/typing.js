@@ -1,6 +1,6 @@
 // Bytes that are typed in the sector view become lines of the script.
 
-import { lineText } from '../../core/script/line_list.js';
+import { lineText } from '../../core/script/index.js';
 
 /** @typedef {import('../app/state.js').App} App */
 

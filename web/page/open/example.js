@@ -1,8 +1,7 @@
 // An example disc, for who has none at hand: 300 sectors with a small volume, a Japanese text, a scratch and some audio.
 
-import { SECTOR_SIZE, USER_SIZE } from '../../core/sectors/sector.js';
-import { CP932 } from '../../core/texts/cp932.js';
-import { encodeText } from '../../core/texts/encoding.js';
+import { CP932, encodeText } from '../../core/encodings/index.js';
+import { SECTOR_SIZE, USER_SIZE } from '../../core/module/index.js';
 import { exampleName } from '../texts/index.js';
 
 /** @typedef {import('../../core/module/calls.js').Calls} Calls */

@@ -6,7 +6,7 @@ import { told } from '../texts/index.js';
 import { isCancelled, shownName } from '../ui/index.js';
 
 /** @typedef {import('../../core/bytes.js').Reader} Reader */
-/** @typedef {import('../../core/jobs.js').Crew} Crew */
+/** @typedef {import('../../core/crew/crew.js').Crew} Crew */
 
 /** Bytes of a slice if reads follow one another, and how many slices are asked for while one is used. */
 const SLICE_SIZE = 1 << 24;

@@ -1,19 +1,18 @@
 // Opening files. What each file is decides what becomes of it.
 
 import { readBytes } from '../../core/bytes.js';
-import { dataTrack, discFault, openDisc } from '../../core/disc/disc.js';
-import { natureOf } from '../../core/disc/file_type.js';
+import { discFault, natureOf, openDisc } from '../../core/disc/index.js';
+import { encodingOf, textOfFile } from '../../core/encodings/index.js';
 import { FAULT, failedBy } from '../../core/faults.js';
-import { MOST_SCRIPT_BYTES, SECTOR_KIND } from '../../core/module/records.js';
-import { modelInParts } from '../../core/script/model.js';
-import { isMeantAsScript, isScript } from '../../core/script/script_start.js';
-import { MOST_SECTORS, SECTOR_SIZE, imageTooLong, sectorCount } from '../../core/sectors/sector.js';
-import { encodingOf, textOfFile } from '../../core/texts/encodings.js';
+import { MOST_SCRIPT_BYTES, MOST_SECTORS, SECTOR_KIND, SECTOR_SIZE, sectorCount } from '../../core/module/index.js';
+import { isMeantAsScript, isScript, modelInParts } from '../../core/script/index.js';
+import { imageTooLong } from '../../core/sectors/index.js';
+import { OpenedTrack, openTrack } from '../../core/tasks/index.js';
 import { isLong } from '../app/index.js';
 import * as texts from '../texts/index.js';
 import { say, told } from '../texts/index.js';
-import { button, byId, copyable, element, endMessages, fill, messageParts, nameOf, namesOf } from '../ui/index.js';
-import { nextTurn, refuseWhileSaving, showFailure, showNotice } from '../ui/index.js';
+import { button, byId, copyable, element, endMessages, fill, messageParts, nameOf, namesOf, nextTurn } from '../ui/index.js';
+import { refuseWhileSaving, showFailure, showNotice } from '../ui/index.js';
 import { mountChoosing } from './choosing.js';
 import { exampleFile } from './example.js';
 import { fileReader } from './file_reader.js';
@@ -224,11 +223,13 @@ async function openedImage(app, files) {
  * @returns {Image}
  */
 export function imageOfTrack(disc, sheet, number, renamed = new Map()) {
-    const { image, part, number: own } = (number === null && audioTrack(disc)) || dataTrack(disc, number);
+    const audio = number === null ? audioTrack(disc) : null;
+    const opened = audio === null ? openTrack(disc, { track: number }) : new OpenedTrack(disc, audio);
+    const { image, part, track } = opened;
     if (imageTooLong(image.reader.size)) {
         throw discFault(told(texts.tooManySectors, { most: MOST_SECTORS, name: image.name }));
     }
-    return { ...image, part, from: disc.sheet || '', sheet, disc, number: own, sha1: '', crc32: '', renamed };
+    return { ...image, opened, part, from: disc.sheet || '', sheet, disc, number: track.number, sha1: '', crc32: '', renamed };
 }
 
 /**
@@ -240,7 +241,7 @@ function audioTrack({ files, tracks }) {
     if (!track || tracks.some(it => it.image !== null || !['', 'AUDIO'].includes(it.type))) return null;
     const { name, reader } = files[track.file];
     const image = { name, reader, base: 0, addressed: null, sectors: sectorCount(reader.size), tail: reader.size % SECTOR_SIZE };
-    return { number: track.number, image, part: image };
+    return { ...track, image, part: image };
 }
 
 /**

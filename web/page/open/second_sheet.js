@@ -1,11 +1,11 @@
 // What is asked when a second image comes: nothing of it is read before that but what it is.
 
-import { commonPart, isSameRange } from '../../core/images/common_part.js';
+import { commonPart, isSameRange, trackBeside } from '../../core/tasks/index.js';
 import * as texts from '../texts/index.js';
 import { say } from '../texts/index.js';
 import { asked, nameOf, refuseWhileSaving } from '../ui/index.js';
 import { fileOf, isSameFile } from './file_reader.js';
-import { readImage } from './survey_image.js';
+import { countedAs, readImage } from './survey_image.js';
 
 /** @typedef {import('../app/state.js').Aim} Aim */
 /** @typedef {import('../app/state.js').App} App */
@@ -16,16 +16,17 @@ import { readImage } from './survey_image.js';
 /**
  * Asks what a second image is for, unless that was said, and does it.
  * @param {App} app
- * @param {Image} second
+ * @param {Image} given
  * @param {Aim} aim
  */
-export async function takeSecond(app, second, aim) {
+export async function takeSecond(app, given, aim) {
     const { image } = app;
     if (image === null) return;
+    const second = countedAs(given, trackBeside(image.opened, given.opened));
     const words = whyNoPair(image, second);
     const answer = aim === 'repair' && words.length === 0 ? 'repair' : await askFor(app, image, second, words);
     if (answer === '' || app.image !== image || refuseWhileSaving(app, [second.name])) return;
-    if (answer === 'instead') readImage(app, second);
+    if (answer === 'instead') readImage(app, given);
     else if (answer === 'swap') swapImages(app, second);
     else app.setSecond(second, answer);
     app.showPanel('disc');

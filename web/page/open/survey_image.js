@@ -1,14 +1,13 @@
 // Reading an image that was opened: the survey of its sectors, its files, and its hash.
 
 import { cancelled } from '../../core/faults.js';
-import { filesOf } from '../../core/iso/files.js';
-import { lostSectors, mode1Tracks, otherSectors } from '../../core/sectors/lost.js';
+import { foundInSurvey, surveyedTrack } from '../../core/tasks/index.js';
 import { Summing } from '../app/index.js';
 import { isCancelled, refuseWhileSaving, showFailure } from '../ui/index.js';
 
 /** @typedef {import('../app/state.js').App} App */
 /** @typedef {import('../app/state.js').Image} Image */
-/** @typedef {import('../app/state.js').Surveyed} Surveyed */
+/** @typedef {import('../../core/tasks/opened.js').OpenedTrack} OpenedTrack */
 /** @typedef {import('../app/hashing.js').RangeSurvey} RangeSurvey */
 
 /**
@@ -39,23 +38,14 @@ async function surveyBy(app, image, signal, read) {
     let isWhole = false;
     try {
         await read(answer => app.addToSurvey(survey, answer));
-        survey.marks.lose(await lostIn(image, survey));
+        const found = await foundInSurvey(surveyedTrack(image.opened), survey);
+        survey.marks.lose(found.lost);
+        survey.lack = found.lack;
         if (signal.aborted) throw cancelled();
         isWhole = true;
     } finally {
         app.endSurvey(survey, isWhole);
     }
-}
-
-/**
- * The blocks of an image that are lost.
- * @param {Image} image
- * @param {Surveyed} survey of the whole image
- */
-async function lostIn({ disc, number, ...image }, { filled, ...survey }) {
-    const track = disc.tracks.find(it => it.number === number);
-    const tracks = mode1Tracks(disc, track ? track.file : 0, image.base);
-    return (await lostSectors(image, otherSectors(survey, filled), tracks, [{ image, part: image.part, later: 0 }])).lost;
 }
 
 /**
@@ -97,10 +87,10 @@ async function surveyAndHash(app, image, signal) {
  * @param {Image} image
  * @param {AbortSignal} signal
  */
-async function listFiles(app, { part }, signal) {
-    const files = await filesOf(part.reader, part.base).catch(() => null);
+async function listFiles(app, { opened }, signal) {
+    const contents = await opened.contents().catch(() => null);
     if (signal.aborted) throw cancelled();
-    app.setFiles(files);
+    app.setFiles(contents && contents.volume);
 }
 
 /**
@@ -111,6 +101,15 @@ async function listFiles(app, { part }, signal) {
 export function changeBase(app, base) {
     const { image } = app;
     if (image === null) return;
-    const moved = { ...image, base, part: { ...image.part, base: image.part.base + base - image.base } };
-    readImage(app, moved);
+    const { byAddresses } = image.opened;
+    readImage(app, countedAs(image, base === byAddresses.image.base ? byAddresses : byAddresses.withBase(base)));
+}
+
+/**
+ * An image with the blocks of its track as they are counted otherwise.
+ * @param {Image} image
+ * @param {OpenedTrack} opened
+ */
+export function countedAs(image, opened) {
+    return { ...image, ...opened.image, opened, part: opened.part };
 }

@@ -1,9 +1,8 @@
 // The disc of what a player chose, in one choice or in two: a cue sheet waits for the files that it names, and the other way round.
 
 import { readBytes } from '../../core/bytes.js';
-import { openDisc } from '../../core/disc/disc.js';
-import { natureOf } from '../../core/disc/file_type.js';
-import { textOfFile } from '../../core/texts/encodings.js';
+import { natureOf, openDisc } from '../../core/disc/index.js';
+import { textOfFile } from '../../core/encodings/index.js';
 import { fileReader } from '../open/index.js';
 import * as texts from '../texts/index.js';
 import { say } from '../texts/index.js';

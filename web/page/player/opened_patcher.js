@@ -1,7 +1,7 @@
 // Patchers that are opened: this page, if data stand after its last tag, or a file that is dropped on it.
 
-import { natureOf } from '../../core/disc/file_type.js';
-import { isScript } from '../../core/script/script_start.js';
+import { natureOf } from '../../core/disc/index.js';
+import { isScript } from '../../core/script/index.js';
 import { releaseOf } from '../app/index.js';
 import { fileReader } from '../open/index.js';
 import * as texts from '../texts/index.js';

@@ -3,7 +3,7 @@
 
 import { ByteList } from '../../core/bytes.js';
 import { FAULT, Fault, failedBy } from '../../core/faults.js';
-import { MOST_SCRIPT_BYTES } from '../../core/module/records.js';
+import { MOST_SCRIPT_BYTES } from '../../core/module/index.js';
 import { Sha1, bytesOfBase64 } from '../app/index.js';
 import * as texts from '../texts/index.js';
 import { hexOf } from '../ui/index.js';

@@ -1,7 +1,7 @@
 // The head of a patcher's data: what each member has to be, and what is taken of a head that a stranger may have written.
 
-import { sheetOf } from '../../core/disc/cue.js';
-import { LAST_BASE, MOST_SECTORS, SECTOR_SIZE } from '../../core/module/numbers.js';
+import { sheetOf } from '../../core/disc/index.js';
+import { LAST_BASE, MOST_SECTORS, SECTOR_SIZE } from '../../core/module/index.js';
 import { sheetNaming } from '../save/index.js';
 import * as texts from '../texts/index.js';
 import { told } from '../texts/index.js';

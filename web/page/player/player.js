@@ -1,12 +1,12 @@
 // The page of a patcher, for players: three steps with one button each.
 
-import { isOneTrack, sheetOfOneTrack } from '../../core/disc/one_track.js';
-import { RESULT } from '../../core/module/records.js';
+import { isOneTrack, sheetOfOneTrack } from '../../core/disc/index.js';
+import { RESULT } from '../../core/module/index.js';
 import { failureOfSaving, saveWork } from '../save/index.js';
 import * as texts from '../texts/index.js';
 import { say, told } from '../texts/index.js';
-import { askBeforeLeaving, button, clearNotices, element, fill, hashParts, icon, isCancelled } from '../ui/index.js';
-import { jobBar, megabytes, nameOf, notice, refuseWhileSaving } from '../ui/index.js';
+import { askBeforeLeaving, button, clearNotices, element, fill, hashParts, icon, isCancelled, jobBar, megabytes } from '../ui/index.js';
+import { nameOf, notice, refuseWhileSaving } from '../ui/index.js';
 import { ChosenDisc } from './chosen_disc.js';
 import { playWords, sheetFor, wordsWithoutSheet } from './play_words.js';
 import { VERDICTS, reasonForPlayer, refusalForPlayer } from './reason.js';

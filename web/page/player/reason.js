@@ -1,6 +1,6 @@
 // What a player is told of his image, and why.
 
-import { RESULT } from '../../core/module/records.js';
+import { RESULT } from '../../core/module/index.js';
 import * as texts from '../texts/index.js';
 import { told } from '../texts/index.js';
 import { element } from '../ui/index.js';

@@ -1,13 +1,11 @@
 // What a player's image is to a patcher: the right disc, another dump that the patch fits or does not fit, or patched already; or one of
 // which the patch cannot say it.
 
-import { dataTrack, discFault } from '../../core/disc/disc.js';
-import { RESULT } from '../../core/module/records.js';
-import { wordsOn } from '../../core/script/line_words.js';
-import { oldBytesOf } from '../../core/script/long_script.js';
-import { passPatched } from '../../core/script/patches.js';
-import { SECTOR_SIZE } from '../../core/sectors/sector.js';
-import { surveyCounts } from '../../core/sectors/survey.js';
+import { discFault } from '../../core/disc/index.js';
+import { RESULT, SECTOR_SIZE } from '../../core/module/index.js';
+import { oldBytesOf, passPatched, wordsOn } from '../../core/script/index.js';
+import { surveyCounts } from '../../core/sectors/index.js';
+import { openTrack } from '../../core/tasks/index.js';
 import { sha1Of } from '../app/index.js';
 import { assertNotTooLong, isPatched, scriptFor, watched } from '../save/index.js';
 import * as texts from '../texts/index.js';
@@ -42,7 +40,7 @@ export function imageOfSize(disc, size) {
     const [file] = disc.files;
     if (disc.sheet === null && disc.tracks[0].image === null) throw discFault(told(texts.isMusicTrack, { name: file.name }));
     const track = disc.tracks.find(it => it.image !== null && it.image.reader.size === size);
-    return (track || dataTrack(disc)).image;
+    return (track || openTrack(disc)).image;
 }
 
 /**

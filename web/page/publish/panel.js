@@ -1,14 +1,14 @@
 // The panel Publish: a copy of this page with the script, for players.
 
+import { RESULT } from '../../core/module/index.js';
 import { OWN, sha1Of } from '../app/index.js';
-import { RESULT } from '../../core/module/records.js';
 import { isImageName, isPlainSheet, isSeen, patcherText, publishedSource, showPlayer } from '../player/index.js';
 import { download, sheetNaming } from '../save/index.js';
 import { fitWords } from '../script/index.js';
 import * as texts from '../texts/index.js';
 import { say, told } from '../texts/index.js';
-import { askBeforeLeaving, button, element, fill, hashParts, isCancelled, isDisabled, jobBar, nameOf } from '../ui/index.js';
-import { notice, said, sayAt, sentence, setDisabled, stemOf, term } from '../ui/index.js';
+import { askBeforeLeaving, button, element, fill, hashParts, isCancelled, isDisabled, jobBar, nameOf, notice, said } from '../ui/index.js';
+import { sayAt, sentence, setDisabled, stemOf, term } from '../ui/index.js';
 import { proposedName, triedOn } from './trial.js';
 
 /** @typedef {import('../app/state.js').App} App */

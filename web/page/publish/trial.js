@@ -1,8 +1,8 @@
 // What a patcher is made of: the script as it was tried on the image, and the name that the patched image gets.
 
-import { RESULT } from '../../core/module/records.js';
+import { RESULT } from '../../core/module/index.js';
 import { pieceReader } from '../../core/piece_reader.js';
-import { applyPatches } from '../../core/script/patches.js';
+import { applyPatches } from '../../core/script/index.js';
 import { readByHands } from '../open/index.js';
 import { isImageName } from '../player/index.js';
 import { patchedName, scriptFor } from '../save/index.js';

@@ -1,8 +1,8 @@
 // Saving the patched image, as its card says it: progress, what was saved, and what is left after a cancel or a failure.
 
-import { isOneTrack, sheetOfOneTrack } from '../../core/disc/one_track.js';
+import { isOneTrack, sheetOfOneTrack } from '../../core/disc/index.js';
 import { FAULT, failedBy } from '../../core/faults.js';
-import { RESULT } from '../../core/module/records.js';
+import { RESULT } from '../../core/module/index.js';
 import { sha1Of, sumsOf } from '../app/index.js';
 import { fileReader, readImage } from '../open/index.js';
 import * as texts from '../texts/index.js';

@@ -1,14 +1,12 @@
 // What is done with a script and an image: checking, and saving the patched image.
 
 import { readBytes, watchedReader } from '../../core/bytes.js';
-import { Fault, cancelled } from '../../core/faults.js';
-import { MOST_SCRIPT_BYTES, STATUS } from '../../core/module/records.js';
+import { FAULT, Fault, cancelled, failedBy } from '../../core/faults.js';
+import { MOST_SCRIPT_BYTES, MOST_SECTORS, STATUS } from '../../core/module/index.js';
 import { readerForTwo } from '../../core/read_ahead.js';
-import { baseFault } from '../../core/script/base_said.js';
-import { NEAR_HELD, NEAR_WRITTEN } from '../../core/script/patch_run.js';
-import { passPatched } from '../../core/script/patches.js';
-import { Refusal, readScript } from '../../core/script/script.js';
-import { MOST_SECTORS, imageTooLong } from '../../core/sectors/sector.js';
+import { NEAR_HELD, NEAR_WRITTEN, passPatched } from '../../core/script/index.js';
+import { imageTooLong } from '../../core/sectors/index.js';
+import { scriptFor as scriptOf } from '../../core/tasks/index.js';
 import { RunningHash } from '../app/index.js';
 import { readByHands } from '../open/index.js';
 import * as texts from '../texts/index.js';
@@ -34,23 +32,26 @@ import { workRefused } from './refused.js';
 
 /**
  * A script for an image that begins with a block. Throws a Fault with advice.
- * @param {App} app
+ * @param {Pick<App, 'calls'>} app
  * @param {string} script
  * @param {number} base
  */
 export async function scriptFor({ calls }, script, base) {
     await nextTurn();
-    const read = await readScript(calls, [new TextEncoder().encode(script)]);
+    const read = await scriptOf(calls, [new TextEncoder().encode(script)], base).catch(refuse);
     await nextTurn();
-    if (!(read instanceof Refusal)) {
-        const fault = baseFault(read.bases, base);
-        if (fault === '') return read;
-        throw workRefused(`${capital(fault)}.`, texts.setSaidBase);
-    }
-    if (read.tooLong) {
-        throw workRefused(texts.scriptTooLong, told(texts.mostScriptBytes, { most: MOST_SCRIPT_BYTES }));
-    }
-    throw workRefused(new TextDecoder().decode(read.text).trimEnd(), texts.correctLineFirst);
+    return read;
+}
+
+/**
+ * @param {unknown} error
+ * @returns {never}
+ */
+function refuse(error) {
+    if (failedBy(error, FAULT.OTHER_BASE)) throw workRefused(`${capital(error.message)}.`, texts.setSaidBase);
+    if (!failedBy(error, FAULT.SCRIPT)) throw error;
+    if (!error.facts.tooLong) throw workRefused(error.message, texts.correctLineFirst);
+    throw workRefused(texts.scriptTooLong, told(texts.mostScriptBytes, { most: MOST_SCRIPT_BYTES }));
 }
 
 /** @param {Reader} reader of an image */

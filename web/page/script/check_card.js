@@ -1,11 +1,11 @@
 // The card beside the editor: Check, what came of it, carry, and Apply and save.
 
-import { RESULT } from '../../core/module/records.js';
+import { RESULT } from '../../core/module/index.js';
 import { SaveCard, adviceOf, checkWork, isPatched } from '../save/index.js';
 import * as texts from '../texts/index.js';
 import { say, told } from '../texts/index.js';
-import { announce, button, element, fill, isCancelled, jobBar, messageOf, nameOf, nextTurn } from '../ui/index.js';
-import { notice, setDisabled, term } from '../ui/index.js';
+import { announce, button, element, fill, isCancelled, jobBar, messageOf, nameOf, nextTurn, notice, setDisabled } from '../ui/index.js';
+import { term } from '../ui/index.js';
 import { fitOf, fitWords, isShownToFit, namingOld } from './fit_words.js';
 
 /** @typedef {import('../app/state.js').App} App */

@@ -1,7 +1,7 @@
 // The script as one sees it: lines with numbers, marks and what is said of them. Only the visible ones are drawn, and the line with the
 // caret is the only one that can be typed in.
 
-import { VERB } from '../../core/module/records.js';
+import { VERB } from '../../core/module/index.js';
 import * as texts from '../texts/index.js';
 import { told } from '../texts/index.js';
 import { element } from '../ui/index.js';

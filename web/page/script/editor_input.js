@@ -1,6 +1,6 @@
 // Typing in the script: keys, the pointer, and the clipboard. What goes over one line is done here; within a line the browser does it.
 
-import { linesOfText } from '../../core/script/line_words.js';
+import { linesOfText } from '../../core/script/index.js';
 import { ROW_HEIGHT } from './editor.js';
 
 /** @typedef {import('./editor.js').ScriptEditor} ScriptEditor */

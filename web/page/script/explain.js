@@ -1,8 +1,8 @@
 // The strip under the editor: the line with the caret in plain words, with its old and new bytes as text.
 
-import { filesAt } from '../../core/iso/files.js';
-import { CONTENT, isFault } from '../../core/module/records.js';
-import { wordsOf } from '../../core/script/line_words.js';
+import { filesAt } from '../../core/iso/index.js';
+import { CONTENT, isFault } from '../../core/module/index.js';
+import { wordsOf } from '../../core/script/index.js';
 import { chosenEncoding } from '../text/index.js';
 import * as texts from '../texts/index.js';
 import { say, told } from '../texts/index.js';

@@ -1,7 +1,7 @@
 // How a script fits an image, in words.
 
-import { RESULT } from '../../core/module/records.js';
-import { patchesOf } from '../../core/script/long_script.js';
+import { RESULT } from '../../core/module/index.js';
+import { patchesOf } from '../../core/script/index.js';
 import { reasonsOf } from '../player/index.js';
 import * as texts from '../texts/index.js';
 import { say, told } from '../texts/index.js';

@@ -1,12 +1,12 @@
 // The parts of a line of the script in the editor: its words in colours, and what its patch sets as texts.
 
-import { CONTENT, VERB, isFault } from '../../core/module/records.js';
-import { faultyWord, lineParts, partOfWord } from '../../core/script/line_words.js';
+import { CONTENT, VERB, isFault } from '../../core/module/index.js';
+import { faultyWord, lineParts, partOfWord } from '../../core/script/index.js';
 import { element, shownText } from '../ui/index.js';
 
 /** @typedef {import('../app/script_lines.js').ScriptLines} ScriptLines */
 /** @typedef {import('../../core/script/model.js').ScriptLine} ScriptLine */
-/** @typedef {import('../../core/texts/encoding.js').Encoding} Encoding */
+/** @typedef {import('../../core/encodings/encoding.js').Encoding} Encoding */
 /** @typedef {import('../ui/fill.js').Child} Child */
 
 /** Most characters of a line that are drawn, and most bytes of a patch that are shown as a text beside its line. */

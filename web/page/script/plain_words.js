@@ -1,13 +1,13 @@
 // What a line of a script means, and what to do about a fault or a refusal, in plain words. [block] and [offset] stand for noted words.
 
-import { CONTENT, MOST_PATCHES, PATCH_SIZE, RESULT, VERB } from '../../core/module/records.js';
-import { contentOf, faultyWord, lacksDigit, wordsOf } from '../../core/script/line_words.js';
-import { lastBlockOf } from '../../core/script/model.js';
-import { USER_SIZE, addressText } from '../../core/sectors/sector.js';
+import { CONTENT, MOST_PATCHES, PATCH_SIZE, RESULT, USER_SIZE, VERB } from '../../core/module/index.js';
+import { NEWEST_VERSION, VERSIONS, contentOf, faultyWord, headLine, lacksDigit, lastBlockOf, wordsOf } from '../../core/script/index.js';
+import { addressText } from '../../core/sectors/index.js';
 import * as texts from '../texts/index.js';
 import { told } from '../texts/index.js';
 
 /** @typedef {ReturnType<import('../../core/module/calls.js').Calls['patchRead']>} PatchFields */
+/** @typedef {import('../../core/script/language.js').Verb} Verb */
 /** @typedef {import('../app/script_lines.js').ScriptLines} ScriptLines */
 /** @typedef {import('../../core/script/model.js').ScriptLine} ScriptLine */
 /** A faulty line: its words, and the version of its script. */
@@ -15,14 +15,15 @@ import { told } from '../texts/index.js';
 /** A sentence, and perhaps what a button would put in place of the line, or of the head line, with what the button says. */
 /** @typedef {{ text: string, fix: { says: string, lines: string[], head?: true } | null }} Help */
 
-/** @type {Record<string, string>} */
+/** @type {Record<Verb, string>} */
 const VERB_FORMS = {
     set: texts.formsOfSet,
     fill: texts.formOfFill,
     rebuild: texts.formOfRebuild,
     address: texts.formOfAddress,
-    cdpatch: texts.formsOfHead,
 };
+/** @type {Record<string, string>} by the first word of a line */
+const FORMS = { ...VERB_FORMS, cdpatch: texts.formsOfHead };
 
 /**
  * What a patch does. `where` is the file it writes in, or ''.
@@ -73,7 +74,7 @@ const FAULT_HELP = {
     [CONTENT.NO_HEAD]: helpOfHead,
     [CONTENT.UNKNOWN_VERB]: helpOfVerb,
     [CONTENT.WORD_COUNT]: ({ words: [verb] }) =>
-        helped(told(texts.lineHasForm, { form: VERB_FORMS[verb] || Object.values(VERB_FORMS).slice(0, 4).join('; ') })),
+        helped(told(texts.lineHasForm, { form: FORMS[verb] || Object.values(VERB_FORMS).join('; ') })),
     [CONTENT.BAD_NUMBER]: () => helped(texts.numbersAreDecimal),
     [CONTENT.BAD_HEX]: helpOfHex,
     [CONTENT.BAD_LENGTH]: helpOfLength,
@@ -84,8 +85,8 @@ const FAULT_HELP = {
 
 /** @param {Faulty} faulty */
 function helpOfHead({ words: [first, version], line }) {
-    if (first.toLowerCase() !== 'cdpatch') return helped(texts.beginsWithHead, texts.addIt, 'cdpatch 1', line);
-    const head = version === '1' ? 'cdpatch 1' : 'cdpatch 2';
+    if (first.toLowerCase() !== 'cdpatch') return helped(texts.beginsWithHead, texts.addIt, headLine(), line);
+    const head = headLine(VERSIONS.some(({ name }) => name === version) ? version : NEWEST_VERSION.name);
     return helped(texts.headHasNothingElse, told(texts.makeIt, { head }), head);
 }
 
@@ -94,9 +95,9 @@ function helpOfHead({ words: [first, version], line }) {
  * @returns {Help}
  */
 function helpOfVerb({ words: [verb, ...rest], line, calls }) {
-    const isKnown = (/** @type {string} */ text) => contentOf(calls, CONTENT.VERSION_2, text) !== CONTENT.UNKNOWN_VERB;
+    const isKnown = (/** @type {string} */ text) => contentOf(calls, NEWEST_VERSION.content, text) !== CONTENT.UNKNOWN_VERB;
     if (isKnown(line)) {
-        const head = 'cdpatch 2';
+        const head = headLine(NEWEST_VERSION.name);
         const fix = { says: told(texts.makeIt, { head }), lines: [head], head: /** @type {const} */ (true) };
         return { text: told(texts.verbNeedsHead, { verb, head }), fix };
     }

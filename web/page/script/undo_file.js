@@ -1,17 +1,18 @@
 // The script that takes the open one back, as a file.
 
-import { Fault, cancelled } from '../../core/faults.js';
-import { Refusal } from '../../core/script/script.js';
-import { undoScript } from '../../core/script/undo.js';
-import { blocksText } from '../../core/sectors/runs.js';
-import { downloadBytes, watched } from '../save/index.js';
+import { baseFault } from '../../core/script/index.js';
+import { blocksText } from '../../core/sectors/index.js';
+import { undoScript } from '../../core/tasks/index.js';
+import { downloadBytes } from '../save/index.js';
 import * as texts from '../texts/index.js';
 import { say, told } from '../texts/index.js';
-import { element, fill, isCancelled, isDisabled, jobBar, nameOf, notice, runAt, sayAt, sentence } from '../ui/index.js';
+import { capital, element, fill, isCancelled, isDisabled, jobBar, nameOf, notice, runAt, sayAt, sentence } from '../ui/index.js';
 
 /** @typedef {import('../app/state.js').App} App */
 /** @typedef {import('../app/state.js').Image} Image */
 /** @typedef {import('../app/script_lines.js').ScriptLines} ScriptLines */
+/** @typedef {import('../../core/tasks/undo.js').Undo} Undo */
+/** @typedef {import('../../core/tasks/undo.js').NoUndo} NoUndo */
 /** @typedef {{ bar: HTMLElement, said: HTMLElement }} UndoPlaces where the bar stands, and what became of it */
 
 /**
@@ -38,26 +39,43 @@ export async function makeUndo(app, from, places, lines, carry) {
 async function makeUndoAt(app, image, { bar: place, said }, lines, carry) {
     const name = told(texts.undoFile, { script: (app.script.name || texts.scriptFile).replace(/\.[^.]*$/, '') });
     try {
-        const made = await app.run(async (signal, cancel) => {
+        const made = await app.run((signal, cancel) => {
             const bar = jobBar(texts.makingUndo, cancel);
             fill(place, element('h3', {}, ...say(texts.makingFile, { name: nameOf(name) })), ...bar.parts);
             const script = [new TextEncoder().encode(lines.text())];
-            const how = { base: image.base, carry, crew: app.crew };
-            const undo = await undoScript(app.calls, watched(image.reader, { signal, progress: bar.at }), script, how);
-            if (signal.aborted) throw cancelled();
-            return undo;
+            return undoScript(app, image.opened, script, { carry }, { signal, progress: bar.sectors });
         });
-        if (made instanceof Refusal) throw new Fault(texts.scriptHasFault);
-        downloadBytes(made.script.pieces, name);
-        const { left, script: { long } } = made;
-        const words = [left.length > 0 ? told(texts.undoButForDamage, { blocks: blocksText(left, 8) }) : texts.undoGetsOriginalBack,
-            carry && texts.undoWithCarry, long && texts.undoIsLong];
-        sayAt(said, notice(left.length > 0 || long ? 'warn' : 'good', say(texts.fileSaved, { name: nameOf(name) }),
-            words.filter(it => it).join(' ')));
+        if (made.script !== null) downloadBytes(made.script.pieces, name);
+        sayAt(said, made.script === null ? noUndoWords(made, image.base) : savedWords(made, name, carry));
     } catch (error) {
         sayAt(said, isCancelled(error) ? notice('plain', texts.jobCancelled, texts.noUndoMade)
             : notice('bad', sentence(error), texts.noUndoMade));
     } finally {
         fill(place);
     }
+}
+
+/**
+ * @param {Undo} made
+ * @param {string} name
+ * @param {boolean} carry
+ */
+function savedWords({ left, refused, script: { long } }, name, carry) {
+    const words = [refused > 0 && told(texts.undoButForRefused, { n: refused }),
+        left.length > 0 ? told(texts.undoButForDamage, { blocks: blocksText(left, 8) }) : texts.undoGetsOriginalBack,
+        carry && texts.undoWithCarry, long && texts.undoIsLong];
+    return notice(left.length > 0 || refused > 0 || long ? 'warn' : 'good', say(texts.fileSaved, { name: nameOf(name) }),
+        words.filter(it => it).join(' '));
+}
+
+/**
+ * Why there is no such script.
+ * @param {NoUndo} made
+ * @param {number} base of the image
+ */
+function noUndoWords(made, base) {
+    if (made.why === 'error') return notice('bad', texts.scriptHasFault, texts.noUndoMade);
+    if (made.why === 'base') return notice('bad', `${capital(baseFault(made.bases, base))}.`, texts.noUndoMade);
+    const why = made.why === 'refused' ? told(texts.allRefusedByImage, { n: made.refused }) : texts.imageHasItAlready;
+    return notice('bad', why, texts.openImageBefore);
 }

@@ -1,7 +1,7 @@
 // The card of a second image: repair from it, or compare with it.
 
-import { isSameRange } from '../../core/images/common_part.js';
-import { readImage } from '../open/index.js';
+import { isSameRange } from '../../core/tasks/index.js';
+import { countedAs, readImage } from '../open/index.js';
 import * as texts from '../texts/index.js';
 import { say } from '../texts/index.js';
 import { button, byId, element, fill, focusAgain, isCancelled, keyed, nameOf, notice, oneStop, refuseWhileSaving } from '../ui/index.js';
@@ -50,7 +50,7 @@ export class SecondCard {
     openInstead() {
         const { second } = this.app;
         if (second === null || refuseWhileSaving(this.app, [], this.said)) return;
-        readImage(this.app, second);
+        readImage(this.app, countedAs(second, second.opened.byAddresses));
         focusAgain(byId('map'));
     }
 

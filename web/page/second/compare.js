@@ -1,6 +1,6 @@
 // Compare with a second image: where both differ, and the script from one to the other.
 
-import { FIELD_COUNT, SECOND_STATE, tailsDiffer } from '../../core/images/compare.js';
+import { FIELD_COUNT, SECOND_STATE, findDifferences } from '../../core/tasks/index.js';
 import { downloadText, patchedName } from '../save/index.js';
 import * as texts from '../texts/index.js';
 import { told } from '../texts/index.js';
@@ -11,12 +11,11 @@ import { writeScript } from './script.js';
 import { fileSayer } from './where.js';
 
 /** @typedef {import('../app/state.js').App} App */
-/** @typedef {import('../../core/images/compare.js').Differing} Differing */
+/** @typedef {import('../../core/tasks/compare.js').Differing} Differing */
 /** @typedef {import('./marks.js').PairMarks} PairMarks */
 /** @typedef {{ block: number, fields: number[], state: number }} FieldRow */
 
-/** What was found: which sectors differ, how many of them only in their codes, and whether the bytes after the last sector differ. */
-/** @typedef {{ differing: Differing[], onlyCodes: number, tail: boolean }} Found */
+/** @typedef {import('../../core/tasks/compare.js').Differences & { differing: Differing[] }} Found */
 
 const MOST_ROWS = 400;
 
@@ -37,19 +36,18 @@ export class SecondCompare extends PairJob {
     }
 
     async begin() {
-        const { crew, image, second, survey } = this.app;
+        const { app, app: { image, second, survey } } = this;
         if (this.begun || image === null || second === null || survey === null) return;
         const marks = compareMarks(survey.marks);
-        /** @type {Found} */
-        const found = { differing: [], onlyCodes: 0, tail: false };
-        await this.once(async watch => {
-            const how = { base: image.base, ...watch };
-            await crew.share('differ', [image.reader, second.reader], {}, how, answer => addFound(marks, found, answer));
-            found.tail = await tailsDiffer(image.reader, second.reader);
-        }, async () => {
+        /** @type {Differing[]} */
+        const differing = [];
+        await this.once(watch => findDifferences(app, image.opened, second.reader, answer => {
+            addDiffering(marks, answer);
+            differing.push(answer);
+        }, watch), async found => {
             this.marks = marks;
-            this.found = found;
-            this.draw(marks, found);
+            this.found = { ...found, differing };
+            this.draw(marks, this.found);
             this.changed();
         });
     }
@@ -58,9 +56,8 @@ export class SecondCompare extends PairJob {
      * @param {PairMarks} marks
      * @param {Found} found
      */
-    draw(marks, { onlyCodes, tail }) {
-        const [differ, damaged, others] = [0, 1, 2].map(which => marks.count(which));
-        const all = differ + damaged + others;
+    draw(marks, { sectors: all, onlyCodes, tail }) {
+        const damaged = marks.count(1);
         const tally = tallyOf([[all, all === 1 ? texts.sectorDiffers : texts.sectorsDiffer, ''],
             [onlyCodes, texts.differInCodesOnly, ''], [damaged, texts.damagedInSecond, damaged > 0 ? 'bad-ink' : '']]);
         const write = element('div', { class: 'row' }, button('main', () => this.write('save'), texts.saveTheScript),
@@ -83,7 +80,7 @@ export class SecondCompare extends PairJob {
     /** Lists what differs, again as soon as the files are known. */
     drawTable() {
         const { found, app: { files, second } } = this;
-        if (found === null || second === null || found.differing.length === 0) return;
+        if (found === null || second === null || found.sectors === 0) return;
         const names = [texts.columnHeader, texts.columnUserData, 'EDC', texts.columnParity];
         const head = element('tr', {}, element('th', { class: 'n' }, term('block', texts.columnBlock)), ...names.map(name =>
             element('th', { class: 'n' }, name === 'EDC' ? term('edc', name) : name)), element('th', {}, texts.columnFile));
@@ -95,7 +92,7 @@ export class SecondCompare extends PairJob {
                 state === SECOND_STATE.DAMAGED && element('span', { class: 'tag bad' }, texts.damagedInSecond)),
             ...fields.map((count, i) => element('td', { class: 'n', 'data-l': names[i] }, count)),
             element('td', { class: 'mono small wide' }, fileOf(block))));
-        const left = found.differing.reduce((count, { blocks }) => count + blocks.length, -rows.length);
+        const left = found.sectors - rows.length;
         const foot = left > 0 ? told(texts.moreBlocksWithoutRow, { n: left }) : texts.userDataWithoutEdc;
         const save = button('slim bare', () => {
             downloadText(listOf(rowsOf(found.differing), fileSayer(files)), patchedName(second.name, 'differences', '.txt'));
@@ -126,16 +123,4 @@ function* rowsOf(differing, most = Infinity) {
             yield { block: blocks[i], fields: [sync + header, user, edc, zeros + parity], state: states[i] };
         }
     }
-}
-
-/**
- * @param {PairMarks} marks
- * @param {Found} found
- * @param {Differing} answer
- */
-function addFound(marks, found, answer) {
-    if (answer.blocks.length === 0) return;
-    addDiffering(marks, answer);
-    found.differing.push(answer);
-    for (const { fields } of rowsOf([answer])) found.onlyCodes += Number(fields[0] + fields[1] === 0);
 }

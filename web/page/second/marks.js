@@ -1,12 +1,12 @@
 // What the map shows of two images: what a repair would take, or where they differ.
 
-import { SECOND_STATE } from '../../core/images/compare.js';
+import { SECOND_STATE } from '../../core/tasks/index.js';
 import { MARK, SURVEY_LOOKS } from '../app/index.js';
 import * as texts from '../texts/index.js';
 
 /** @typedef {import('../app/marks.js').Look} Look */
 /** @typedef {import('../../core/sectors/runs.js').Run} Run */
-/** @typedef {import('../../core/images/compare.js').Differing} Differing */
+/** @typedef {import('../../core/tasks/compare.js').Differing} Differing */
 
 /** @typedef {import('../app/marks.js').SurveyMarks} SurveyMarks */
 
@@ -68,9 +68,16 @@ export class PairMarks {
     }
 }
 
-/** @param {SurveyMarks} survey */
-export function repairMarks(survey) {
-    return new PairMarks(survey, looksOf(texts.nothingToDo, [texts.canBeRepaired, texts.cannotBeRepaired]));
+/**
+ * @param {SurveyMarks} survey
+ * @param {Run[]} taken
+ * @param {Run[]} unrepaired
+ */
+export function repairMarks(survey, taken, unrepaired) {
+    const marks = new PairMarks(survey, looksOf(texts.nothingToDo, [texts.canBeRepaired, texts.cannotBeRepaired]));
+    marks.setRuns(taken, 0);
+    marks.setRuns(unrepaired, 1);
+    return marks;
 }
 
 /** @param {SurveyMarks} survey */

@@ -1,48 +1,65 @@
-// What is said of a repair that is refused, and of sectors that are not repaired.
+// What is said of a repair: what it takes and what it leaves, or why it is refused.
 
+import { blocksIn, blocksText } from '../../core/sectors/index.js';
 import * as texts from '../texts/index.js';
 import { say, told } from '../texts/index.js';
-import { nameOf, notice } from '../ui/index.js';
+import { element, nameOf, notice, tallyOf } from '../ui/index.js';
 
 /** @typedef {import('../app/state.js').Image} Image */
-/** @typedef {import('../../core/images/common_part.js').shiftOf} ShiftOf */
-/** @typedef {Awaited<ReturnType<ShiftOf>>} Shift */
-/** @typedef {import('../../core/images/merge.js').Repair} Repair */
-/**
- * A sector that is not repaired, with what was found in both images; `same` says whether both hold the same bytes, null if the second
- * image does not have the block.
- * @typedef {{ block: number, here: string, there: string, file: string, same: boolean | null }} DamageRow
- */
+/** @typedef {import('../../core/sectors/runs.js').Run} Run */
+/** @typedef {import('../../core/tasks/common_part.js').Shift} Shift */
+/** @typedef {import('../../core/tasks/repair.js').Refusal} Refusal */
+/** @typedef {import('../../core/tasks/repair.js').Repair} Repair */
+/** @typedef {import('../ui/fill.js').Child} Child */
+
+const MOST_RUNS_NAMED = 8;
 
 /**
- * @param {Repair} repair that is refused
- * @param {Shift} shift
- * @param {Image | null} second
+ * @param {Repair} repair
+ * @param {Refusal} refused
+ * @param {Image} image
  */
-export function refusedWords({ different: [different], same: [n], parts: [{ from, to }] }, shift, second) {
-    if (shift !== null) {
-        const by = Math.abs(shift.by);
-        const why = told(shift.by > 0 ? texts.missingBefore : texts.tooManyBefore, { n: by });
-        const image = shift.image === second ? [texts.secondImageItself] : nameOf(shift.image.name);
-        const parts = { image, sectors: told(texts.countOfSectors, { n: by }), block: String(shift.first) };
-        return notice('bad', say(texts.imageShifted, parts), told(texts.addressesSaySo, { why }));
-    }
-    const same = told(2 * n > to - from ? texts.mostAreSame : texts.someAreSame, { n, all: to - from });
+export function refusedWords({ different: [different], same: [n], ranges: [{ common }] }, refused, { name }) {
+    if (refused.why === 'apart') return notice('bad', say(texts.isAnotherPart, { name: nameOf(name) }));
+    if (refused.shift !== null) return shiftedWords(refused.shift, name);
+    const all = blocksIn(common);
+    const same = told(2 * n > all ? texts.mostAreSame : texts.someAreSame, { n, all });
     return notice('bad', texts.notTheSameDisc, `${same} `,
         told(texts.tooManyDiffer, { sectors: told(texts.soundAndDiffer, { n: different }) }));
 }
 
 /**
- * What is said under the rows of sectors that are not repaired. Of a block that the second image does not have it says nothing.
- * @param {DamageRow[]} rows
- * @param {number} left how many blocks have no row
+ * @param {Shift} shift
+ * @param {string} name of the open image
  */
-export function footOf(rows, left) {
-    const more = left > 0 ? `${told(texts.moreHaveNoRow, { n: left })} ` : '';
-    const same = rows.filter(row => row.same).map(row => row.block);
-    const several = same.length < 4 ? told(same.length === 1 ? texts.theBlock : texts.theBlocks, { blocks: same.join(', ') })
-        : told(texts.someOfBlocks, { n: same.length });
-    if (same.length > 0) return `${more}${told(texts.sameBytesIn, { blocks: several })} ${texts.thirdDump}`;
-    const isPart = rows.some(row => row.same === null);
-    return more + (isPart ? texts.noSoundCopyThere : texts.differInEach);
+function shiftedWords({ by, first, isOther }, name) {
+    const n = Math.abs(by);
+    const why = told(by > 0 ? texts.missingBefore : texts.tooManyBefore, { n });
+    const image = isOther ? [texts.secondImageItself] : nameOf(name);
+    const parts = { image, sectors: told(texts.countOfSectors, { n }), block: String(first) };
+    return notice('bad', say(texts.imageShifted, parts), told(texts.addressesSaySo, { why }));
+}
+
+/**
+ * What was found, in words.
+ * @param {Repair} repair
+ * @param {Run[]} unrepaired
+ * @param {Child} otherWay what leads to the repair of the second image
+ * @returns {Child[]}
+ */
+export function foundWords(repair, unrepaired, otherWay) {
+    const { doubtful, unlike, different: [different], tails: [tail], ranges: [{ missing }] } = repair;
+    const [taken, damaged] = [repair.taken, unrepaired].map(blocksIn);
+    const tally = tallyOf([[taken, texts.canBeRepaired, taken > 0 ? 'good-ink' : ''],
+        [damaged, texts.cannotBeRepaired, damaged > 0 ? 'bad-ink' : ''], [different, texts.intactButDifferent, '']]);
+    return [tally,
+        missing.length > 0 && notice('plain', told(texts.dumpLacksBlocks, { blocks: blocksText(missing) }), texts.theseStay),
+        taken === 0 && notice('plain', texts.repairsNothing, damaged === 0 ? texts.noneDamagedHere : texts.noneSoundThere,
+            element('div', { class: 'row' }, otherWay)),
+        doubtful.length > 0 && notice('warn', told(texts.otherDataHere, { n: blocksIn(doubtful) }),
+            told(texts.lookAtThemFirst, { blocks: blocksText(doubtful, MOST_RUNS_NAMED) })),
+        different > 0 && notice('warn', told(texts.soundInBoth, { n: different }), texts.perhapsAnotherRelease),
+        unlike.length > 0 && notice('warn', told(texts.notTestedDiffer, { n: blocksIn(unlike) }), texts.notTestedStay),
+        tail && notice('warn', texts.tailsDiffer, texts.theyStay),
+        element('p', { class: 'small quiet' }, texts.whatRepairDoes)];
 }

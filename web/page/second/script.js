@@ -1,8 +1,8 @@
 // The script that leads from the open image to another one: it was applied by the proved calls before it is shown.
 
-import { compareImages } from '../../core/images/compare.js';
-import { leftText } from '../../core/script/sector_lines.js';
-import { blocksIn, blocksText } from '../../core/sectors/runs.js';
+import { leftText } from '../../core/script/index.js';
+import { blocksIn, blocksText } from '../../core/sectors/index.js';
+import { compareTrack } from '../../core/tasks/index.js';
 import { download } from '../save/index.js';
 import * as texts from '../texts/index.js';
 import { say, told } from '../texts/index.js';
@@ -11,7 +11,7 @@ import { button, element, fill, isCancelled, jobBar, nameOf, notice, runAt, sent
 /** @typedef {import('../app/state.js').App} App */
 /** @typedef {import('../app/state.js').Image} Image */
 /** @typedef {import('../../core/bytes.js').Reader} Reader */
-/** @typedef {import('../../core/images/compare.js').Comparison} Comparison */
+/** @typedef {import('../../core/tasks/compare.js').Comparison} Comparison */
 /** @typedef {import('../../core/script/script_writer.js').Script} Script */
 /** @typedef {Comparison['left'][number]} Left */
 /** @typedef {import('../ui/fill.js').Child} Child */
@@ -58,8 +58,7 @@ async function writeScriptAt(app, place, wanted, then, skipDamaged) {
         const compared = await app.runPair((signal, cancel) => {
             const bar = jobBar(texts.writingScript, cancel);
             show(...bar.parts);
-            const how = { base: image.base, signal, progress: bar.sectors, skipDamaged };
-            return compareImages(app.calls, app.crew, image.reader, fresh, how);
+            return compareTrack(app, image.opened, fresh, { skipDamaged }, { signal, progress: bar.sectors });
         });
         const again = () => void writeScript(app, place, wanted, then, true);
         if (compared.script === null) return show(refusedScript(compared, again));

@@ -1,8 +1,8 @@
 // One sector of the second image, and what a repair does with it.
 
 import { readBytes } from '../../core/bytes.js';
-import { commonPart } from '../../core/images/common_part.js';
-import { SECTOR_SIZE } from '../../core/sectors/sector.js';
+import { SECTOR_SIZE } from '../../core/module/index.js';
+import { commonPart } from '../../core/tasks/index.js';
 
 /** @typedef {import('../app/state.js').App} App */
 /** @typedef {import('../../core/sectors/runs.js').Run} Run */

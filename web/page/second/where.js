@@ -1,7 +1,7 @@
 // In which file of the open image a block lies, as the tables of two images say it.
 
-import { filesAt } from '../../core/iso/files.js';
-import { USER_SIZE } from '../../core/sectors/sector.js';
+import { filesAt } from '../../core/iso/index.js';
+import { USER_SIZE } from '../../core/module/index.js';
 import * as texts from '../texts/index.js';
 import { shownName } from '../ui/index.js';
 

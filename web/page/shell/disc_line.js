@@ -1,13 +1,13 @@
 // The line with the open image, which stands over every panel; and on the Disc panel the verdict, or how far reading has come.
 
-import { LAST_BASE, SECTOR_SIZE } from '../../core/sectors/sector.js';
+import { LAST_BASE, SECTOR_SIZE } from '../../core/module/index.js';
 import { MARK, lookOf } from '../app/index.js';
 import { dumpWords, isAllOver, modeOneSectors, otherBase, placesOf } from '../disc/index.js';
 import { changeBase, imageOfTrack, readImage } from '../open/index.js';
 import * as texts from '../texts/index.js';
 import { counted, say, told } from '../texts/index.js';
-import { button, byId, capital, copyButton, element, fill, jobEnd, keyed, megabytesDone, nameOf } from '../ui/index.js';
-import { seen, shownName, term, timeLeft } from '../ui/index.js';
+import { button, byId, capital, copyButton, element, fill, jobEnd, keyed, megabytesDone, nameOf, seen, shownName } from '../ui/index.js';
+import { term, timeLeft } from '../ui/index.js';
 import { closeImage } from './close_image.js';
 import { tracksInWords } from './tracks.js';
 
@@ -192,7 +192,22 @@ function leadOf(app) {
         return [element('b', { class: 'warn-ink' }, told(texts.stoppedAt, { percent })),
             button('slim', () => readImage(app, { ...image }), texts.readAgain)];
     }
-    return survey.over ? verdict(app, image, survey) : progressOf(app, image, survey);
+    if (!survey.over) return progressOf(app, image, survey);
+    const [words, ...buttons] = verdict(app, image, survey);
+    return [words, lackWords(survey), ...buttons];
+}
+
+/**
+ * What is said if the volume goes on after the end of the image.
+ * @param {Surveyed} survey
+ */
+function lackWords({ lack }) {
+    if (lack === null) return false;
+    const { missing, file, isSure } = lack;
+    const [first, last] = [String(missing.first), String(missing.last)];
+    const looks = { class: isSure ? 'bad-ink' : 'warn-ink' };
+    if (file !== '') return element('span', looks, ...say(texts.fileGoesOn, { first, last, file: nameOf(file) }));
+    return element('span', looks, isSure ? told(texts.volumeGoesOn, { first, last }) : told(texts.volumeMayGoOn, { last }));
 }
 
 /**
@@ -227,7 +242,7 @@ function verdict(app, image, { marks }) {
     if (mode1 === 0) {
         return [element('span', {}, element('b', { class: 'warn-ink' }, texts.noModeOne), ` ${texts.canBeLookedAt}`)];
     }
-    const base = otherBase(image, marks);
+    const base = otherBase({ base: image.base, addressed: image.opened.byAddresses.image.addressed }, marks);
     if (base !== null) return otherBaseVerdict(app, image, base, damaged);
     const others = [];
     if (lost > 0) others.push(told(texts.lostSync, { n: lost }));

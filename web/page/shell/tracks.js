@@ -1,6 +1,6 @@
 // The tracks of a disc in words, those of audio too.
 
-import { sheetOf } from '../../core/disc/cue.js';
+import { sheetOf } from '../../core/disc/index.js';
 import * as texts from '../texts/index.js';
 import { say, told } from '../texts/index.js';
 import { namesOf } from '../ui/index.js';

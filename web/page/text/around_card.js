@@ -1,16 +1,15 @@
 // The bytes round a hit, in hex and as text.
 
-import { USER_SIZE } from '../../core/sectors/sector.js';
-import { bytesInside, charactersFrom } from '../../core/texts/boundaries.js';
-import { bytesAround } from '../../core/texts/context.js';
+import { USER_SIZE } from '../../core/module/index.js';
+import { bytesAround, bytesInside, charactersFrom } from '../../core/texts/index.js';
 import * as texts from '../texts/index.js';
 import { told } from '../texts/index.js';
 import { button, element, fill, hexOf } from '../ui/index.js';
 import { chosenEncoding, columnLabel, encodingLabel, signOf } from './encodings.js';
 
 /** @typedef {import('../app/state.js').App} App */
-/** @typedef {import('../app/state.js').Image} Image */
-/** @typedef {import('../../core/texts/encoding.js').Encoding} Encoding */
+/** @typedef {import('../../core/tasks/opened.js').OpenedTrack} OpenedTrack */
+/** @typedef {import('../../core/encodings/encoding.js').Encoding} Encoding */
 /** @typedef {import('../../core/texts/find.js').Hit} Hit */
 /** User data from the first byte of a block on; the hit begins at a place of it. */
 /** @typedef {{ bytes: Uint8Array, at: number }} Around */
@@ -25,11 +24,12 @@ const BYTES_AFTER = 160;
 
 /**
  * What the card shows of a hit.
- * @param {Image} image
+ * @param {OpenedTrack} opened
  * @param {Hit} hit
  * @returns {Promise<Around>}
  */
-export function readAround(image, hit) {
+export async function readAround(opened, hit) {
+    const { image } = await opened.contents();
     return bytesAround(image, hit, hit.offset + (hit.offset < BYTES_BEFORE ? USER_SIZE : 0), hit.size + BYTES_AFTER);
 }
 

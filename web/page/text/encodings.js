@@ -1,13 +1,12 @@
 // The encodings that can be chosen.
 
-import { ENCODINGS, USUAL_ENCODING, encodingOf, tableTextOf } from '../../core/texts/encodings.js';
-import { leftOutText, tableEncoding } from '../../core/texts/table.js';
+import { ENCODINGS, USUAL_ENCODING, encodingOf, leftOutText, tableEncoding, tableTextOf } from '../../core/encodings/index.js';
 import * as texts from '../texts/index.js';
 import { say } from '../texts/index.js';
 import { capital, element, fill, messageOf, nameOf, notice, showNotice, shownName } from '../ui/index.js';
 
 /** @typedef {import('../app/state.js').App} App */
-/** @typedef {import('../../core/texts/encoding.js').Encoding} Encoding */
+/** @typedef {import('../../core/encodings/encoding.js').Encoding} Encoding */
 /** @typedef {import('../ui/fill.js').Child} Child */
 
 /** @type {WeakMap<Encoding, string>} the texts of tables */

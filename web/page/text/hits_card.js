@@ -1,21 +1,22 @@
 // The table of hits, with the file and what stands round each.
 
-import { USER_SIZE } from '../../core/module/numbers.js';
-import { shownCell } from '../../core/texts/codes.js';
-import { contextOf, contextsOf, filesWith } from '../../core/texts/context.js';
+import { USER_SIZE } from '../../core/module/index.js';
+import { contextOf, contextsOf, filesWith, shownCell } from '../../core/texts/index.js';
 import * as texts from '../texts/index.js';
 import { told } from '../texts/index.js';
 import { button, copyButton, element, fill, keyed, oneStop, seen, shownPaths, term } from '../ui/index.js';
 import { chosenEncoding, signOf } from './encodings.js';
 
 /** @typedef {import('../app/state.js').App} App */
-/** @typedef {import('../app/state.js').Image} Image */
+/** @typedef {import('../../core/disc/disc.js').OrderedImage} OrderedImage */
 /** @typedef {import('../../core/texts/context.js').Context} Context */
-/** @typedef {import('../../core/texts/encoding.js').Encoding} Encoding */
+/** @typedef {import('../../core/encodings/encoding.js').Encoding} Encoding */
 /** @typedef {import('../../core/texts/find.js').Hit} Hit */
 /** @typedef {import('../ui/fill.js').Child} Child */
-/** What a search has found: all hits are counted, `hits` are those that are kept. */
-/** @typedef {{ text: string, encoding: Encoding, count: number, hits: Hit[], seconds: number }} Search */
+/** What a search found: `image` is what was searched; all hits are counted, and `hits` are those that are kept. */
+/**
+ * @typedef {{ text: string, encoding: Encoding, image: OrderedImage, count: number, hits: Hit[], seconds: number }} Search
+ */
 
 const ROWS_SHOWN = 200;
 
@@ -130,13 +131,11 @@ export class HitsCard {
      * Reads what stands round the hits that are shown, and puts it into their rows.
      * @param {Search} search
      */
-    async readContexts({ hits }) {
-        const { app } = this;
-        const { image } = app;
+    async readContexts({ image, hits }) {
         const number = ++this.reader;
-        const encoding = chosenEncoding(app);
+        const encoding = chosenEncoding(this.app);
         const wanted = hits.slice(0, this.shown).map((_, i) => i).filter(i => !this.contexts.has(i));
-        for (let at = 0; at < wanted.length && image !== null; at += HITS_AT_ONCE) {
+        for (let at = 0; at < wanted.length; at += HITS_AT_ONCE) {
             const part = wanted.slice(at, at + HITS_AT_ONCE);
             const read = await Promise.all(part.map(i => contextOf(image, encoding, hits[i], BYTES_AFTER)));
             if (number !== this.reader) return;
@@ -166,7 +165,7 @@ export class HitsCard {
         const { search, app: { image, files } } = this;
         if (search === null || image === null) return '';
         const rows = ['block\toffset\tfile\ttext\n'];
-        for await (const group of contextsOf(image, chosenEncoding(this.app), search.hits)) {
+        for await (const group of contextsOf(search.image, chosenEncoding(this.app), search.hits)) {
             for (const { hit, context: { before, hit: text, after } } of group) {
                 const paths = files ? filesWith(files.files, hit).map(({ path }) => seen(path)) : [];
                 const shown = shownCell(shownCharacters([...before, ...text, ...after]));

@@ -1,23 +1,22 @@
 // The panel Text: find, the hits, and replacing them in the script.
 
-import { filledUp } from '../../core/script/replace_bytes.js';
+import { filledUp, replaceBytes } from '../../core/tasks/index.js';
 import * as texts from '../texts/index.js';
 import { say, told } from '../texts/index.js';
-import { announce, button, element, fill, hexOf, isCancelled, jobBar, messageOf, notice } from '../ui/index.js';
-import { said, sayAt, sentence, term } from '../ui/index.js';
+import { announce, button, element, fill, hexOf, isCancelled, jobBar, messageOf, notice, said, sayAt, sentence } from '../ui/index.js';
+import { term } from '../ui/index.js';
 import { AroundCard, readAround } from './around_card.js';
 import { bindEncodings, chosenEncoding, encodingLabel, tableTaker, takeTable } from './encodings.js';
-import { linesForAll, linesReplacing } from './hits.js';
+import { linesForAll, textLines } from './hits.js';
 import { HitsCard } from './hits_card.js';
 import { ReplaceCard } from './replace_card.js';
 import { SearchJob } from './search_job.js';
 import { TextsTable } from './texts_table.js';
 
 /** @typedef {import('../app/state.js').App} App */
-/** @typedef {import('../app/state.js').Image} Image */
 /** @typedef {import('../../core/texts/find.js').Hit} Hit */
 /** @typedef {import('./hits_card.js').Search} Search */
-/** @typedef {import('../../core/texts/encoding.js').Encoding} Encoding */
+/** @typedef {import('../../core/encodings/encoding.js').Encoding} Encoding */
 
 /** The panel. */
 class TextPanel {
@@ -136,7 +135,7 @@ class TextPanel {
         this.forget();
         try {
             const found = await this.search.find(image, asked);
-            if (found !== null) await this.take(found, image);
+            if (found !== null) await this.take(found);
         } catch (error) {
             fill(this.state, isCancelled(error) ? notice('plain', texts.jobCancelled, texts.searchNotEnded)
                 : notice('bad', messageOf(error)));
@@ -144,17 +143,15 @@ class TextPanel {
         return undefined;
     }
 
-    /**
-     * @param {Search} found
-     * @param {Image} image
-     */
-    async take(found, image) {
+    /** @param {Search} found */
+    async take(found) {
         const { app } = this;
         fill(this.state);
         if (!this.isAsked(found)) return;
         if (found.count === 0) {
             fill(this.state, notice('plain', told(texts.noHitIn, { encoding: encodingLabel(app.encoding) }),
-                told(texts.searchedToEnd, { sectors: told(texts.countOfSectors, { n: image.sectors }) }), ' ', texts.anotherEncoding));
+                told(texts.searchedToEnd, { sectors: told(texts.countOfSectors, { n: found.image.sectors }) }), ' ',
+                texts.anotherEncoding));
             announce(texts.noHit);
             return;
         }
@@ -196,11 +193,11 @@ class TextPanel {
         this.chosen = index;
         this.hits.chosen = index;
         const hit = found.hits[index];
-        const around = await readAround(image, hit);
+        const around = await readAround(image.opened, hit);
         if (this.found !== found || this.chosen !== index) return;
         this.hits.draw();
         const old = around.bytes.slice(around.at, around.at + hit.size);
-        this.replace.show({ hit, number: index + 1, of: found.count, old, ...this.writtenOf(hit, found) });
+        this.replace.show({ image: found.image, hit, number: index + 1, of: found.count, old, ...this.writtenOf(hit, found) });
         this.around.show(hit, around);
     }
 
@@ -233,10 +230,10 @@ class TextPanel {
      * @param {Uint8Array} old
      */
     async add(hit, fresh, old) {
-        const { app } = this;
-        if (app.image === null) return;
+        const { app, found } = this;
+        if (found === null) return;
         try {
-            app.addLines(await linesReplacing(app.calls, app.image, hit, fresh, old));
+            app.addLines(textLines(await replaceBytes(app.calls, found.image, hit, old, fresh)));
             announce(texts.addedToScript);
             fill(this.replace.said);
             await this.next();
@@ -257,8 +254,9 @@ class TextPanel {
             const { lines, left } = await app.runOnImage((signal, cancel) => {
                 const bar = jobBar(texts.makingLines, cancel, { noun: texts.makingOfHits });
                 fill(this.replace.job, ...bar.parts);
-                return linesForAll(app.calls, image, chosenEncoding(app), found.hits.filter(hit => app.script.lineAt(hit) === 0),
-                    size => filledUp(fresh, size, filling), { signal, progress: bar.things });
+                const hits = found.hits.filter(hit => app.script.lineAt(hit) === 0);
+                const places = { image: found.image, encoding: chosenEncoding(app), hits };
+                return linesForAll(app, places, size => filledUp(fresh, size, filling), { signal, progress: bar.things });
             });
             if (app.image !== image || this.found !== found) return;
             if (lines.length > 0) app.addLines(lines);

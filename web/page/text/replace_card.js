@@ -1,21 +1,23 @@
 // The card that replaces a hit: the new text, its length beside that of the old one, and the line that goes into the script.
 
-import { filledUp } from '../../core/script/replace_bytes.js';
-import { encodeText, fillsOf, spaceIn } from '../../core/texts/encoding.js';
-import { bytesOfHex, hexText } from '../../core/texts/hex.js';
+import { encodeText, fillsOf, spaceIn } from '../../core/encodings/index.js';
+import { bytesOfHex, hexText } from '../../core/hex_digits.js';
+import { filledUp, untriedLines } from '../../core/tasks/index.js';
 import * as texts from '../texts/index.js';
 import { say, told } from '../texts/index.js';
-import { button, element, fill, hexOf, isDisabled, messageOf, notice, said, sayAt } from '../ui/index.js';
-import { setDisabled, shownText } from '../ui/index.js';
+import { button, element, fill, hexOf, isDisabled, messageOf, notice, said, sayAt, setDisabled, shownText } from '../ui/index.js';
 import { chosenEncoding } from './encodings.js';
-import { replacingLine } from './hits.js';
+import { textLines } from './hits.js';
 
 /** @typedef {import('../app/state.js').App} App */
 /** @typedef {import('../../core/texts/find.js').Hit} Hit */
 /** @typedef {import('../ui/fill.js').Child} Child */
-/** @typedef {import('../../core/texts/encoding.js').Encoding} Encoding */
-/** A hit to replace: its number from 1, of how many; its old bytes; and how many hits are in no line of the script yet. */
-/** @typedef {{ hit: Hit, number: number, of: number, old: Uint8Array, left: number, line: number }} Target */
+/** @typedef {import('../../core/encodings/encoding.js').Encoding} Encoding */
+/**
+ * A hit to replace in what was searched: its number from 1, of how many; its old bytes; and how many hits are in no line of the script yet.
+ * @typedef {{ image: import('../../core/disc/disc.js').OrderedImage, hit: Hit, number: number, of: number, old: Uint8Array, left: number,
+ *     line: number }} Target
+ */
 /**
  * @typedef {{ add: (hit: Hit, fresh: Uint8Array, old: Uint8Array) => void, addAll: (fresh: Uint8Array, fill: Uint8Array | null) => void,
  *     skip: () => void }} ReplaceOwner
@@ -151,11 +153,14 @@ export class ReplaceCard {
         if (more > 0) return bad(`${texts.cannotMoveBytes} ${told(texts.shortenBy, { more: String(more) })}`);
         if (this.input.value === '') return [element('p', { class: 'say plain' }, texts.typeNewText)];
         if (filled === null) return bad(`${told(texts.cannotFill, { n: -more })} ${texts.chooseAnotherByte}`);
-        const out = this.rewritten(this.target, filled);
+        const { image, hit } = this.target;
+        const rewritten = this.rewritten(this.target, filled);
+        const out = rewritten === '' ? textLines(untriedLines(image, { place: hit, old, fresh: filled })) : [rewritten];
         const its = { line: String(line) };
-        return [element('div', {}, element('span', { class: 'label' }, out ? told(texts.takesPlaceOfLine, its) : texts.goesIntoScript),
-            element('p', { class: 'line-out' }, out || replacingLine(this.target.hit, filled, old))),
-        line > 0 && out === '' && element('p', { class: 'say warn' }, told(texts.lineWritesHere, its))];
+        const label = rewritten ? told(texts.takesPlaceOfLine, its) : texts.goesIntoScript;
+        return [element('div', {}, element('span', { class: 'label' }, label),
+            ...out.map(text => element('p', { class: 'line-out' }, text))),
+        line > 0 && rewritten === '' && element('p', { class: 'say warn' }, told(texts.lineWritesHere, its))];
     }
 
     /**

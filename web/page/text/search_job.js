@@ -1,6 +1,6 @@
 // The search of the panel Text: one at a time, with its bar.
 
-import { searchText } from '../../core/texts/search.js';
+import { findText } from '../../core/tasks/index.js';
 import * as texts from '../texts/index.js';
 import { element, fill, jobBar } from '../ui/index.js';
 import { MOST_HITS } from './hits.js';
@@ -45,9 +45,11 @@ export class SearchJob {
                 const bar = jobBar(texts.searching, cancel);
                 fill(this.place, ...bar.parts);
                 const began = performance.now();
-                const [{ count, hits } = { count: 0, hits: [] }] = await searchText(app.crew, image, { text: asked.text,
-                    encodings: [asked.encoding], limit: MOST_HITS }, { signal, progress: bar.sectors });
-                return number === this.number ? { ...asked, count, hits, seconds: (performance.now() - began) / 1000 } : null;
+                const wanted = { text: asked.text, encodings: [asked.encoding], limit: MOST_HITS };
+                const found = await findText(app, image.opened, wanted, { signal, progress: bar.sectors });
+                const { count, hits } = found.best || { count: 0, hits: [] };
+                const seconds = (performance.now() - began) / 1000;
+                return number === this.number ? { ...asked, image: found.image, count, hits, seconds } : null;
             });
         } catch (error) {
             if (number !== this.number) return null;

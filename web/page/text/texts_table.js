@@ -1,33 +1,27 @@
 // All texts of the disc as a table: it is saved for a translator, and from one with new texts lines of the script are made.
 
+import { SEARCHED, encodingOf, usualBytes } from '../../core/encodings/index.js';
 import { Fault } from '../../core/faults.js';
-import { fileOrder } from '../../core/iso/file_order.js';
-import { filesIfAny } from '../../core/iso/files.js';
-import { assertFits } from '../../core/script/fitting.js';
-import { linesMade } from '../../core/script/script_writer.js';
-import { stretchesOf, tableOfTexts } from '../../core/texts/all_texts.js';
-import { codesLeftOut, leftCodeText } from '../../core/texts/codes.js';
-import { usualBytes } from '../../core/texts/encoding.js';
-import { SEARCHED, encodingOf } from '../../core/texts/encodings.js';
-import { encodingsOfRows, leftRowText, replaceList, rowsOfList } from '../../core/texts/list.js';
+import { linesMade } from '../../core/script/index.js';
+import { exportTable, importTable, leftRowText } from '../../core/tasks/index.js';
+import { leftCodeText } from '../../core/texts/index.js';
 import { mergeOf } from '../app/index.js';
 import { fileReader } from '../open/index.js';
 import { downloadBytes } from '../save/index.js';
 import * as texts from '../texts/index.js';
 import { say, told } from '../texts/index.js';
-import { announce, button, capital, element, fill, isCancelled, jobBar, messageParts, nameOf, notice } from '../ui/index.js';
-import { runAt, showFailure, shownText, tableCard } from '../ui/index.js';
+import { announce, button, capital, element, fill, isCancelled, jobBar, messageParts, nameOf, notice, runAt } from '../ui/index.js';
+import { showFailure, shownText, tableCard } from '../ui/index.js';
 import { AroundCard, readAround } from './around_card.js';
 import { chosenEncoding, tableSource } from './encodings.js';
-import { isWritten, linesOfOld, withdrawnLines } from './withdrawn.js';
+import { isWritten, withdrawnLines } from './withdrawn.js';
 
 /** @typedef {import('../app/state.js').App} App */
 /** @typedef {import('../app/state.js').Image} Image */
 /** @typedef {import('../../core/script/merge_lines.js').ScriptLine} ScriptLine */
-/** @typedef {import('../../core/disc/disc.js').DiscImage} DiscImage */
 /** @typedef {import('../../core/texts/codes.js').LeftCode} LeftCode */
-/** @typedef {import('../../core/texts/list.js').LeftRow} LeftRow */
-/** @typedef {import('../../core/texts/list.js').ListRow} ListRow */
+/** @typedef {import('../../core/tasks/list.js').LeftRow} LeftRow */
+/** @typedef {import('../../core/tasks/list.js').ListRow} ListRow */
 /** @typedef {import('../ui/fill.js').Child} Child */
 
 /** Rows that do not fit which stand in the document, and codes that new texts leave out which are named. */
@@ -37,15 +31,6 @@ const MOST_CODES = 20;
 /** @param {LeftCode} code that new texts leave out */
 function codeWords(code) {
     return `${capital(leftCodeText(code))}.`;
-}
-
-/**
- * A track whose texts are read in the order of its files, and these.
- * @param {DiscImage} part
- */
-async function inFileOrder(part) {
-    const { files } = await filesIfAny(part);
-    return { part: { ...part, order: fileOrder(part, files) }, files };
 }
 
 /**
@@ -124,11 +109,10 @@ export class TextsTable {
     /** Saves the table that `cdscript texts --csv` prints. */
     save() {
         return this.work(texts.lookingForTexts, '', texts.noTableSaved, async (image, bar, signal) => {
-            const { part, files } = await inFileOrder(image.part);
-            const how = { asked: this.asked(), signal, progress: bar.sectors, mark: ',' };
-            const pieces = ['\uFEFF'];
+            const pieces = [];
             let all = 0;
-            for await (const { text, count } of tableOfTexts(this.app.crew, part, stretchesOf(part, files), how)) {
+            const watch = { signal, progress: bar.sectors };
+            for await (const { text, count } of exportTable(this.app, image.opened, { ...this.asked(), csv: true }, watch)) {
                 pieces.push(text);
                 all += count;
             }
@@ -163,37 +147,30 @@ export class TextsTable {
     take(file) {
         const { app } = this;
         return this.work(texts.makingLines, texts.makingOfRows, texts.nothingAdded, async (image, bar, signal) => {
-            const rows = await rowsOfList(fileReader(file), file.name, row => isWritten(app, row), signal);
-            const fresh = rows.filter(row => row.fresh !== '');
-            const { part } = await inFileOrder(image.part);
             const encoding = chosenEncoding(app);
-            const isTable = app.tables.has(app.encoding);
-            const given = isTable ? [encoding] : [...new Set([...encoding.hasCharacters ? [encoding] : [], ...SEARCHED])];
-            const encodings = encodingsOfRows(given, isTable);
-            const { parts, left } = await replaceList(app.calls, part, fresh, encodings, null, { signal, progress: bar.things });
-            const script = parts.script(app.calls);
-            if (script.patches > 0) await assertFits(app.calls, image, script);
-            if (script.long) throw new Fault(texts.scriptLongerThanTaken);
-            const old = await linesOfOld(app, part, rows, encodings, signal);
-            const codes = await codesLeftOut(fresh, encodings, signal);
-            const come = linesMade(script);
-            const merge = script.patches === 0 ? null : await mergeOf(app.script, come, signal);
+            const isAsked = app.tables.has(app.encoding);
+            const encodings = isAsked ? [encoding] : [...new Set([...encoding.hasCharacters ? [encoding] : [], ...SEARCHED])];
+            const options = { list: { name: file.name, reader: fileReader(file) }, encodings, isAsked, partial: true,
+                isAlso: (/** @type {ListRow} */ row) => isWritten(app, row) };
+            const made = await importTable(app, image.opened, options, { signal, progress: bar.things });
+            if (made.script !== null && made.script.long) throw new Fault(texts.scriptLongerThanTaken);
+            const come = made.script === null ? [] : linesMade(made.script);
+            const merge = made.script === null ? null : await mergeOf(app.script, come, signal);
             if (app.image !== image) return null;
             const merged = merge === null ? { added: 0, replaced: 0, same: 0 } : app.changeScript(merge);
-            const withdrawn = await withdrawnLines(app, old, come, signal);
-            this.showLeft(image, left);
-            return this.madeNotice(fresh.length - left.length, left.length, merged, withdrawn, codes);
+            const withdrawn = await withdrawnLines(app, linesMade(made.old), come, signal);
+            this.showLeft(image, made.left);
+            return this.madeNotice(made, merged, withdrawn);
         });
     }
 
     /**
-     * @param {number} fit
-     * @param {number} left
+     * @param {import('../../core/tasks/table.js').ImportedTable} made
      * @param {import('../../core/script/merge_lines.js').Merged} merged
      * @param {ScriptLine[]} withdrawn
-     * @param {LeftCode[]} codes that new texts leave out
      */
-    madeNotice(fit, left, merged, withdrawn, codes) {
+    madeNotice({ count, left: { length: left }, codes }, merged, withdrawn) {
+        const fit = count - left;
         const isAny = merged.added + merged.replaced + merged.same + withdrawn.length > 0;
         const added = mergedWords(merged).join(' ') || texts.nothingAdded;
         const rows = fit + left === 0 ? '' : left === 0 ? told(texts.newTextsFit, { n: fit })
@@ -273,7 +250,7 @@ export class TextsTable {
         if (block < image.base || block >= image.base + image.sectors || offset < 0) return;
         try {
             const hit = { block, offset, size: this.sizeOf(row) };
-            this.around.show(hit, await readAround(image, hit));
+            this.around.show(hit, await readAround(image.opened, hit));
         } catch (error) {
             showFailure(error);
         }

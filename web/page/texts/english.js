@@ -274,6 +274,9 @@ export const noAddressFits = 'No Mode 1 sector has the address of its block:';
 export const baseIsProbably = 'by the addresses, the base is probably {base}, not {own}.';
 export const sectorsAreDamaged = '{n} sector is damaged.|{n} sectors are damaged.';
 export const setBaseTo = 'Set the base to {base}';
+export const fileGoesOn = 'The image ends before block {first}, inside {file}. Its volume continues to block {last}.';
+export const volumeGoesOn = 'The image ends before block {first}. Its volume continues to block {last}, and the sheet has one track.';
+export const volumeMayGoOn = 'The volume continues to block {last}: the image is cut, or the volume counts other tracks or a pause.';
 
 // closing it
 export const closeImage = 'Close {name}?';
@@ -669,10 +672,15 @@ export const undoFile = '{script} (undo).txt';
 export const undoGetsOriginalBack = 'Apply it to the patched image to get the original back.';
 export const undoButForDamage =
     'Apply it to the patched image to get the original back, but for the damage of {blocks}: their address and user data come back.';
+export const undoButForRefused =
+    '{n} change does not fit this image, and is not taken back.|{n} changes do not fit this image, and are not taken back.';
 export const undoWithCarry = 'Apply it with carry, as this script.';
 export const undoIsLong = 'It is longer than cdpatch and this page take: cdscript applies it with --long.';
 export const scriptHasFault = 'The script has a fault.';
 export const noUndoMade = 'No undo script was made.';
+export const imageHasItAlready = 'The image already has what the script writes.';
+export const allRefusedByImage = '{n} change does not fit this image.|{n} changes do not fit this image.';
+export const openImageBefore = 'No undo script was made. Open the image as it was before the script.';
 
 // its lines
 export const lineOfScript = 'Script, line {line} of {all}';

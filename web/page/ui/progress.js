@@ -1,6 +1,6 @@
 // The bar of a running job, with how much is done, the rate and the time left, and Cancel, which Escape presses in the job's card.
 
-import { SECTOR_SIZE } from '../../core/sectors/sector.js';
+import { SECTOR_SIZE } from '../../core/module/index.js';
 import * as texts from '../texts/index.js';
 import { counted, say, told } from '../texts/index.js';
 import { button, element } from './dom.js';

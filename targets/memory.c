@@ -1,0 +1,43 @@
+/* The toolchain's functions for memory, over malloc, for systems for which it has no library of C. The prover trusts their contracts
+   (docs/TRUST.md). Each has the name that it has in every libcdpatch, so that a program can use another library of the toolchain too. */
+
+#include <stdint.h>
+#include <stdlib.h>
+
+/* On Windows the proved code calls those that return two words as Linux does, since Windows has no way to return them in registers. */
+#ifdef _WIN32
+#define AS_ON_LINUX __attribute__((sysv_abi))
+#else
+#define AS_ON_LINUX
+#endif
+
+struct tried {
+    uint64_t ok; /* 1, or 0 if memory was refused */
+    void *block;
+};
+
+/* A refusal has an address too, which is not null and owns nothing. */
+static struct tried tried(void *block)
+{
+    static char nothing;
+    return block ? (struct tried){1, block} : (struct tried){0, &nothing};
+}
+
+/* New memory of `size` bytes that nothing else has, aligned to `align`, which divides 16. A block of no bytes has an address of its own. */
+AS_ON_LINUX struct tried cdpatchalloc(uint64_t size, uint64_t align)
+{
+    return tried(malloc(size ? size : align));
+}
+
+/* Makes the block one of `size` bytes, which may be elsewhere. Its first `kept` bytes are as they were. A refusal leaves it as it was. */
+AS_ON_LINUX struct tried cdpatchrealloc(void *block, uint64_t kept, uint64_t size, uint64_t align)
+{
+    (void)kept;
+    return tried(realloc(block, size ? size : align));
+}
+
+/* Frees a block that one of these two returned. */
+void cdpatchdealloc(void *block)
+{
+    free(block);
+}

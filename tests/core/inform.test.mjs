@@ -1,0 +1,93 @@
+// What is found in a disc: which tracks are surveyed, what is lost in them, and what a cut image lacks of its volume.
+
+import assert from 'node:assert/strict';
+import { test } from 'node:test';
+import { calls, core, encoded, readerOf } from './common.mjs';
+import { recordOf, volumeOf } from './strangers.mjs';
+
+const { findingsIn, foundInSurvey, openTrack, surveyedTrack, surveyedTracks, tailOf } = await core('tasks/index.js');
+const { openDisc } = await core('disc/disc.js');
+const { surveyRange } = await core('sectors/survey.js');
+
+const [RAW, USER, SECTORS, BIG] = [2352, 2048, 700, 100];
+const BASE = 150;
+
+/** A disc whose file /BIG has all sectors from block 100 on, and whose volume says how many sectors it has. */
+function image() {
+    const user = volumeOf(SECTORS, sector => sector === 18 ? [recordOf('BIG', BIG, USER * (SECTORS - BIG), { flags: 0 })] : []);
+    const size = new DataView(user.buffer, 16 * USER + 80);
+    size.setUint32(0, SECTORS, true);
+    size.setUint32(4, SECTORS);
+    return calls.encodeBlocks(0, user);
+}
+
+const sheetOf = (...tracks) => encoded(tracks.map(([file, ...points], i) => `FILE "${file}" BINARY\n${points.map(([type, at], k) =>
+    ` TRACK 0${i + k + 1} ${type}\n  INDEX 01 ${at}\n`).join('')}`).join(''));
+
+const open = files => openDisc(calls, Object.entries(files).map(([name, bytes]) => ({ name, reader: readerOf(bytes) })));
+
+/** What is found in the only surveyed track of a disc. */
+async function found(files) {
+    const disc = await open(files);
+    const [track, ...others] = surveyedTracks(disc);
+    assert.deepEqual(others, []);
+    const { reader, base } = track.image;
+    const made = await foundInSurvey(track, surveyRange(calls, await reader.read(0, RAW * track.image.sectors), base));
+    return { ...made, findings: findingsIn({ surveys: [made], tail: tailOf(disc, track.file) }) };
+}
+
+test('a cut image lacks the rest of its volume, which is a finding if a file or the cue sheet says so', async () => {
+    const bytes = image();
+    const cut = sectors => bytes.subarray(0, RAW * sectors);
+    const lackOf = async files => { const { lack, findings } = await found(files); return [lack, findings]; };
+    const missing = first => ({ missing: { first, last: SECTORS - 1 }, blocks: SECTORS });
+    assert.deepEqual(await lackOf({ 'game.bin': bytes }), [null, 0]);
+    assert.deepEqual(await lackOf({ 'game.bin': cut(400) }), [{ ...missing(400), file: '/BIG', isSure: true }, 1]);
+    assert.deepEqual(await lackOf({ 'game.bin': cut(400.5) }), [{ ...missing(400), file: '/BIG', isSure: true }, 2]);
+    assert.deepEqual(await lackOf({ 'game.bin': cut(BIG) }), [{ ...missing(BIG), file: '', isSure: false }, 0]);
+    const one = sheetOf(['game.bin', ['MODE1/2352', '00:00:00']]);
+    assert.deepEqual(await lackOf({ 'one.cue': one, 'game.bin': cut(BIG) }), [{ ...missing(BIG), file: '', isSure: true }, 1]);
+    const two = sheetOf(['game.bin', ['MODE1/2352', '00:00:00']], ['audio.bin', ['AUDIO', '00:00:00']]);
+    const audio = new Uint8Array(RAW * 300);
+    assert.deepEqual(await lackOf({ 'two.cue': two, 'game.bin': cut(BIG), 'audio.bin': audio }),
+        [{ ...missing(BIG), file: '', isSure: false }, 0]);
+});
+
+test('a long hole is lost by the cue sheet or by a file, and each block of it is a finding', async () => {
+    const bytes = image();
+    bytes.fill(0, RAW * 200, RAW * 600);
+    const one = sheetOf(['game.bin', ['MODE1/2352', '00:00:00']]);
+    for (const [files, why] of [[{ 'one.cue': one, 'game.bin': bytes }, 'track'], [{ 'game.bin': bytes }, 'volume']]) {
+        const { lost, findings, mode1 } = await found(files);
+        assert.deepEqual([lost, findings, mode1], [[{ first: 200, last: 599, why }], 400, 300]);
+    }
+});
+
+test('damage and another address in one sector are one finding', async () => {
+    const bytes = image();
+    bytes[RAW * 300 + 14] ^= 1;
+    bytes[RAW * 300 + 500] ^= 1;
+    const { damaged, elsewhere, findings } = await found({ 'game.bin': bytes });
+    assert.deepEqual([damaged, elsewhere, findings], [1, 1, 1]);
+});
+
+test('tracks of one file are surveyed together, and each by itself if their addresses count from different blocks', async () => {
+    const sector = (block, count) => calls.encodeBlocks(block, new Uint8Array(USER * count));
+    const sheet = encoded('FILE "game.bin" BINARY\n TRACK 01 MODE1/2352\n  INDEX 01 00:00:00\n TRACK 02 MODE1/2352\n  INDEX 01 00:04:00\n');
+    const seen = async (...parts) => surveyedTracks(await open({ 'game.cue': sheet, 'game.bin': Buffer.concat(parts) }))
+        .map(({ number, isWhole, image: { base, sectors }, mode1Tracks }) => ({ number, isWhole, base, sectors, mode1Tracks }));
+    const [first, second] = [{ first: 0, last: 299 }, { first: 300, last: 349 }];
+    assert.deepEqual(await seen(sector(0, 300), sector(300, 50)),
+        [{ number: 1, isWhole: true, base: 0, sectors: 350, mode1Tracks: [first, second] }]);
+    const own = { first: 300 + BASE, last: 349 + BASE };
+    assert.deepEqual(await seen(sector(0, 300), sector(300 + BASE, 50)),
+        [{ number: 1, isWhole: false, base: 0, sectors: 300, mode1Tracks: [first] },
+            { number: 2, isWhole: false, base: 300 + BASE, sectors: 50, mode1Tracks: [own] }]);
+});
+
+test('the tracks of the cue sheet are where another base puts them', async () => {
+    const one = sheetOf(['game.bin', ['MODE1/2352', '00:00:00']]);
+    const disc = await open({ 'one.cue': one, 'game.bin': image() });
+    const { mode1Tracks, isAlone } = surveyedTrack(openTrack(disc, { base: BASE }));
+    assert.deepEqual([mode1Tracks, isAlone], [[{ first: BASE, last: BASE + SECTORS - 1 }], true]);
+});

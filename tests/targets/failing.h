@@ -1,0 +1,28 @@
+/* Read before a shim: each of these calls fails if `fails` says so. */
+#ifdef _WIN32
+#define WIN32_LEAN_AND_MEAN
+#include <windows.h>
+#include <shellapi.h>
+
+/* Whether the call of this name is to fail now, with what error. */
+int fails(const char *call);
+
+/* A file is closed although that fails. */
+static BOOL closed(HANDLE file)
+{
+    return CloseHandle(file) && !fails("CloseHandle");
+}
+
+#define CloseHandle(file) closed(file)
+#define CommandLineToArgvW(...) (fails("CommandLineToArgvW") ? NULL : CommandLineToArgvW(__VA_ARGS__))
+#define CreateFileW(...) (fails("CreateFileW") ? INVALID_HANDLE_VALUE : CreateFileW(__VA_ARGS__))
+#define DuplicateHandle(...) (!fails("DuplicateHandle") && DuplicateHandle(__VA_ARGS__))
+#define FlushFileBuffers(file) (!fails("FlushFileBuffers") && FlushFileBuffers(file))
+#define GetFullPathNameW(...) (fails("GetFullPathNameW") ? 0 : GetFullPathNameW(__VA_ARGS__))
+#define GetStdHandle(stream) (fails("GetStdHandle") ? INVALID_HANDLE_VALUE : GetStdHandle(stream))
+#define MultiByteToWideChar(...) (fails("MultiByteToWideChar") ? 0 : MultiByteToWideChar(__VA_ARGS__))
+#define ReadFile(file, bytes, size, count, more) \
+    (!fails("ReadFile") && (fails("a read of bytes") ? (*(count) = 0, TRUE) : ReadFile(file, bytes, size, count, more)))
+#define WideCharToMultiByte(...) (fails("WideCharToMultiByte") ? 0 : WideCharToMultiByte(__VA_ARGS__))
+#define WriteFile(...) (!fails("WriteFile") && WriteFile(__VA_ARGS__))
+#endif

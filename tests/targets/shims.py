@@ -1,0 +1,64 @@
+#!/usr/bin/env python3
+"""Whether the shims of a directory meet their contracts: `shims.py windows|arm64 [DIRECTORY [TEST]]` compiles them with shim.c, and prints
+'passed NAME' or 'failed NAME' for each of its tests; the status is 1 if one failed. Without DIRECTORY they are those of targets/."""
+
+import os
+import pty
+import subprocess
+import sys
+import tempfile
+from pathlib import Path
+
+TESTS = Path(__file__).resolve().parent
+TOP = TESTS.parent.parent
+WINE = '/usr/lib/wine/wine64'
+COMPILERS = {'windows': 'x86_64-w64-mingw32-gcc', 'arm64': 'aarch64-linux-gnu-gcc'}
+SHIMS = {'windows': ('windows.c', ['-lshell32']), 'arm64': ('linux.c', [])}
+# What comes before a program of each system, and before one of its libraries.
+RUNNERS = {'windows': [WINE], 'arm64': ['qemu-aarch64', '-L', '/usr/aarch64-linux-gnu']}
+WORDS = ['abc', 'ÄÖ']
+TIME = 60  # seconds, which no test takes
+
+
+def compiled(system: str, directory: Path, room: Path) -> Path:
+    """The program of the tests with a directory's shims. The shim alone is read after failing.h."""
+    shim, libraries = SHIMS[system]
+    program, flags = room / 'shim.exe', ['-std=gnu11', '-O1', '-w', '-fno-builtin-realloc']
+    for source, more in (directory / shim, ['-include', str(TESTS / 'failing.h')]), (directory / 'memory.c', []), (TESTS / 'shim.c', []):
+        subprocess.run([COMPILERS[system], *flags, *more, '-c', source, '-o', room / f'{source.stem}.{len(more)}.o'], check=True)
+    subprocess.run([COMPILERS[system], *room.glob('*.o'), *libraries, '-o', program], check=True)
+    return program
+
+
+def run(system: str, program: Path, *words: str, out: int = subprocess.PIPE) -> tuple[int, str]:
+    """The status and the text of a run in a directory of its own; -1 if it does not end."""
+    with tempfile.TemporaryDirectory(dir=program.parent) as room:
+        try:
+            done = subprocess.run([*RUNNERS[system], program, *words], cwd=room, stdin=subprocess.DEVNULL, stdout=out, timeout=TIME,
+                                  env={'WINEDEBUG': '-all', **os.environ}, check=False)
+        except subprocess.TimeoutExpired:
+            return -1, ''
+    return done.returncode, (done.stdout or b'').decode(errors='replace')
+
+
+def holds(system: str, program: Path, test: str) -> bool:
+    if test == 'statuses':
+        return run(system, program, 'no test')[0] == 2
+    if test == 'consoles':
+        return run(system, program, test, out=pty.openpty()[1])[0] == 0
+    status, text = run(system, program, test, *([] if test == 'unpaired' else WORDS))
+    return status == 0 and (test != 'start' or text == '12\n34')
+
+
+def main(system: str, shims: str = str(TOP / 'targets'), only: str = '') -> int:
+    with tempfile.TemporaryDirectory() as name:
+        program = compiled(system, Path(shims), Path(name))
+        tests = [only] if only else [*run(system, program)[1].split(), 'statuses']
+        results = [(test, holds(system, program, test)) for test in tests]
+    for test, passed in results:
+        print('passed' if passed else 'failed', test, flush=True)
+    return int(not results or not all(passed for _, passed in results))
+
+
+if __name__ == '__main__':
+    sys.exit(main(*sys.argv[1:]))

@@ -1,0 +1,108 @@
+#!/bin/sh
+# `tools/files.sh install`, `uninstall`, or `copy DIRECTORY` does this with the files of dist.list, in the directory that has it. The rest
+# comes from the environment, as install.mk sets it: the places, DESTDIR, VERSION, and LEAVE_OUT, the parts of pages that are left out.
+# PACKAGE limits it to a package of Debian.
+set -eu
+umask 022
+room=$(mktemp -d)
+trap 'rm -rf "$room"' EXIT
+
+# each COMMAND: calls it with the source, the target, and the mode of each file, without patterns.
+each() {
+    while read -r source place mode package needed; do
+        case $source in '' | '#'*) continue ;; esac
+        [ "${PACKAGE:-$package}" = "$package" ] || continue
+        [ -z "$needed" ] || [ -e "$needed" ] || [ "$1" = remove ] || continue
+        directory=
+        [ -n "${copy-}" ] || eval "directory=\$${place%%/*}"
+        place=${place#*/}
+        case $place in
+            CALL*) for call in $(calls); do "$1" "$source" "$directory/$call${place#CALL}" "$mode"; done ;;
+            */ | '') for file in $source; do "$1" "$file" "$directory/$place${file##*/}" "$mode"; done ;;
+            *) "$1" "$source" "$directory/$place" "$mode" ;;
+        esac
+    done < dist.list
+}
+
+# The calls of the library, each of which has the man page by its name too.
+calls() { sed -n '/^\.Sh SYNOPSIS/,/^\.Sh DESCRIPTION/s/^\.Fn \([a-z0-9_]*\) .*/\1/p' man/libcdpatch.3; }
+
+assert_made() {
+    case $3 in link | gone) return ;; esac
+    [ -e "$1" ] || { echo "There is no $1: run make first." >&2; exit 1; }
+}
+
+# page FILE: a page without the parts that are left out.
+page() {
+    for part in $LEAVE_OUT; do
+        echo "/^<!-- $part -->\$/,/^<!-- end of $part -->\$/d"
+    done > "$room/parts"
+    sed -f "$room/parts" "$1"
+}
+
+# text FILE: a page with the places of this installation, in which it has those of /usr/local, or a file for other programs, in which they
+# stand as @libdir@.
+text() {
+    page "$1" | sed -e 's|/usr/local/share/cdpatch/python|@pythondir@|g; s|/usr/local/share/cdpatch|@pagedir@|g' \
+        -e 's|/usr/local/share/doc/cdpatch|@docdir@|g' | sed -e "s|@pythondir@|$pythondir|g; s|@pagedir@|$pagedir|g; s|@docdir@|$docdir|g" \
+        -e "s|@prefix@|$prefix|; s|@libdir@|$libdir|; s|@includedir@|$includedir|; s|@version@|$VERSION|" \
+        -e "s|@libraries@|$(realpath -ms --relative-to="$cmakedir" "$libdir")|" \
+        -e "s|@includes@|$(realpath -ms --relative-to="$cmakedir" "$includedir")|" -e "/^[a-z]*dir=/s|=$prefix/|=\${prefix}/|"
+}
+
+# A text is installed from a file of its own: a redirection would follow a link at the target.
+place() {
+    target=$DESTDIR$2
+    case $3 in
+        gone) rm -f "$target" && return ;;
+        *) $INSTALL -d "${target%/*}" ;;
+    esac
+    case $3 in
+        link) ln -sf "$1" "$target" ;;
+        text) text "$1" > "$room/text" && $INSTALL -m 644 "$room/text" "$target" ;;
+        *) $INSTALL -m "$3" "$1" "$target" ;;
+    esac
+}
+
+remove() { rm -f "$DESTDIR$2"; }
+
+copy() {
+    case $3 in link | gone) return ;; esac
+    install -d "$copy/$(dirname "$1")"
+    case $3 in
+        text) page "$1" > "$copy/$1" ;;
+        *) install -m "$3" "$1" "$copy/$1" ;;
+    esac
+}
+
+# What Python compiled of the files, whatever release they were of.
+remove_compiled() {
+    rm -rf "$DESTDIR$pythondir/cdpatch/__pycache__"
+    rm -f "$DESTDIR$pythondir"/__pycache__/backend.*.pyc
+}
+
+# The directories that only cdpatch has. Others may own the rest, even if it is empty.
+remove_directories() {
+    for directory in "$docdir/docs" "$docdir/examples" "$docdir" "$pythondir/cdpatch" "$pagedir/python/__pycache__" "$pagedir/python" \
+        "$pagedir" "$cmakedir"; do
+        rmdir "$DESTDIR$directory" 2> /dev/null || true
+    done
+}
+
+case $1 in
+    install)
+        each assert_made
+        remove_compiled
+        each place
+        ;;
+    uninstall)
+        each remove
+        remove_compiled
+        remove_directories
+        ;;
+    copy)
+        copy=$2
+        each assert_made
+        each copy
+        ;;
+esac

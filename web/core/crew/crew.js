@@ -1,0 +1,283 @@
+// Jobs over ranges of sectors, shared out to workers.
+
+import { readBytes } from '../bytes.js';
+import { FAULT, Fault, cancelled, newBytes } from '../faults.js';
+import { SECTOR_SIZE } from '../module/index.js';
+
+/** @typedef {import('../bytes.js').Reader} Reader */
+/** @typedef {import('../module/calls.js').Calls} Calls */
+/** @typedef {import('./jobs.js').Jobs} Jobs */
+/** @typedef {import('./jobs.js').JobName} JobName */
+/** @typedef {import('./jobs.js').JobTable} JobTable */
+/** @typedef {import('./jobs.js').Reply} Reply */
+/** @typedef {import('./jobs.js').ReplyFault} ReplyFault */
+/**
+ * @template {JobName} [Name=JobName]
+ * @template [Piece=unknown]
+ * @typedef {import('./jobs.js').Message<Name, Piece>} Message
+ */
+/** @typedef {{ reader: Reader, at: number, length: number }} Slice the bytes of a range in an image */
+/**
+ * A hand: a worker thread, or this one, that runs jobs. The door calls `onreply` with what `serving` has returned, and `onfault` if the
+ * worker itself fails. One that `isHere` has done the job when `post` returns, and keeps no bytes.
+ * @typedef {{ post(message: Message, transfer: ArrayBuffer[]): void, onreply: (reply: Reply) => void,
+ *     onfault: (error: Error) => void, isHere?: boolean }} Hand
+ */
+/** @typedef {Pick<Crew, 'share'>} Sharer what shares out a job */
+/**
+ * The block of the first sector; how many sectors a range has, and how many after it a job sees; the bytes of a sector in each image, if
+ * they are not 2352 in all; who is told of sectors that are done; what ends the job; and the mark that its messages have.
+ * @typedef {{ base?: number, step?: number, beyond?: number, units?: number[], progress?: (done: number, all: number) => void,
+ *     signal?: { aborted: boolean }, own?: number }} Sharing
+ */
+
+/** Sectors per range. */
+const SHARED_STEP = 1024;
+
+/** Ranges in flight per hand. */
+const RANGES_A_HAND = 2;
+
+/** The fault of a reply if the hand can't read what it is lent. */
+export const UNREAD = Object.freeze({ code: FAULT.UNREAD, message: '' });
+
+/**
+ * What a worker does with the bytes of a range.
+ * @param {Calls} calls
+ * @param {JobTable} table
+ * @returns {<Name extends JobName>(message: Message<Name, Uint8Array>) => Reply}
+ */
+export function serving(calls, table) {
+    return ({ number, job, pieces, first, args }) => {
+        try {
+            const work = table[job];
+            if (work === undefined) throw new TypeError(`no job ${job}`);
+            return { number, answer: work(calls, pieces, first, args) };
+        } catch (error) {
+            return { number, fault: errorFault(error) };
+        }
+    };
+}
+
+/**
+ * An error as it can be posted.
+ * @param {unknown} error
+ */
+function errorFault(error) {
+    if (error instanceof Fault) return { code: error.code, message: error.message, facts: error.facts };
+    return { message: String(error) };
+}
+
+/**
+ * The memory of a reply that its thread gives away: that of the bytes that stand in the answer or in a list of it.
+ * @param {Reply} reply
+ */
+export function transfersOf({ answer }) {
+    const held = new Set();
+    for (const value of ArrayBuffer.isView(answer) ? [answer] : Object.values(answer || {})) {
+        for (const view of Array.isArray(value) ? value : [value]) {
+            if (!ArrayBuffer.isView(view)) break;
+            held.add(view.buffer);
+        }
+    }
+    return [...held];
+}
+
+/**
+ * A hand that works at once, in this thread.
+ * @param {Calls} calls
+ * @param {JobTable} table
+ * @returns {Hand}
+ */
+export function localHand(calls, table) {
+    const serve = serving(calls, table);
+    /** @type {Hand} */
+    const hand = {
+        post: (/** @type {Message<JobName, Uint8Array>} */ message) => hand.onreply(serve(message)),
+        onreply() {},
+        onfault() {},
+        isHere: true,
+    };
+    return hand;
+}
+
+/**
+ * @param {Slice[]} slices
+ * @param {Uint8Array[] | null} [rooms] where they are read to, in place of memory of their own
+ * @returns {Promise<Uint8Array[]>}
+ */
+function readSlices(slices, rooms) {
+    return Promise.all(slices.map(({ reader, at, length }, i) => {
+        if (rooms && (!rooms[i] || rooms[i].length < length)) rooms[i] = newBytes(length);
+        return readBytes(reader, at, length, rooms ? rooms[i].subarray(0, length) : undefined);
+    }));
+}
+
+/**
+ * Bytes whose memory is only theirs.
+ * @param {Uint8Array} bytes
+ */
+function ownBytes(bytes) {
+    return bytes.length === bytes.buffer.byteLength ? bytes : bytes.slice();
+}
+
+/**
+ * Hands, among which ranges of sectors are shared out. Several jobs may be under way. What readers lend, hands may read for themselves,
+ * each its next range while it works on the last one.
+ */
+export class Crew {
+    /**
+     * @param {Hand[]} hands one at least
+     * @param {boolean} lends whether they read what is lent. One that can't says so by UNREAD, and then this thread reads for all.
+     */
+    constructor(hands, lends = false) {
+        this.lends = lends;
+        this.number = 0;
+        /** @type {Error | null} */
+        this.fault = null;
+        /** @type {Map<Hand, number>} how many ranges each has */
+        this.loads = new Map(hands.map(hand => [hand, 0]));
+        /** @type {Map<number, (reply: Reply) => void>} who waits for the reply of a number */
+        this.waiting = new Map();
+        for (const hand of hands) {
+            hand.onreply = reply => this.settle(hand, reply);
+            hand.onfault = error => this.fail(error);
+        }
+    }
+
+    /**
+     * @param {Hand} hand
+     * @param {Reply} reply
+     */
+    settle(hand, reply) {
+        this.loads.set(hand, (this.loads.get(hand) || 0) - 1);
+        const settle = this.waiting.get(reply.number);
+        this.waiting.delete(reply.number);
+        if (settle) settle(reply);
+    }
+
+    /** @param {Error} error with which a worker ended */
+    fail(error) {
+        this.fault = error;
+        for (const [number, settle] of this.waiting) settle({ number, fault: error });
+        this.waiting.clear();
+    }
+
+    /**
+     * Hands a range to the hand that has fewest, and returns its reply.
+     * @param {Omit<Message, 'number'>} range
+     * @returns {Promise<Reply>}
+     */
+    reply(range) {
+        const number = this.number++;
+        if (this.fault) return Promise.resolve({ number, fault: this.fault });
+        const [[hand, load]] = [...this.loads].sort(([, a], [, b]) => a - b);
+        this.loads.set(hand, load + 1);
+        const pieces = range.pieces.map(piece => piece instanceof Uint8Array && !hand.isHere ? ownBytes(piece) : piece);
+        return new Promise(resolve => {
+            this.waiting.set(number, resolve);
+            try {
+                hand.post({ ...range, number, pieces }, pieces.flatMap(piece => piece instanceof Uint8Array ? piece.buffer : []));
+            } catch (error) {
+                this.settle(hand, { number, fault: errorFault(error) });
+            }
+        });
+    }
+
+    /**
+     * The reply of a hand that reads for itself. If it can't, this thread reads for it.
+     * @param {Omit<Message, 'number' | 'pieces'>} range
+     * @param {Slice[]} slices
+     * @returns {Promise<Reply>}
+     */
+    async lentReply(range, slices) {
+        const reply = await this.reply({ ...range, pieces: slices.map(({ reader, at, length }) => reader.lent?.(at, length)) });
+        if (!reply.fault || reply.fault.code !== FAULT.UNREAD) return reply;
+        this.lends = false;
+        try {
+            return await this.reply({ ...range, pieces: await readSlices(slices) });
+        } catch (error) {
+            return { number: reply.number, fault: /** @type {Error} */ (error) };
+        }
+    }
+
+    /**
+     * What is lent, read by a hand that has nothing to do, so that this thread has less to do. Null if no hand is free, or can read it.
+     * @param {unknown} lent
+     * @returns {Promise<Uint8Array | null>}
+     */
+    async readLent(lent) {
+        if (!this.lends || Math.min(...this.loads.values()) > 0) return null;
+        const { answer, fault } = await this.reply({ job: 'read', pieces: [lent], first: 0, args: {} });
+        if (fault && fault.code === FAULT.UNREAD) this.lends = false;
+        return fault ? null : /** @type {Uint8Array} */ (answer);
+    }
+
+    /**
+     * Does a job on bytes that are at hand, which are given away. Throws a Fault that the job throws, and for a bug an
+     * Error.
+     * @template {JobName} Name
+     * @param {Name} job
+     * @param {Uint8Array[]} pieces
+     * @param {Jobs[Name]['args']} args
+     */
+    async given(job, pieces, args) {
+        return answerOf(job, await this.reply({ job, pieces, first: 0, args }));
+    }
+
+    /**
+     * Does a job on images that have the same number of sectors, and gives its answers to `take` in the order of the ranges. Throws
+     * what a reader throws, a Fault if an image shrinks (IMAGE_ENDED) or `signal` ends it (CANCELLED), and what `given` throws.
+     * @template {JobName} Name
+     * @param {Name} job
+     * @param {Reader[]} readers what they read is given away
+     * @param {import('./jobs.js').Shared<Name>} args
+     * @param {Sharing} how
+     * @param {(answer: Jobs[Name]['answer']) => void | Promise<void>} take
+     */
+    async share(job, readers, args, { base = 0, step = SHARED_STEP, beyond = 0, units, progress, signal, own }, take) {
+        const sizes = units || readers.map(() => SECTOR_SIZE);
+        const [all, ...others] = readers.map(({ size }, i) => Math.floor(size / sizes[i]));
+        if (others.some(count => count !== all)) throw new Error('images of different lengths');
+        const most = RANGES_A_HAND * this.loads.size;
+        /** @type {Uint8Array[] | null} */
+        const rooms = [...this.loads.keys()].every(({ isHere }) => isHere) ? [] : null;
+        /** @type {Promise<Reply>[]} */
+        const replies = [];
+        let done = 0;
+        const takeNext = async () => {
+            await take(answerOf(job, await replies[0], signal));
+            replies.shift();
+            done = Math.min(done + step, all);
+            if (progress) progress(done, all);
+        };
+        for (let first = 0; first < all; first += step) {
+            if (replies.length === most) await takeNext();
+            assertWanted(signal);
+            const count = Math.min(step, all - first);
+            const seen = Math.min(count + beyond, all - first);
+            const slices = readers.map((reader, i) => ({ reader, at: first * sizes[i], length: seen * sizes[i] }));
+            const range = { job, first: base + first, args: /** @type {Jobs[Name]['args']} */ ({ ...args, count }), own };
+            const isLent = this.lends && readers.every(reader => reader.lent);
+            replies.push(isLent ? this.lentReply(range, slices) : this.reply({ ...range, pieces: await readSlices(slices, rooms) }));
+        }
+        while (replies.length > 0) await takeNext();
+    }
+}
+
+/**
+ * @template {JobName} Name
+ * @param {Name} _ the job that was done
+ * @param {Reply} reply
+ * @param {{ aborted: boolean }} [signal]
+ */
+function answerOf(_, { answer, fault }, signal) {
+    assertWanted(signal);
+    if (!fault) return /** @type {Jobs[Name]['answer']} */ (answer);
+    if (fault instanceof Error) throw fault;
+    throw fault.code ? new Fault(fault.message, fault.code, fault.facts) : new Error(fault.message);
+}
+
+/** @param {{ aborted: boolean }} [signal] */
+function assertWanted(signal) {
+    if (signal && signal.aborted) throw cancelled();
+}

@@ -1,0 +1,175 @@
+// Lost sectors: blocks of a track of Mode 1 that are not Mode 1, such as those that a drive could not read and a dumper filled.
+
+import { SECTOR_KIND } from '../module/index.js';
+import { addToRuns, commonRuns, joinedRuns, kindRuns } from '../sectors/index.js';
+import { blocksOfVolume } from './volume_end.js';
+
+/** @typedef {import('./disc.js').Disc} Disc */
+/** @typedef {import('./volume_end.js').Dump} Dump */
+/** @typedef {import('./volume_end.js').UsedBlocks} UsedBlocks */
+/** @typedef {import('../sectors/runs.js').Run} Run */
+/** @typedef {import('../sectors/survey.js').FilledRun} FilledRun */
+/** @typedef {import('../sectors/survey.js').Survey} Survey */
+/** @typedef {Run & { kind: number }} KindRun */
+/** @typedef {{ others: KindRun[], filled: FilledRun[] }} OtherSectors those that are not Mode 1, and those that one byte fills */
+/** @typedef {'track' | 'volume' | 'filled'} LostIn why blocks are lost: where they are, or what they are */
+/**
+ * The sectors of an image that are not Mode 1: those that are lost, and those that no test was made of; and what the volume uses, if that
+ * was asked.
+ * @typedef {{ lost: (Run & { why: LostIn })[], untested: KindRun[], used: UsedBlocks | null }} Lost
+ */
+
+/** How a cue sheet names a track of raw Mode 1 sectors. */
+export const MODE1 = 'MODE1/2352';
+
+/** No track is shorter (ECMA-130 and the Red Book: four seconds). */
+const SHORTEST_TRACK = 300;
+
+/** @type {LostIn[]} by what the mark of a block says, from 1 on */
+const REASONS = ['filled', 'volume', 'track'];
+
+/**
+ * The sectors of a whole survey that are not Mode 1.
+ * @param {Survey} survey
+ * @param {FilledRun[]} filled
+ * @returns {OtherSectors}
+ */
+export function otherSectors(survey, filled) {
+    return { others: [...kindRuns(survey)].filter(({ kind }) => kind !== SECTOR_KIND.MODE1), filled };
+}
+
+/**
+ * The tracks of a file that a cue sheet says are Mode 1, by the blocks of an image that begins with a block; null without a sheet.
+ * @param {Disc} disc
+ * @param {number} file
+ * @param {number} base of the file's image
+ * @returns {Run[] | null}
+ */
+export function mode1Tracks({ sheet, tracks }, file, base) {
+    if (sheet === null) return null;
+    return tracks.filter(it => it.file === file && it.type === MODE1).flatMap(({ image, part, sectors }) => {
+        if (image === null || part === null || sectors === null || sectors === 0) return [];
+        const first = base + part.base - image.base;
+        return [{ first, last: first + sectors - 1 }];
+    });
+}
+
+/**
+ * Which sectors of an image are lost. With a sheet: those in its tracks of Mode 1, but not a track that is Mode 2 throughout. Without one:
+ * those that one byte other than 00 fills, as no audio is; and if there is Mode 1, those that the volume uses, and those between Mode 1
+ * that are fewer than any track has. Throws what the readers of the dumps throw.
+ * @param {{ base: number, sectors: number }} image
+ * @param {OtherSectors} found
+ * @param {Run[] | null} tracks that a sheet says are Mode 1, null without a sheet
+ * @param {Dump[]} dumps of the disc, whose volumes are asked without a sheet
+ * @returns {Promise<Lost>}
+ */
+export async function lostSectors({ base, sectors }, { others, filled }, tracks, dumps) {
+    const range = { first: base, last: base + sectors - 1 };
+    const runs = joinedRuns(others);
+    const reasons = new Uint8Array(sectors);
+    const mark = (/** @type {Run[]} */ some, /** @type {LostIn} */ why) =>
+        some.forEach(({ first, last }) => reasons.fill(REASONS.indexOf(why) + 1, first - base, last - base + 1));
+    if (tracks !== null) {
+        const isMode2 = (/** @type {Run} */ track) => others.some(it => it.kind === SECTOR_KIND.MODE2 && isWithin(track, it));
+        mark(commonRuns(runs, joinedRuns(tracks.filter(it => !isMode2(it)))), 'track');
+        return { ...byReasons(others, base, reasons), used: null };
+    }
+    mark(filled.filter(({ byte }) => byte !== 0), 'filled');
+    const used = runs.length > 0 && !isWithin(range, runs[0]) ? await usedByAll(dumps) : null;
+    const hollow = others.filter(({ kind }) => kind === SECTOR_KIND.MODE0 || kind === SECTOR_KIND.OTHER);
+    if (used !== null) mark(commonRuns(runs, blocksInUse(used, range, runs, [...filled, ...hollow])), 'volume');
+    mark(runs.filter(({ first, last }) => first > range.first && last < range.last && last - first + 1 < SHORTEST_TRACK), 'track');
+    return { ...byReasons(others, base, reasons), used };
+}
+
+/**
+ * @param {Run} run
+ * @param {Run} other
+ */
+function isWithin(run, other) {
+    return other.first <= run.first && run.last <= other.last;
+}
+
+/**
+ * What the volumes of dumps use, null if none has one.
+ * @param {Dump[]} dumps
+ */
+async function usedByAll(dumps) {
+    const all = [];
+    for (const dump of dumps) all.push(...await blocksOfVolume(dump) || []);
+    return all.length > 0 ? all : null;
+}
+
+/**
+ * The blocks that a volume uses and that have to be Mode 1. A directory may list a track of audio as a file: a file that lies whole in a
+ * run as long as a track, and is not for the most part hollow, is not among them.
+ * @param {UsedBlocks} used
+ * @param {Run} range of the image
+ * @param {Run[]} runs of sectors that are not Mode 1, the longest that there are
+ * @param {Run[]} hollow sectors in which neither audio nor Mode 2 is
+ */
+function blocksInUse(used, range, runs, hollow) {
+    const long = runs.filter(({ first, last }) => last - first + 1 >= SHORTEST_TRACK);
+    const before = new Uint32Array(range.last - range.first + 2); // how many hollow sectors there are before each
+    for (const { first, last } of hollow) before.fill(1, first - range.first + 1, last - range.first + 2);
+    for (let i = 1; i < before.length; i++) before[i] += before[i - 1];
+    const isTrack = (/** @type {Run} */ run) => {
+        const count = before[run.last - range.first + 1] - before[run.first - range.first];
+        return 2 * count <= run.last - run.first + 1 && isInOne(long, run);
+    };
+    const there = used.flatMap(({ first, last, path }) => {
+        const part = { first: Math.max(first, range.first), last: Math.min(last, range.last) };
+        return part.first > part.last || (path !== '' && isTrack(part)) ? [] : [part];
+    });
+    return joinedRuns(there);
+}
+
+/**
+ * Whether a run lies within one of others.
+ * @param {Run[]} others in order
+ * @param {Run} run
+ */
+function isInOne(others, run) {
+    let [from, to] = [0, others.length];
+    while (from < to) {
+        const middle = (from + to) >> 1;
+        if (others[middle].last < run.first) from = middle + 1;
+        else to = middle;
+    }
+    return from < others.length && isWithin(run, others[from]);
+}
+
+/**
+ * The runs that are lost, by why they are, and those that are not.
+ * @param {KindRun[]} others
+ * @param {number} base
+ * @param {Uint8Array} reasons of each sector, 0 if it is not lost
+ */
+function byReasons(others, base, reasons) {
+    /** @type {Lost['lost']} */
+    const lost = [];
+    /** @type {KindRun[]} */
+    const untested = [];
+    for (const { first: begin, last: end, kind } of others) {
+        for (let first = begin; first <= end;) {
+            const reason = reasons[first - base];
+            let last = first;
+            while (last < end && reasons[last + 1 - base] === reason) last += 1;
+            if (reason === 0) untested.push({ first, last, kind });
+            else addToRuns(lost, { first, last, why: REASONS[reason - 1] });
+            first = last + 1;
+        }
+    }
+    return { lost, untested };
+}
+
+/**
+ * The path of a file that lies in some of the blocks of a run, '' if none does.
+ * @param {UsedBlocks | null} used
+ * @param {Run} run
+ */
+export function fileIn(used, { first, last }) {
+    const file = (used || []).find(it => it.path !== '' && it.first <= last && first <= it.last);
+    return file ? file.path : '';
+}

@@ -1,0 +1,101 @@
+// Which blocks a volume uses, and whether an image ends before its volume does.
+
+import { sliceOf } from '../bytes.js';
+import { FAULT, failedBy } from '../faults.js';
+import { NOT_ALL, SEVERAL_EXTENTS, VolumeReader, descriptorsOf, endOfExtent, filesOf, numberInBoth } from '../iso/index.js';
+import { LAST_BASE, SECTOR_SIZE } from '../module/index.js';
+
+/** @typedef {import('./disc.js').DiscImage} DiscImage */
+/** @typedef {import('../sectors/runs.js').Run} Run */
+/** @typedef {import('../iso/files.js').FileEntry} FileEntry */
+/**
+ * The blocks that an image lacks of its volume, how many blocks that has, and the path of a file that begins in the image and goes on after
+ * its end, '' if there is none. With `isSure` the image is cut; else the volume may count other tracks, or a pause after its own.
+ * @typedef {{ missing: Run, blocks: number, file: string, isSure: boolean }} Lack
+ */
+
+/** @typedef {(Run & { path: string })[]} UsedBlocks those of files by their paths, and with the path '' those of the volume itself */
+/**
+ * An image of a disc, the track in it, and how many blocks its blocks come after those of the image that is looked at.
+ * @typedef {{ image: DiscImage, part: DiscImage, later: number }} Dump
+ */
+
+/** The sectors before the descriptors belong to the volume too (ECMA-119, 6.2.1). */
+const SYSTEM_AREA = 16;
+
+/** Where the primary descriptor has the number of the volume's blocks. */
+const VOLUME_BLOCKS = 80;
+
+/** Writers count a pause of two seconds after the data, which not every reader gives back. */
+const LONGEST_PAUSE = 150;
+
+/**
+ * What is thrown if a track has no volume is null here.
+ * @template T
+ * @param {Promise<T>} asked
+ */
+async function ifVolume(asked) {
+    try {
+        return await asked;
+    } catch (error) {
+        if (!failedBy(error, FAULT.VOLUME)) throw error;
+        return null;
+    }
+}
+
+/**
+ * The volume of a track may be longer than that.
+ * @param {DiscImage} image
+ * @param {DiscImage} part the track in it
+ */
+function volumeReader(image, part) {
+    return sliceOf(image.reader, (part.base - image.base) * SECTOR_SIZE, image.reader.size);
+}
+
+/**
+ * The blocks that the volume of a track uses; null if it has none. A file that ends after the volume is not believed: some discs have such
+ * ones against copying.
+ * @param {Dump} dump
+ * @returns {Promise<UsedBlocks | null>}
+ */
+export async function blocksOfVolume({ image, part, later }) {
+    const reader = volumeReader(image, part);
+    const descriptors = await ifVolume(descriptorsOf(new VolumeReader(reader, part.base)));
+    if (descriptors === null) return null;
+    const end = part.base + (numberInBoth(descriptors.primary, VOLUME_BLOCKS) || Infinity);
+    const { files, own } = await ifVolume(filesOf(reader, part.base)) || { files: [], own: new Map() };
+    const isBelieved = (/** @type {FileEntry} */ file) =>
+        file.size > 0 && ['', SEVERAL_EXTENTS, NOT_ALL].includes(file.fault) && endOfExtent(file) <= end;
+    return [
+        { first: part.base, last: part.base + SYSTEM_AREA + descriptors.count - 1, path: '' },
+        ...Array.from(own.keys(), block => ({ first: block, last: block, path: '' })),
+        ...files.filter(isBelieved).map(file => ({ first: file.block, last: endOfExtent(file) - 1, path: file.path })),
+    ].map(({ first, last, path }) => ({ first: first + later, last: last + later, path }));
+}
+
+/**
+ * What an image lacks of the volume of a track, null if it has all of it or the track has no volume.
+ * @param {DiscImage} image
+ * @param {DiscImage} part the track in it
+ * @param {boolean} isAlone whether a cue sheet says that the disc has no other track
+ * @returns {Promise<Lack | null>}
+ */
+export async function lackOf(image, part, isAlone) {
+    const reader = volumeReader(image, part);
+    const volume = new VolumeReader(reader, part.base);
+    const descriptors = await ifVolume(descriptorsOf(volume));
+    const said = descriptors === null ? null : numberInBoth(descriptors.primary, VOLUME_BLOCKS);
+    if (said === null || said <= volume.sectors) return null;
+    const found = await ifVolume(filesOf(reader, part.base));
+    const [first, files] = found === null ? [part.base, []] : [found.first, found.files];
+    const [from, most] = [volume.sectors, said].map(count => part.base + count);
+    const cut = files.find(it => it.fault === NOT_ALL && it.block < from && endOfExtent(it) <= most);
+    // A volume that counts from the disc's start has so many blocks, or up to that one: it is taken for the shorter one that has the file.
+    const isUpTo = said > first && (cut === undefined || endOfExtent(cut) <= most - first);
+    const blocks = isUpTo ? said - first : said;
+    if (blocks <= volume.sectors) return null;
+    const last = part.base + blocks - 1;
+    const isLonger = isAlone && blocks - volume.sectors > LONGEST_PAUSE;
+    const isSure = last <= LAST_BASE && (cut !== undefined || isLonger);
+    return { missing: { first: from, last }, blocks, file: isSure && cut ? cut.path : '', isSure };
+}

@@ -1,0 +1,6 @@
+// The volume of a track (ISO 9660): its files and their order.
+
+export { fileOrder } from './file_order.js';
+export { VolumeReader, descriptorsOf, endOfExtent, filesAt, filesLines, filesOf, wholeFile } from './files.js';
+export { SEVERAL_EXTENTS, SIZE_FIELD, numberInBoth } from './records.js';
+export { NOT_ALL } from './walk.js';

@@ -1,0 +1,3 @@
+// The table of the jobs of workers.
+
+export { JOBS } from './jobs.js';

@@ -1,0 +1,28 @@
+// The arguments and answers of the jobs in the table.
+
+import { AskedTexts, Told } from '../texts/range.js';
+import { Found, Limits, Wanted } from '../texts/find.js';
+import { Summed } from '../sectors/sums.js';
+import { RangeSurvey, Survey } from '../sectors/survey.js';
+import { How, Lines } from '../script/sector_lines.js';
+import { Differing } from '../tasks/compare.js';
+import { UserRange } from '../tasks/convert.js';
+import { Merged } from '../tasks/merge.js';
+
+declare module '../crew/jobs.js' {
+    interface Jobs {
+        survey: { args: { shift?: number }; answer: RangeSurvey };
+        /** Records that have only kinds. */
+        kinds: { args: { shift?: number }; answer: Survey };
+        sums: { args: { surveys: boolean }; answer: Summed };
+        find: { args: { texts: Wanted[] } & Limits; answer: Found[] };
+        diff: { args: {}; answer: Lines };
+        lines: { args: { blocks: number[]; how: How }; answer: Lines };
+        differ: { args: {}; answer: Differing };
+        merge: { args: { shift: number }; answer: Merged };
+        replace: { args: { end: number }; answer: Lines };
+        user: { args: {}; answer: UserRange };
+        raw: { args: {}; answer: Uint8Array };
+        texts: { args: AskedTexts & { count: number; size: number }; answer: Told[] };
+    }
+}

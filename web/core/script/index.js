@@ -1,0 +1,17 @@
+// Scripts: their lines, what they do to an image, and how they are written.
+
+export { baseComment, baseFault, scriptForBase } from './base_said.js';
+export { firstLinesOf } from './block_lines.js';
+export { assertFits } from './fitting.js';
+export { NEWEST_VERSION, VERSIONS, headLine } from './language.js';
+export { LineList, lineText } from './line_list.js';
+export { afterColon, contentOf, faultyWord, lacksDigit, lineParts, linesOfText, partOfWord, wordsOf, wordsOn } from './line_words.js';
+export { countOld, oldBytesOf, patchesOf, readLines } from './long_script.js';
+export { linesGivingWayInTurns, mergedInTurns } from './merge_lines.js';
+export { ScriptModel, lastBlockOf, modelInParts, userPlace } from './model.js';
+export { NEAR_HELD, NEAR_WRITTEN } from './patch_run.js';
+export { applyPatches, passPatched } from './patches.js';
+export { Refusal, readScript } from './script.js';
+export { isMeantAsScript, isScript } from './script_start.js';
+export { ScriptParts, linesMade } from './script_writer.js';
+export { assertLeads, leftText, linesBetween, linesJob } from './sector_lines.js';

@@ -1,0 +1,73 @@
+// The user data of sectors: an ISO image of a track, and the bytes of a file.
+
+import { sliceOf } from '../bytes.js';
+import { SECTOR_KIND, SECTOR_SIZE, USER_SIZE, sectorCount } from '../module/index.js';
+import { addToRuns, joinedUser, sectorOf } from '../sectors/index.js';
+
+/** @typedef {import('../bytes.js').Reader} Reader */
+/** @typedef {import('../module/calls.js').Calls} Calls */
+/** @typedef {import('../disc/disc.js').DiscImage} DiscImage */
+/** @typedef {import('../iso/files.js').FileEntry} FileEntry */
+/** @typedef {import('../crew/crew.js').Sharer} Sharer */
+/** @typedef {import('../crew/crew.js').Sharing} Sharing */
+/** @typedef {import('../sectors/runs.js').Run & { kind: number }} KindRun */
+/** @typedef {(bytes: Uint8Array) => void | Promise<void>} TakeBytes */
+/** @typedef {{ user: Uint8Array, others: KindRun[] }} UserRange the user data of a range, and the sectors that are not of Mode 1 */
+
+/**
+ * The user data of sectors, which is at the same place in each, whatever its kind; and the runs of those that are not of Mode 1, in
+ * which other bytes may stand there.
+ * @param {Calls} calls
+ * @param {Uint8Array} bytes of whole raw sectors
+ * @param {number} block that of the first
+ * @returns {UserRange}
+ */
+export function userRange(calls, bytes, block) {
+    /** @type {KindRun[]} */
+    const others = [];
+    for (let i = 0; i < sectorCount(bytes.length); i++) {
+        const kind = calls.kind(sectorOf(bytes, i));
+        if (kind !== SECTOR_KIND.MODE1) addToRuns(others, { first: block + i, last: block + i, kind });
+    }
+    return { user: joinedUser(bytes), others };
+}
+
+/**
+ * Gives the user data of sectors to `take`, in order. Returns the runs of sectors that are not of Mode 1.
+ * @param {Sharer} crew
+ * @param {Reader} reader of the sectors
+ * @param {number} size how many bytes are given at most
+ * @param {Sharing} how
+ * @param {TakeBytes} take
+ */
+export async function passUser(crew, reader, size, how, take) {
+    /** @type {KindRun[]} */
+    const others = [];
+    let left = size;
+    await crew.share('user', [reader], {}, how, async answer => {
+        for (const it of answer.others) addToRuns(others, it);
+        const user = answer.user.subarray(0, Math.max(left, 0));
+        left -= answer.user.length;
+        await take(user);
+    });
+    return others;
+}
+
+/**
+ * The same of a file of a track, extent by extent.
+ * @param {Sharer} crew
+ * @param {DiscImage} part
+ * @param {FileEntry[]} extents
+ * @param {Sharing} how
+ * @param {TakeBytes} take
+ */
+export async function passFile(crew, part, extents, how, take) {
+    /** @type {KindRun[]} */
+    const others = [];
+    for (const { block, size } of extents) {
+        const [first, count] = [block - part.base, Math.ceil(size / USER_SIZE)];
+        const sectors = sliceOf(part.reader, first * SECTOR_SIZE, (first + count) * SECTOR_SIZE);
+        for (const it of await passUser(crew, sectors, size, { ...how, base: block }, take)) addToRuns(others, it);
+    }
+    return others;
+}

@@ -1,0 +1,61 @@
+// Finds a text in a data track, in the order of its files.
+
+import { usualBytes } from '../encodings/index.js';
+import { FAULT, Fault } from '../faults.js';
+import { bytesAround, encodingsWith, endOfMatch, longestOf, searchText, unitsAlike } from '../texts/index.js';
+import { replaceBytes } from './replace_bytes.js';
+
+/** @typedef {import('../disc/disc.js').OrderedImage} OrderedImage */
+/** @typedef {import('../sectors/sector.js').Place} Place */
+/** @typedef {import('../encodings/encoding.js').Encoding} Encoding */
+/** @typedef {import('../texts/find.js').Hit} Hit */
+/** @typedef {import('../texts/search.js').Hits} Hits */
+/** @typedef {import('./engine.js').Engine} Engine */
+/** @typedef {import('./engine.js').Watch} Watch */
+/** @typedef {import('./opened.js').OpenedTrack} OpenedTrack */
+/** @typedef {{ text: string, encodings: Encoding[], loose?: boolean }} WantedText `loose` as `unitsAlike` takes it */
+/** @typedef {{ image: OrderedImage, encoding: Encoding, hits: Hit[] }} Places where a text was found, and in which encoding */
+/**
+ * What a search found: the part that was searched; the hits in the first encoding that has any, and those in the others; the names of the
+ * encodings that were searched; and why others do not have the text.
+ * @typedef {{ image: OrderedImage, best: Hits | null, others: Hits[], searched: string[], faults: Fault[] }} FoundText
+ */
+
+/**
+ * Finds a text in a track. An encoding that has it only in the middle of characters comes last. Throws a Fault: NO_TEXT if the text is
+ * empty, TEXT if no encoding has its characters, CANCELLED.
+ * @param {Pick<Engine, 'crew'>} engine
+ * @param {OpenedTrack} opened
+ * @param {WantedText & { limit: number }} options how many hits are kept in each encoding, one at least
+ * @param {Watch} [watch]
+ * @returns {Promise<FoundText>}
+ */
+export async function findText({ crew }, opened, { text, loose, limit, ...options }, watch) {
+    if (text === '') throw new Fault('there is nothing to find in a text without characters', FAULT.NO_TEXT);
+    const { part } = await opened.contents();
+    const { encodings, names, faults } = encodingsWith(options.encodings, text, loose);
+    const [best = null, ...others] = await searchText(crew, part, { text, encodings, limit, loose }, watch);
+    return { image: part, best, others, searched: names, faults };
+}
+
+/**
+ * Finds a text at a place, in the first encoding that has it there. Throws a Fault if none has.
+ * @param {Pick<Engine, 'calls'>} engine
+ * @param {OpenedTrack} opened
+ * @param {WantedText & { place: Place }} options a place of the whole image
+ * @returns {Promise<Places>}
+ */
+export async function findTextAt({ calls }, opened, { text, loose, place, ...options }) {
+    const { image } = await opened.contents();
+    const { encodings } = encodingsWith(options.encodings, text, loose);
+    const isIn = place.block >= image.base && place.block < image.base + image.sectors;
+    for (const encoding of isIn ? encodings : []) {
+        const wanted = unitsAlike(encoding, text, loose);
+        const { bytes } = await bytesAround(image, place, 0, longestOf(wanted));
+        const size = endOfMatch(wanted, bytes, 0);
+        if (size > 0) return { image, encoding, hits: [{ ...place, size }] };
+    }
+    const usual = usualBytes(unitsAlike(encodings[0], text));
+    await replaceBytes(calls, image, place, usual, usual); // says which byte differs
+    throw new Fault('the text is not found');
+}

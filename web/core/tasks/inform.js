@@ -1,0 +1,95 @@
+// What is found in a disc: which tracks are surveyed, and what the survey of each shows.
+
+import { MODE1, lackOf, lostSectors, mode1Tracks, otherSectors } from '../disc/index.js';
+import { SECTOR_SIZE } from '../module/index.js';
+import { blocksIn, surveyCounts } from '../sectors/index.js';
+
+/** @typedef {import('../disc/disc.js').Disc} Disc */
+/** @typedef {import('../disc/disc.js').DiscImage} DiscImage */
+/** @typedef {import('../disc/lost.js').Lost} Lost */
+/** @typedef {import('../disc/volume_end.js').Lack} Lack */
+/** @typedef {import('../sectors/runs.js').Run} Run */
+/** @typedef {import('../sectors/survey.js').RangeSurvey} RangeSurvey */
+/** @typedef {import('../sectors/survey.js').Survey} Survey */
+/** @typedef {Pick<import('./opened.js').OpenedTrack, 'disc' | 'track' | 'image' | 'part'>} Opened */
+/**
+ * A track that is surveyed, as the `part` of an `image`. `isWhole` says that the image is a whole file, and `isAlone` that by the cue sheet
+ * the disc has no other track. `mode1Tracks` are the tracks in the image that the cue sheet says are Mode 1, null without a sheet.
+ * @typedef {{ number: number, file: number, image: DiscImage, part: DiscImage, isWhole: boolean, isAlone: boolean,
+ *     mode1Tracks: Run[] | null }} SurveyedTrack
+ */
+/**
+ * What is found in an image: its counts, the sectors that are lost or that were not tested, and what it lacks of its volume.
+ * @typedef {ReturnType<typeof surveyCounts> & { survey: Survey, lack: Lack | null } & Lost} Found
+ */
+
+/**
+ * The tracks of data that are not surveyed: their sectors have another size.
+ * @param {Disc} disc
+ */
+export function unsurveyedTracks({ tracks }) {
+    return tracks.filter(({ type, image }) => image === null && !['', 'AUDIO', 'CDG'].includes(type));
+}
+
+/** @param {Disc} disc */
+function hasOneTrack({ sheet, tracks }) {
+    return sheet !== null && tracks.length === 1;
+}
+
+/**
+ * A track, which is surveyed with the whole image that it lies in.
+ * @param {Opened} opened
+ * @returns {SurveyedTrack}
+ */
+export function surveyedTrack({ disc, track: { number, file }, image, part }) {
+    return { number, file, image, part, isWhole: true, isAlone: hasOneTrack(disc), mode1Tracks: mode1Tracks(disc, file, image.base) };
+}
+
+/**
+ * The tracks of a disc that are surveyed: one for each image. But if the addresses of several tracks in one file count from different
+ * blocks, each track is surveyed by itself.
+ * @param {Disc} disc
+ */
+export function surveyedTracks(disc) {
+    const tracks = disc.tracks.filter(({ image }) => image !== null);
+    return tracks.flatMap(track => {
+        const { number, type, file, image, part } = track;
+        if (image === null || part === null) return [];
+        const others = tracks.filter(it => it.file === file);
+        const isWhole = others.every(it => it.image?.base === image.base);
+        if (isWhole) return others[0] === track ? [surveyedTrack({ disc, track, image, part })] : [];
+        const own = type === MODE1 ? [{ first: part.base, last: part.base + part.sectors - 1 }] : [];
+        return [{ number, file, image: part, part, isWhole, isAlone: false, mode1Tracks: own }];
+    });
+}
+
+/**
+ * What the survey of a track's image shows. Throws what its reader throws.
+ * @param {SurveyedTrack} track
+ * @param {RangeSurvey} survey of the whole image
+ * @returns {Promise<Found>}
+ */
+export async function foundInSurvey({ image, part, isAlone, mode1Tracks: tracks }, { filled, ...survey }) {
+    const lack = await lackOf(image, part, isAlone);
+    const lost = await lostSectors(image, otherSectors(survey, filled), tracks, [{ image, part, later: 0 }]);
+    return { survey, ...surveyCounts(survey), ...lost, lack };
+}
+
+/**
+ * How many bytes of a file come after its last whole sector, if all of its sectors have 2352 bytes.
+ * @param {Disc} disc
+ * @param {number} file
+ */
+export function tailOf({ files, tracks }, file) {
+    const isOfSectors = tracks.every(it => it.file !== file || (it.sectors !== null && /^(AUDIO)?$|\/2352$/.test(it.type)));
+    return isOfSectors ? files[file].reader.size % SECTOR_SIZE : 0;
+}
+
+/**
+ * How many findings a file has: blocks in which something is wrong, and one for each way in which it is cut.
+ * @param {{ surveys: Pick<Found, 'wrong' | 'lost' | 'lack'>[], tail: number }} found
+ */
+export function findingsIn({ surveys, tail }) {
+    const blocks = surveys.map(({ wrong, lost, lack }) => wrong + blocksIn(lost) + Number(lack !== null && lack.isSure));
+    return blocks.reduce((sum, count) => sum + count, Number(tail > 0));
+}

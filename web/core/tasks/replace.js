@@ -1,0 +1,83 @@
+// A text replaced by another one at the places at which it stands.
+
+import { Fault } from '../faults.js';
+import { ScriptParts } from '../script/index.js';
+import { bytesBefore, contextOf } from '../texts/index.js';
+import { letOthersIn } from '../turns.js';
+import { replaceBytes } from './replace_bytes.js';
+
+/** @typedef {import('../disc/disc.js').OrderedImage} OrderedImage */
+/** @typedef {import('../script/sector_lines.js').Lines} Lines */
+/** @typedef {import('../encodings/encoding.js').Encoding} Encoding */
+/** @typedef {import('../texts/find.js').Hit} Hit */
+/** @typedef {import('./engine.js').Engine} Engine */
+/** @typedef {import('./engine.js').Watch} Watch */
+/** @typedef {import('./find.js').Places} Places */
+
+/**
+ * Throws a Fault if a new text has more bytes than there are for it.
+ * @param {Encoding} encoding
+ * @param {Uint8Array} fresh
+ * @param {number} room
+ */
+export function assertHasRoom({ name }, fresh, room) {
+    const more = fresh.length - room;
+    if (more > 0) throw new Fault(`the new text has ${fresh.length} bytes in ${name}, and there is room for ${room}: ${more} too many`);
+}
+
+/**
+ * What is said of a hit, as why it is not replaced.
+ * @param {{ text: Hit, why: string }} left
+ */
+export function leftHitText({ text: { block, offset }, why }) {
+    return `block ${block} offset ${offset}: ${why}`;
+}
+
+/**
+ * The lines that replace texts, in the order of their places, and the texts that are left, with why there are no lines for them.
+ * @template {import('../sectors/sector.js').Place} T
+ * @param {OrderedImage} image
+ * @param {T[]} texts
+ * @param {Watch} watch
+ * @param {(text: T, met: T | null) => Promise<{ lines: Lines, size: number }>} replace gives the lines, and how many bytes they are of. It
+ *     throws a Fault if there are none, as if the text meets one before it
+ */
+export async function replacedEach(image, texts, { signal, progress }, replace) {
+    const parts = new ScriptParts();
+    /** @type {{ text: T, why: string }[]} */
+    const left = [];
+    let [last, end] = [/** @type {T | null} */ (null), 0];
+    for (const [i, text] of texts.entries()) {
+        await letOthersIn(signal);
+        if (progress) progress(i, texts.length);
+        const at = bytesBefore(image, text);
+        try {
+            const { lines, size } = await replace(text, at < end ? last : null);
+            parts.push(lines);
+            [last, end] = [text, at + size];
+        } catch (error) {
+            if (!(error instanceof Fault)) throw error;
+            left.push({ text, why: error.message });
+        }
+    }
+    return { parts, left };
+}
+
+/**
+ * The lines that replace the hits of a text, and the hits that are left out, each with the reason. The core has tried the lines on the
+ * sectors. A hit is left out if it may begin in the middle of a character, overlaps the one before it, has no room for the text, or lies
+ * in a sector that is damaged or not Mode 1.
+ * @param {Pick<Engine, 'calls'>} engine
+ * @param {Places} places
+ * @param {{ freshFor: (size: number) => Uint8Array, inside?: boolean }} options the new bytes for a number of old ones, which throws a
+ *     Fault if they do not fit; and whether hits are replaced that may begin in the middle of a character
+ * @param {Watch} [watch]
+ */
+export function replaceHits({ calls }, { image, encoding, hits }, { freshFor, inside = false }, watch = {}) {
+    return replacedEach(image, hits, watch, async (hit, met) => {
+        const { bytes, doubt } = await contextOf(image, encoding, hit, 0);
+        if (met !== null) throw new Fault('it overlaps the one before it');
+        if (doubt !== '' && !inside) throw new Fault(doubt);
+        return { lines: await replaceBytes(calls, image, hit, bytes, freshFor(hit.size)), size: hit.size };
+    });
+}

@@ -1,0 +1,174 @@
+// The script that replaces a file of a disc.
+
+import { firstAfter, sliceOf } from '../bytes.js';
+import { Fault } from '../faults.js';
+import { SIZE_FIELD, endOfExtent } from '../iso/index.js';
+import { SECTOR_SIZE, USER_SIZE } from '../module/index.js';
+import { ScriptParts } from '../script/index.js';
+import { bytesAround } from '../texts/index.js';
+import { replaceBytes } from './replace_bytes.js';
+
+/** @typedef {import('../bytes.js').Reader} Reader */
+/** @typedef {import('../module/calls.js').Calls} Calls */
+/** @typedef {import('../disc/disc.js').DiscImage} DiscImage */
+/** @typedef {import('../iso/files.js').FileEntry} FileEntry */
+/** @typedef {import('../iso/files.js').VolumeFiles} VolumeFiles */
+/** @typedef {import('../iso/files.js').WholeFile} WholeFile */
+/** @typedef {import('../crew/crew.js').Sharer} Sharer */
+/** @typedef {import('../crew/crew.js').Sharing} Sharing */
+/** @typedef {import('../script/model.js').UserRange} UserRange */
+/** @typedef {import('../script/sector_lines.js').Left} Left */
+/** @typedef {import('../script/script_writer.js').Script} Script */
+/** @typedef {Pick<VolumeFiles, 'entries' | 'udf' | 'own' | 'tables' | 'files'>} VolumeNames what a volume names, and its own blocks */
+/**
+ * A script, none if a sector is left, which is not consistent; and the paths of other files that have some of the blocks, and change too.
+ * @typedef {{ script: Script | null, left: Left[], sharing: string[] }} Replacement
+ */
+
+/** @param {{ size: number }} extent how many bytes its sectors have */
+function extentRoom({ size }) {
+    return Math.ceil(size / USER_SIZE) * USER_SIZE;
+}
+
+/** @param {FileEntry} extent */
+function extentKey({ block, size }) {
+    return `${block} ${size}`;
+}
+
+/**
+ * Where the lines that replace a file write: in its sectors, and in the lengths that its records have.
+ * @param {Pick<WholeFile, 'extents'> & { names: VolumeNames }} file
+ * @returns {UserRange[]}
+ */
+export function placesOfFile({ extents, names }) {
+    const records = [...recordsByKey(names.entries, extents).values()].flat();
+    return [...extents.map(extent => ({ block: extent.block, offset: 0, size: extentRoom(extent) })),
+        ...records.map(({ record: { block, offset } }) => ({ block, offset: offset + SIZE_FIELD.offset, size: SIZE_FIELD.length }))];
+}
+
+/**
+ * Says whether blocks are some of a file's.
+ * @param {FileEntry[]} extents of the file
+ */
+function meetingOf(extents) {
+    const inOrder = extents.filter(({ size }) => size > 0).sort((a, b) => a.block - b.block);
+    const begins = inOrder.map(({ block }) => block);
+    return (/** @type {number} */ first, /** @type {number} */ end) => {
+        const i = firstAfter(begins, end - 1) - 1;
+        return i >= 0 && endOfExtent(inOrder[i]) > first;
+    };
+}
+
+/**
+ * The other files that have some of a file's blocks. Throws a Fault if some are the volume's own, or if the file can have no other length
+ * and gets one: something else names it, or has its blocks too.
+ * @param {WholeFile} file
+ * @param {VolumeNames} names
+ * @param {boolean} keeps its length
+ */
+function sharingWith({ path, extents }, { udf, own, tables, entries, files }, keeps) {
+    const meets = meetingOf(extents);
+    const mine = [...own.keys(), ...tables].find(block => meets(block, block + 1));
+    if (mine !== undefined) {
+        throw new Fault(`${path} has block ${mine}, which has a ${own.get(mine) || 'path table'} of the volume: that is not replaced`);
+    }
+    if (!keeps && udf) throw new Fault(`${path} would have its old length in the UDF that the disc has too: --fill keeps the length`);
+    const same = new Set(extents.map(extentKey));
+    const isIn = (/** @type {FileEntry} */ it) => it.size > 0 && meets(it.block, endOfExtent(it));
+    const other = keeps ? undefined : entries.find(it => !same.has(extentKey(it)) && isIn(it));
+    if (other) throw new Fault(`${path} can have no other length: ${other.path} has some of its blocks`);
+    return [...new Set(files.filter(it => it.path !== path && isIn(it)).map(it => it.path))];
+}
+
+/**
+ * What is said of a file that shares blocks with one that is replaced.
+ * @param {string} path
+ * @param {string} other
+ */
+export function sharingText(path, other) {
+    return `${other} has blocks of ${path} too, and changes with it`;
+}
+
+/**
+ * Adds the lines that give records another size, in both byte orders.
+ * @param {Calls} calls
+ * @param {DiscImage} image
+ * @param {ScriptParts} parts
+ * @param {FileEntry[]} records
+ * @param {number} size
+ */
+async function pushSize(calls, image, parts, records, size) {
+    const fresh = new Uint8Array(SIZE_FIELD.length);
+    const inSectorOrder = { ...image, order: undefined };
+    [true, false].forEach((little, i) => new DataView(fresh.buffer).setUint32(4 * i, size, little));
+    for (const { record: { block, offset } } of records) {
+        const place = { block, offset: offset + SIZE_FIELD.offset };
+        const { bytes } = await bytesAround(inSectorOrder, place, 0, SIZE_FIELD.length);
+        parts.push(await replaceBytes(calls, inSectorOrder, place, bytes, fresh));
+    }
+}
+
+/**
+ * The entries of extents in all trees of names, by what extentKey says.
+ * @param {FileEntry[]} entries
+ * @param {FileEntry[]} extents
+ */
+function recordsByKey(entries, extents) {
+    /** @type {Map<string, FileEntry[]>} */
+    const records = new Map(extents.map(it => [extentKey(it), []]));
+    for (const it of entries) records.get(extentKey(it))?.push(it);
+    return records;
+}
+
+/**
+ * The script that gives a file of a disc other bytes. Without `fill` these may be as many as its sectors have; the records of the file get
+ * its new length, and the rest becomes 00. With it the length stays. Throws a Fault.
+ * @param {Calls} calls
+ * @param {Sharer} crew
+ * @param {DiscImage} image the track's
+ * @param {WholeFile & { names: VolumeNames }} file
+ * @param {Reader} wanted
+ * @param {Sharing & { fill?: number }} how with the byte that fills up
+ * @returns {Promise<Replacement>}
+ */
+export async function replaceFile(calls, crew, image, { path, size, extents, names }, wanted, { fill, ...how } = {}) {
+    const keeps = fill !== undefined || wanted.size === size;
+    const lengths = extents.map(extent => keeps ? extent.size : extentRoom(extent));
+    const room = lengths.reduce((sum, length) => sum + length, 0);
+    const had = `${size} bytes${keeps ? '' : ` and room for ${room}`}`;
+    if (wanted.size > room) throw new Fault(`${path} has ${had}, the new file ${wanted.size}`);
+    const sharing = sharingWith({ path, size, extents }, names, keeps);
+    const records = recordsByKey(names.entries, extents);
+    const parts = new ScriptParts();
+    const filled = filledReader(wanted, room + USER_SIZE, fill);
+    let before = 0;
+    for (const [i, extent] of extents.entries()) {
+        const count = extentRoom(extent) / USER_SIZE;
+        const fresh = Math.max(Math.min(wanted.size - before, lengths[i]), 0);
+        if (!keeps && fresh !== extent.size) await pushSize(calls, image, parts, records.get(extentKey(extent)) || [], fresh);
+        const first = extent.block - image.base;
+        const old = sliceOf(image.reader, first * SECTOR_SIZE, (first + count) * SECTOR_SIZE);
+        const readers = [old, sliceOf(filled, before, before + count * USER_SIZE)];
+        const shared = { ...how, base: extent.block, units: [SECTOR_SIZE, USER_SIZE] };
+        await crew.share('replace', readers, { end: extent.block * USER_SIZE + lengths[i] }, shared, lines => parts.push(lines));
+        before += lengths[i];
+    }
+    return { script: parts.left.length > 0 ? null : parts.script(calls), left: parts.left, sharing };
+}
+
+/**
+ * A file followed by one byte over and over.
+ * @param {Reader} reader
+ * @param {number} size
+ * @param {number} [fill]
+ * @returns {Reader}
+ */
+function filledReader(reader, size, fill = 0) {
+    return {
+        size,
+        async read(at, length) {
+            if (at < reader.size) return reader.read(at, Math.min(length, reader.size - at));
+            return new Uint8Array(Math.min(length, size - at)).fill(fill);
+        },
+    };
+}

@@ -1,0 +1,84 @@
+// The table of the texts of a track: exported for translators, and imported with their new texts.
+
+import { FAULT, Fault } from '../faults.js';
+import { assertFits, scriptForBase } from '../script/index.js';
+import { codesLeftOut, stretchesOf, tableOfTexts } from '../texts/index.js';
+import { encodingsOfRows, replaceList, rowsOfList } from './list.js';
+
+/** @typedef {import('../disc/disc.js').DiscFile} DiscFile */
+/** @typedef {import('../encodings/encoding.js').Encoding} Encoding */
+/** @typedef {import('../encodings/encoding.js').Filler} Filler */
+/** @typedef {import('../script/script_writer.js').Script} Script */
+/** @typedef {import('../texts/all_texts.js').Stretch} Stretch */
+/** @typedef {import('../texts/codes.js').LeftCode} LeftCode */
+/** @typedef {import('../texts/range.js').AskedTexts} AskedTexts */
+/** @typedef {import('./engine.js').Engine} Engine */
+/** @typedef {import('./engine.js').Watch} Watch */
+/** @typedef {import('./list.js').LeftRow} LeftRow */
+/** @typedef {import('./list.js').ListRow} ListRow */
+/** @typedef {import('./opened.js').OpenedTrack} OpenedTrack */
+/**
+ * Where a table is in a file; the encodings that its texts may be in, which replace what a row names if they are asked for; the filler;
+ * whether a script is made of the rows that fit if others do not; and which rows without a new text are read too.
+ * @typedef {{ list: DiscFile, encodings: Encoding[], isAsked: boolean, fill?: Filler, partial: boolean,
+ *     isAlso?: (row: ListRow) => boolean }} ImportOptions
+ */
+/**
+ * The number of new texts; the finished script, null if no row fits or some do not and all are needed; the script that writes the old texts
+ * of the rows without a new one; the rows that do not fit; and the codes that new texts leave out.
+ * @typedef {{ count: number, script: Script | null, old: Script, left: LeftRow[], codes: LeftCode[] }} ImportedTable
+ */
+
+/**
+ * The stretches that are looked at. Throws a Fault, NO_FILE, if a path names none.
+ * @param {Stretch[]} stretches
+ * @param {string[]} paths of files or directories; without any all are
+ */
+function stretchesIn(stretches, paths) {
+    const rooted = (/** @type {string} */ path) => `/${path}`.replace(/^\/+/, '/').replace(/\/+$/, '');
+    const isIn = (/** @type {Stretch} */ { path }, /** @type {string} */ below) =>
+        path !== '' && `${rooted(path)}/`.startsWith(`${rooted(below)}/`);
+    const missing = paths.find(path => !stretches.some(it => isIn(it, path)));
+    if (missing !== undefined) throw new Fault(`there is no file ${missing}`, FAULT.NO_FILE);
+    return stretches.filter(it => paths.length === 0 || paths.some(path => isIn(it, path)));
+}
+
+/**
+ * Exports the texts of a track as a table, in pieces, each with its number of texts. Throws a Fault, NO_FILE or CANCELLED.
+ * @param {Pick<Engine, 'crew'>} engine
+ * @param {OpenedTrack} opened
+ * @param {AskedTexts & { paths?: string[], csv?: boolean, least?: number }} options `paths` of files or directories, all if there are none;
+ *     whether the table has commas, and a byte order mark for spreadsheets; and the least number of characters of a text
+ * @param {Watch} [watch]
+ * @returns {AsyncGenerator<{ text: string, count: number }>}
+ */
+export async function* exportTable({ crew }, opened, { paths = [], csv = false, least, ...asked }, watch) {
+    const { part, files } = await opened.contents();
+    const stretches = stretchesIn(stretchesOf(part, files), paths);
+    if (csv) yield { text: '\uFEFF', count: 0 };
+    yield* tableOfTexts(crew, part, stretches, { asked, least, mark: csv ? ',' : '\t', ...watch });
+}
+
+/**
+ * Makes the script of a table with new texts, which fits the image. Throws a Fault if the table has no row with a new text or cannot be
+ * read, or CANCELLED.
+ * @param {Pick<Engine, 'calls'>} engine
+ * @param {OpenedTrack} opened
+ * @param {ImportOptions} options
+ * @param {Watch} [watch] is told the number of rows
+ * @returns {Promise<ImportedTable>}
+ */
+export async function importTable({ calls }, opened, { list, encodings, isAsked, fill = null, partial, isAlso }, watch = {}) {
+    const { signal } = watch;
+    const { image, part } = await opened.contents();
+    const encodingsFor = encodingsOfRows(encodings, isAsked);
+    const rows = await rowsOfList(list.reader, list.name, isAlso, signal);
+    const fresh = rows.filter(row => row.fresh !== '');
+    const { parts, left } = await replaceList(calls, part, fresh, encodingsFor, fill, watch);
+    const isMade = parts.patches > 0 && (partial || left.length === 0);
+    const script = isMade ? scriptForBase(parts.script(calls), image.base) : null;
+    if (script !== null) await assertFits(calls, image, script);
+    const withoutNew = rows.flatMap(row => row.fresh === '' ? { ...row, fresh: row.text } : []);
+    const old = (await replaceList(calls, part, withoutNew, encodingsFor, null, { signal })).parts.script(calls);
+    return { count: fresh.length, script, old, left, codes: await codesLeftOut(fresh, encodingsFor, signal) };
+}

@@ -1,0 +1,124 @@
+// Builds the script that reverts another one.
+
+import { ByteList, readBytes, watchedReader } from '../bytes.js';
+import { cancelled } from '../faults.js';
+import { RESULT, SECTOR_SIZE, sectorCount } from '../module/index.js';
+import { readerForTwo } from '../read_ahead.js';
+import { Refusal, ScriptParts, passPatched, readScript, scriptForBase } from '../script/index.js';
+import { differingSectors, sectorOf } from '../sectors/index.js';
+
+/** @typedef {import('../bytes.js').Piece} Piece */
+/** @typedef {import('../bytes.js').Reader} Reader */
+/** @typedef {import('../crew/crew.js').Crew} Crew */
+/** @typedef {import('../script/base_said.js').BaseSaid} BaseSaid */
+/** @typedef {import('../script/sector_lines.js').Left} Left */
+/** @typedef {import('../script/sector_lines.js').Lines} Lines */
+/** @typedef {import('../script/script_writer.js').Script} Script */
+/** @typedef {import('../script/script.js').Pieces} Pieces */
+/** @typedef {import('./engine.js').Engine} Engine */
+/** @typedef {import('./engine.js').Watch} Watch */
+/** @typedef {import('./opened.js').OpenedTrack} OpenedTrack */
+/** @typedef {(pieces: Uint8Array[], blocks: number[]) => Promise<Lines>} Given */
+/**
+ * The script that reverts another one; how many patches of that one the image refuses, which are not reverted; and the blocks whose damage
+ * cannot come back: only their address and user data do.
+ * @typedef {{ script: Script, refused: number, left: Left[] }} Undo
+ */
+/**
+ * Why there is no such script: the other one has an error, as the line of the module says; it is for a different base; the image refuses
+ * patches of it, and the others change nothing; or it changes nothing, as on an image that is patched already.
+ * @typedef {{ script: null } & ({ why: 'error', line: string } | { why: 'base', bases: BaseSaid[] } | { why: 'refused', refused: number } |
+ *     { why: 'unchanged' })} NoUndo
+ */
+
+/** Sectors that are compared at a time, and how many times at once. */
+const COMPARE_SIZE = 256;
+const AT_ONCE = 16;
+
+/** The lines that take patched sectors back, of which many are compared at a time. */
+class TakenBack {
+    /**
+     * @param {Reader} reader of the image before
+     * @param {number} base
+     * @param {Given} given who compares
+     */
+    constructor(reader, base, given) {
+        this.reader = reader;
+        this.base = base;
+        this.given = given;
+        this.parts = new ScriptParts();
+        /** @type {number[]} the blocks of the sectors that are compared next, and what these are patched and before */
+        this.blocks = [];
+        this.patched = new ByteList();
+        this.before = new ByteList();
+        /** @type {Promise<Lines>[]} */
+        this.coming = [];
+    }
+
+    /** @param {Piece} piece of the patched image */
+    async take(piece) {
+        if (!('bytes' in piece)) return;
+        const before = await readBytes(this.reader, piece.at, piece.bytes.length);
+        for (const i of differingSectors(piece.bytes, before)) {
+            this.blocks.push(this.base + piece.at / SECTOR_SIZE + i);
+            this.patched.push(sectorOf(piece.bytes, i));
+            this.before.push(sectorOf(before, i));
+            if (this.blocks.length === COMPARE_SIZE) await this.compare();
+        }
+    }
+
+    async compare() {
+        const lines = this.given([this.patched.bytes().slice(), this.before.bytes().slice()], this.blocks);
+        [this.blocks, this.patched.size, this.before.size] = [[], 0, 0];
+        lines.catch(() => {}); // it is thrown when its turn comes
+        this.coming.push(lines);
+        if (this.coming.length >= AT_ONCE) this.parts.push(await /** @type {typeof lines} */ (this.coming.shift()));
+    }
+
+    /** All of them. */
+    async end() {
+        await this.compare();
+        for (const lines of this.coming) this.parts.push(await lines);
+        return this.parts;
+    }
+}
+
+/**
+ * Reverts a script: gives the one that makes the image of the track again from what the script makes of it. Throws what the reader throws,
+ * and a Fault, CANCELLED.
+ * @param {Pick<Engine, 'calls'> & { crew: Pick<Crew, 'given'> }} engine
+ * @param {Pick<OpenedTrack, 'image'>} opened before the script is applied
+ * @param {Pieces} script
+ * @param {{ carry?: boolean, long?: boolean }} [options] how the script is applied
+ * @param {Watch} [watch]
+ * @returns {Promise<Undo | NoUndo>}
+ */
+export async function undoScript({ calls, crew }, { image }, script, options = {}, watch = {}) {
+    const [{ base }, { carry = false, long = false }] = [image, options];
+    const read = await readScript(calls, script, long);
+    if (read instanceof Refusal) return { script: null, why: 'error', line: new TextDecoder().decode(read.text).trimEnd() };
+    if (read.bases.some(said => said.base !== base)) return { script: null, why: 'base', bases: read.bases };
+    const both = readerForTwo(readerOf(image.reader, watch));
+    const back = new TakenBack(both, base, (pieces, blocks) => crew.given('lines', pieces, { blocks, how: { carry, heal: true } }));
+    const { outcomes } = await passPatched(calls, both, read, { base, carry, near: 0 }, piece => back.take(piece));
+    const parts = await back.end();
+    if (watch.signal?.aborted) throw cancelled();
+    const refused = outcomes.filter(({ result }) => result !== RESULT.OK).length;
+    const isEmpty = parts.patches === 0 && parts.left.length === 0;
+    if (isEmpty && refused > 0) return { script: null, why: 'refused', refused };
+    if (isEmpty && outcomes.length > 0) return { script: null, why: 'unchanged' };
+    return { script: scriptForBase(parts.script(calls), base), refused, left: parts.left };
+}
+
+/**
+ * A reader that says how many sectors it has come to, and ends with its signal.
+ * @param {Reader} reader
+ * @param {Watch} watch
+ */
+function readerOf(reader, { signal, progress }) {
+    const all = sectorCount(reader.size);
+    return watchedReader(reader, at => {
+        if (signal?.aborted) throw cancelled();
+        progress?.(Math.floor(at / SECTOR_SIZE), all);
+    });
+}

@@ -1,0 +1,118 @@
+// Saves a repaired image, and shows its hash if the page can read the file.
+
+import { blocksIn, blocksText } from '../../core/sectors/index.js';
+import { sha1Of } from '../app/index.js';
+import { fileReader, readImage } from '../open/index.js';
+import { failureOfSaving, givingAll, patchedName, saveImage } from '../save/index.js';
+import * as texts from '../texts/index.js';
+import { say, told } from '../texts/index.js';
+import { askBeforeLeaving, button, element, fill, hashParts, jobBar, megabytes, messageOf, nameOf, notice, runAt } from '../ui/index.js';
+
+/** @typedef {import('../app/state.js').App} App */
+/** @typedef {import('../../core/bytes.js').Piece} Piece */
+/** @typedef {import('../../core/sectors/runs.js').Run} Run */
+/** @typedef {import('../ui/fill.js').Child} Child */
+/** @typedef {import('../save/pieces.js').SavedFile} SavedFile */
+
+const MOST_RUNS_NAMED = 8;
+
+export class RepairSaver {
+    /**
+     * @param {App} app
+     * @param {HTMLElement} place of the bar, and of what became of the image
+     */
+    constructor(app, place) {
+        this.app = app;
+        this.place = place;
+        /** Whether a file is being saved, as far as this page can know. */
+        this.saving = false;
+        askBeforeLeaving(() => this.saving);
+    }
+
+    forget() {
+        this.saving = false;
+    }
+
+    /**
+     * @param {Piece[]} pieces of the repaired image
+     * @param {number} taken how many sectors are repaired
+     * @param {Run[]} unrepaired
+     */
+    save(pieces, taken, unrepaired) {
+        return runAt(this.place, () => this.saveHere(pieces, doneWords(taken, unrepaired)));
+    }
+
+    /**
+     * @param {Piece[]} pieces
+     * @param {string} done what was repaired, in words
+     */
+    async saveHere(pieces, done) {
+        const { app, place, app: { image, second } } = this;
+        if (image === null || second === null) return;
+        const { size } = image.reader;
+        try {
+            const saved = await app.runSave((signal, cancel) => {
+                const bar = jobBar(texts.savingImage, cancel, { saves: true });
+                fill(place, ...bar.parts);
+                this.saving = true;
+                const watch = { signal, progress: (/** @type {number} */ at) => bar.at(at, size) };
+                const name = patchedName(image.name, 'repaired');
+                return saveImage([image.reader, second.reader], async () => givingAll(pieces), name, app.openFiles(), watch);
+            });
+            this.saving = saved !== null && !saved.streamed;
+            fill(place, ...saved ? this.savedWords(saved, size, done) : []);
+        } catch (error) {
+            this.saving = false;
+            fill(place, failureOfSaving(error, size));
+        }
+    }
+
+    /**
+     * @param {SavedFile} saved
+     * @param {number} size
+     * @param {string} done
+     * @returns {Child[]}
+     */
+    savedWords({ name, streamed, file }, size, done) {
+        const { app } = this;
+        const what = element('p', {}, done);
+        const said = streamed ? notice('good', say(texts.fileSaved, { name: nameOf(name) }), what, texts.othersAsBefore)
+            : notice('good', say(texts.browserIsSaving, { name: nameOf(name) }), what,
+                told(texts.keepPageOpen, { size: megabytes(size) }));
+        if (file === null) return [said];
+        const open = button('', () => {
+            readImage(app, null);
+            app.open([file], 'look');
+        }, texts.openNewImage);
+        return [said, element('dl', { class: 'hashes' }, element('dt', {}, 'SHA-1'), hashOf(app, file, size)),
+            element('div', { class: 'row' }, open)];
+    }
+}
+
+/**
+ * The hash of a saved file, which is shown as soon as it is known.
+ * @param {App} app
+ * @param {File} file
+ * @param {number} size
+ */
+function hashOf(app, file, size) {
+    const sum = element('dd', { id: 'repaired-sha1' }, '…');
+    const progress = (/** @type {number} */ done) => {
+        sum.textContent = told(texts.hashPercent, { percent: Math.floor(100 * done / size) });
+    };
+    sha1Of(app.parts, fileReader(file), app.pairing.signal, progress).then(sha1 => fill(sum, ...hashParts(sha1)),
+        error => { sum.textContent = messageOf(error); });
+    return sum;
+}
+
+/**
+ * What was repaired, and what is still damaged.
+ * @param {number} taken
+ * @param {Run[]} unrepaired
+ */
+function doneWords(taken, unrepaired) {
+    const left = blocksIn(unrepaired);
+    const still = left === 0 ? texts.noneStillDamaged
+        : told(texts.stillDamaged, { n: left, blocks: blocksText(unrepaired, MOST_RUNS_NAMED) });
+    return `${told(texts.sectorsRepaired, { n: taken })} ${still}`;
+}

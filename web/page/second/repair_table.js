@@ -1,0 +1,75 @@
+// The table of the sectors that a repair leaves damaged, with what was found in both images.
+
+import { readBytes } from '../../core/bytes.js';
+import { SECTOR_SIZE } from '../../core/module/index.js';
+import { blocksIn, findingOf, firstBlocks } from '../../core/sectors/index.js';
+import * as texts from '../texts/index.js';
+import { told } from '../texts/index.js';
+import { button, element, tableCard, term } from '../ui/index.js';
+import { sectorOfSecond } from './sector.js';
+import { fileSayer } from './where.js';
+
+/** @typedef {import('../app/state.js').App} App */
+/** @typedef {import('../../core/sectors/runs.js').Run} Run */
+/**
+ * A sector that is not repaired, with what was found in both images; `same` says whether both hold the same bytes, null if the second
+ * image does not have the block.
+ * @typedef {{ block: number, here: string, there: string, file: string, same: boolean | null }} DamageRow
+ */
+
+const MOST_ROWS = 200;
+
+/**
+ * @param {App} app
+ * @param {Run[]} unrepaired
+ */
+export async function tableOfDamage(app, unrepaired) {
+    const rows = await rowsOf(app, firstBlocks(unrepaired, MOST_ROWS));
+    if (rows.length === 0) return null;
+    const count = blocksIn(unrepaired);
+    const cells = rows.map(({ block, here, there, file }) => element('tr', {},
+        element('td', { class: 'n', 'data-l': texts.blockLabel },
+            button('slim bare tiny', () => app.goTo(block, -1, true), String(block))),
+        element('td', { class: 'mono small', 'data-l': texts.hereLabel }, here),
+        element('td', { class: 'mono small', 'data-l': texts.thereLabel }, there), element('td', { class: 'mono small wide' }, file)));
+    const head = element('tr', {}, element('th', { class: 'n' }, term('block', texts.columnBlock)), element('th', {}, texts.columnHere),
+        element('th', {}, texts.columnInSecond), element('th', {}, texts.columnFile));
+    const text = rows.map(({ block, here, there, file }) => `${block}\t${here}\t${there}\t${file}\n`).join('');
+    return tableCard(told(texts.countNotRepaired, { n: count }), head, cells, text, footOf(rows, count - rows.length));
+}
+
+/**
+ * @param {App} app
+ * @param {number[]} blocks
+ */
+async function rowsOf(app, blocks) {
+    const { calls, image, files } = app;
+    /** @type {DamageRow[]} */
+    const rows = [];
+    const fileOf = fileSayer(files);
+    if (image === null) return rows;
+    for (const block of blocks) {
+        const old = await readBytes(image.reader, (block - image.base) * SECTOR_SIZE, SECTOR_SIZE);
+        const other = await sectorOfSecond(app, block);
+        const [here, there] = [old, other].map(sector => sector === null ? texts.notThere
+            : findingOf(calls, block, calls.survey(sector, block)) || texts.notOfMode1);
+        const same = other === null ? null : old.every((it, i) => it === other[i]);
+        rows.push({ block, here, there, file: fileOf(block), same });
+    }
+    return rows;
+}
+
+/**
+ * What is said under the rows. Of a block that the second image does not have it says nothing.
+ * @param {DamageRow[]} rows
+ * @param {number} left how many blocks have no row
+ */
+function footOf(rows, left) {
+    const more = left > 0 ? `${told(texts.moreHaveNoRow, { n: left })} ` : '';
+    const same = rows.filter(row => row.same).map(row => row.block);
+    const several = same.length < 4 ? told(same.length === 1 ? texts.theBlock : texts.theBlocks, { blocks: same.join(', ') })
+        : told(texts.someOfBlocks, { n: same.length });
+    if (same.length > 0) return `${more}${told(texts.sameBytesIn, { blocks: several })} ${texts.thirdDump}`;
+    const isPart = rows.some(row => row.same === null);
+    return more + (isPart ? texts.noSoundCopyThere : texts.differInEach);
+}
