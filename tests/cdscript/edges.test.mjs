@@ -35,6 +35,13 @@ test('a cue sheet comes from standard input too', () => inDirectory(room => {
     assert.equal(tool('sh', ['-c', `"${process.execPath}" "${command}" info - < sheet`], { cwd: room }).toString(), out);
 }));
 
+test('a standard input of which something was read begins where that ended', () => inDirectory(room => {
+    write(room, { file: Buffer.concat([Buffer.alloc(2352 * 4), imageOf(room, 12)]) });
+    const both = `dd bs=2352 count=4 of=rest status=none; "${process.execPath}" "${command}" audit -`;
+    const out = tool('sh', ['-c', `{ ${both}; } < file`], { cwd: room }).toString();
+    assert.equal(out, 'sectors 12 mode1 12 damaged 0 tail 0\n');
+}));
+
 test('info says what is wrong with a standard input that is closed', () => inDirectory(room => {
     const { status, stdout } = spawnSync('sh', ['-c', `"${process.execPath}" "${command}" info - <&-`], { cwd: room, encoding: 'utf8' });
     assert.deepEqual([status, stdout.split('\n').slice(0, 2)], [1, ['-: an empty file',

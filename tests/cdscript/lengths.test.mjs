@@ -68,6 +68,18 @@ test('a file of another length gets it in each record that names it, and zeros a
     }
 }));
 
+test('a file of an image that begins with another block is replaced there', { skip }, () => inDirectory(async room => {
+    const fresh = noise(4000, 9);
+    await makeDisc(room, { 'A.BIN': noise(5000, 1), 'B.BIN': noise(100, 2) });
+    assert.equal((await run(['raw', 'disc.iso', 'later.bin', '--first', '300'], { cwd: room })).status, 0);
+    write(room, { fresh });
+    assert.equal((await run(['replace-file', 'later.bin', '/A.BIN', 'fresh', '-o', 'script'], { cwd: room })).status, 0);
+    assert.match(read(room, 'script').toString(), /^cdpatch \d\n# base 300\n/);
+    tool(program, ['apply', '--base', '300', 'later.bin', 'script', 'new.bin'], { cwd: room });
+    assert.equal((await run(['user', 'new.bin', 'new.iso'], { cwd: room })).status, 0);
+    sameFile(isoFile(room, '/A.BIN;1'), fresh, 'the new file');
+}));
+
 test('a file that is longer than its sectors is refused with both lengths', { skip }, () => inDirectory(async room => {
     await makeDisc(room, { 'A.DAT': noise(5000, 1), 'EMPTY': '' }, '-R');
     const said = async (...given) => (await replaced(room, ...given)).errors;

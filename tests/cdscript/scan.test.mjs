@@ -442,6 +442,12 @@ test('a DAT without SHA-1 is looked up by CRC32 and MD5, also for a list that la
     assert.deepEqual([status, errors], [1, 'cdscript: entries of the DAT without a size or a hash, which match no file: 1\ncdscript: verified 2, known as bad 0, not in the DAT 1\n']);
     const info = await run(['info', 'a.bin', '--dat', 'a.dat'], { cwd: room });
     assert.match(info.out, /\nverified A\.bin\n/);
+    // By one of the two alone, and a CRC32 that begins with 0.
+    const short = Array.from({ length: 1000 }, (_, i) => Buffer.from(`text ${i}`)).find(bytes => crc32Of(bytes).startsWith('0'));
+    write(room, { 'short.txt': short, 'md5.dat': `<datafile>${romWithoutSha('A.bin', image, ['md5'])}</datafile>`,
+        'crc.dat': `<datafile>${romWithoutSha('S.txt', short, ['crc'])}</datafile>` });
+    assert.match((await run(['scan', 'a.bin', '--dat', 'md5.dat'], { cwd: room })).out, /\tverified A\.bin\t/);
+    assert.match((await run(['scan', 'short.txt', '--dat', 'crc.dat'], { cwd: room })).out, /\tverified S\.txt\t/);
     const merged = await run(['merge', 'b.bin', 'a.bin', 'out', '--dat', 'a.dat'], { cwd: room });
     assert.match(merged.errors, /cdscript: out: verified A\.bin\n/);
 }));

@@ -107,7 +107,7 @@ export const GROWTH = {
     'a file of extents': size => replacedParts(size / 4),
     'a script': size => () => readScript(calls, (async function* () { yield encoded(`cdpatch 1\n${times(size, i => `set ${i} 0 41\n`)}`); })()),
     'lines that are merged': size => () => {
-        const lines = Array.from({ length: size / 4 }, (_, i) => `set ${i} 0 41 was 00`);
+        const lines = Array.from({ length: size - 1 }, (_, i) => `set ${i} 0 41 was 00`);
         return mergedLines(new ScriptModel(calls, `cdpatch 1\n${lines.join('\n')}\n`), lines, () => true);
     },
     'a patcher of white space': size => () => readPatcherText(calls, `\ncdpatch-data 1 ${' '.repeat(size)}\n`),
@@ -134,7 +134,7 @@ async function timeOf(make, size, runs) {
 export async function growthDefect(name) {
     const make = GROWTH[name];
     let size = SMALLEST;
-    while (size < LARGEST && await timeOf(make, size, 1) < ENOUGH) size *= 2;
+    while (size < LARGEST && await timeOf(make, size, 2) < ENOUGH) size *= 2;
     for (let runs = 1; runs <= 2; runs++) {
         const [small, large] = [await timeOf(make, size, runs + 1), await timeOf(make, LARGER * size, runs)];
         if (large <= MOST * small + NOISE) return null;

@@ -212,6 +212,8 @@ is_unfit() {
     ! release unfit && grep -q "^unfit to be released: .*$1" log && [ -z "$(ls made)" ]
 }
 
+names_release() { bash release/tools/toolchain.sh > log && grep -qF "release 'a-kit' is none that was tried" log; }
+
 # A make dist of a tree in which nothing of the owner is filled in.
 warns_once() {
     rm -rf unfilled
@@ -263,6 +265,7 @@ test_release() {
     unfit "is not of version $version with a date" sed -i '0,/^## [0-9.]* .*/s//## '"$version"' (soon)/' CHANGELOG.md
     unfit "is not of version $version with a date" sed -i '0,/^## /s//## Unreleased\n\n&/' CHANGELOG.md
     LOGIC=0123456789abcdef unfit 'logic is not the one that docs/TRUST.md names' true
+    wanted "a toolchain's release that was not tried is named, and passes" names_release
     unfit "verdict 'logic=proved'" sed -i s/proved/not-proved/ library/cdpatch-wasm64.txt
     unfit 'the notices' sed -i 1d library/NOTICES
     unfit 'cdpatch.wasm is not what' cp tools/fit.sh library/cdpatch.wasm

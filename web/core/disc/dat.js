@@ -203,7 +203,7 @@ export class KnownDumps {
         }
         this.dumps.set(key, { name, size, isBad, md5: sha1 === '' ? copied(md5) : '', names: null });
         this.sizes.add(size);
-        if (sha1 === '') this.needs[crc32 === '' ? 'md5' : 'crc32'] = true;
+        if (sha1 === '' && crc32 !== '') this.needs.crc32 = true;
         if (sha1 === '' && md5 !== '') this.needs.md5 = true;
     }
 
