@@ -63,7 +63,7 @@ test('a check of a file says how far it has come, and can be cancelled', async (
     const told = [];
     const ask = signal => checkWork(app, work({ reader: fileReader(file) }), { signal, progress: (...given) => told.push(given) });
     assert.equal((await ask({ aborted: false })).status, 0);
-    assert.deepEqual(told[0], [0, game.bytes.length]);
+    assert.deepEqual(told[0], [0, game.sectors]);
     await assert.rejects(ask({ aborted: true }), { name: 'Fault', code: 'cancelled' });
 });
 

@@ -9,7 +9,8 @@ const { judgeImage } = await page('player/verdict.js');
 const { reasonForPlayer, reasonsOf, refusalForPlayer } = await page('player/reason.js');
 const { applyPatches } = await page('../core/script/patches.js');
 const { bytesOfPieces } = await page('../core/bytes.js');
-const { isPatched, scriptFor } = await page('save/patch_job.js');
+const { validScript } = await page('../core/tasks/index.js');
+const { isPatched } = await page('save/patch_job.js');
 const { Crew, localHand } = await page('../core/crew/crew.js');
 const { JOBS } = await page('../core/jobs/jobs.js');
 
@@ -19,7 +20,7 @@ const game = imageOf([ascii('hello'), ascii('world'), ascii('again')]);
 
 /** The image that a script makes. */
 async function patchedBy(script, image = game) {
-    const { pieces, status } = await applyPatches(calls, image.reader, await scriptFor(app, script, 0), { base: 0 });
+    const { pieces, status } = await applyPatches(calls, image.reader, await validScript(calls, [ascii(script)]), { base: 0 });
     assert.equal(status, 0);
     const parts = [];
     for await (const bytes of bytesOfPieces(image.reader, pieces)) parts.push(...bytes);

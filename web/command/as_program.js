@@ -3,9 +3,9 @@
 import { sampledBase } from '../core/disc/index.js';
 import { FAULT, Fault, failedBy } from '../core/faults.js';
 import { SECTOR_SIZE, STATUS } from '../core/module/index.js';
-import { NEAR_WRITTEN, passPatched } from '../core/script/index.js';
+import { NEAR_WRITTEN } from '../core/script/index.js';
 import { auditText, imageTooLong, listText } from '../core/sectors/index.js';
-import { assertBase, validScript } from '../core/tasks/index.js';
+import { applyScript, validScript } from '../core/tasks/index.js';
 import { MESSAGES } from './messages.js';
 import { openTrackOf } from './opening.js';
 
@@ -130,19 +130,13 @@ async function scriptNamed(run) {
 }
 
 /**
- * The image that a job names and its base. Throws a Fault if the script is for another base.
- * @param {Run} run
- * @param {ReadScript} script
+ * Says what to do if a script is for another base.
+ * @param {unknown} error
+ * @returns {never}
  */
-async function imageForScript(run, script) {
-    const image = await openImage(run);
-    try {
-        assertBase(script, image.base);
-    } catch (error) {
-        if (!failedBy(error, FAULT.OTHER_BASE) || !error.facts.other) throw error;
-        throw new Fault(`${error.message}: give --base ${error.facts.other.base}, or take that line out`);
-    }
-    return image;
+function adviseBase(error) {
+    if (!failedBy(error, FAULT.OTHER_BASE) || !error.facts.other) throw error;
+    throw new Fault(`${error.message}: give --base ${error.facts.other.base}, or take that line out`);
 }
 
 /**
@@ -152,11 +146,11 @@ async function imageForScript(run, script) {
  * @param {ReadScript} script
  * @param {(piece: Piece) => void | Promise<void>} [take]
  */
-async function patch(run, { reader, base }, script, take) {
-    const { carry = false } = run.options;
-    const taken = imageTooLong(reader.size) ? null : take; // of such an image nothing is written, only said
-    const how = { base, carry, near: NEAR_WRITTEN };
-    const made = await orSay(OF_IMAGES, () => passPatched(run.calls, run.watched(reader), script, how, taken));
+async function patch(run, image, script, take) {
+    const { carry } = run.options;
+    const taken = imageTooLong(image.reader.size) ? null : take; // of such an image nothing is written, only said
+    const how = { carry, near: NEAR_WRITTEN, take: taken };
+    const made = await orSay(OF_IMAGES, () => applyScript(run, image, script, how, run.watch).catch(adviseBase));
     if (made.status === STATUS.FAILED) throw programFault(made.text);
     await run.output.write(made.text);
     run.output.flush();
@@ -165,7 +159,7 @@ async function patch(run, { reader, base }, script, take) {
 
 export const checkJob = asProgram(async run => {
     const script = await scriptNamed(run);
-    return patch(run, await imageForScript(run, script), script);
+    return patch(run, await openImage(run), script);
 });
 
 export const applyJob = asProgram(async run => {
@@ -173,7 +167,7 @@ export const applyJob = asProgram(async run => {
     // The program makes OUT before it reads the image, which may be a pipe.
     await orSay(OF_IMAGES, () => run.files.begin(run.names[0]));
     const out = await orSay(OF_IMAGES, () => run.files.make(run.names[2]));
-    const image = await imageForScript(run, script);
+    const image = await openImage(run);
     const status = await patch(run, image, script, piece => out.writePiece(run.watched(image.reader), piece));
     await orSay(OF_IMAGES, () => out.finish());
     return status;

@@ -3,12 +3,13 @@
 import { READ_SIZE, bytesOfPieces, readBytes } from '../core/bytes.js';
 import { FAULT, failedBy } from '../core/faults.js';
 import { LAST_BASE, RECORD_SIZE, SECTOR_SIZE, STATUS, sectorCount } from '../core/module/index.js';
-import { passPatched, readLines } from '../core/script/index.js';
+import { readLines } from '../core/script/index.js';
 import { LONG_IMAGE, imageTooLong } from '../core/sectors/index.js';
-import { scriptFor, validScript } from '../core/tasks/index.js';
+import { applyScript, validScript } from '../core/tasks/index.js';
 import { ScriptError } from './errors.js';
 import { assertWanted, piecesOf, scriptSource, sourceOf, watchedSource } from './inputs.js';
 
+/** @typedef {import('../core/bytes.js').Piece} Piece */
 /** @typedef {import('../core/module/calls.js').Calls} Calls */
 /** @typedef {import('./cdpatch.js').Input} Input */
 /** @typedef {import('./cdpatch.js').Patched} Patched */
@@ -108,16 +109,17 @@ export async function patchLines(calls, script) {
 export async function patched(calls, image, script, { base = 0, carry = false, signal, progress = () => {} }, write) {
     assertBase(base);
     const source = watchedSource(sourceOf(image), signal, at => write || progress(at, source.size));
-    const read = await scriptFor(calls, piecesOf(scriptSource(script)), base).catch(refuse);
+    const read = await validScript(calls, piecesOf(scriptSource(script))).catch(refuse);
     let done = 0;
-    const made = await passPatched(calls, source, read, { base, carry }, write && (async piece => {
+    const take = write && (async (/** @type {Piece} */ piece) => {
         for await (const bytes of bytesOfPieces(source, [piece])) {
             assertWanted(signal);
             await write(bytes);
             done += bytes.length;
             progress(done, source.size);
         }
-    }));
+    });
+    const made = await applyScript({ calls }, { reader: source, base }, read, { carry, take }).catch(refuse);
     if (write === null) progress(source.size, source.size);
     return { ...reportOf(made), outcomes: made.outcomes };
 }

@@ -1,5 +1,6 @@
 // What a user does with a disc: each task once, for all doors. Tasks return data. Doors ask, show the progress, and print or draw.
 
+export { applyInMemory, applyScript } from './apply.js';
 export { addressShift, commonPart, isSameRange } from './common_part.js';
 export { FIELD_COUNT, SECOND_STATE, compareTrack, diffRange, differRange, findDifferences } from './compare.js';
 export { passFile, passUser, userRange } from './convert.js';
@@ -12,6 +13,6 @@ export { repairTrack } from './repair.js';
 export { assertHasRoom, leftHitText, replaceHits } from './replace.js';
 export { filledUp, replaceBytes, replaceRange, sectorsOfRange, untriedLines } from './replace_bytes.js';
 export { placesOfFile, replaceFile, sharingText } from './replace_file.js';
-export { assertBase, scriptFor, validScript } from './script_for.js';
+export { assertBase, validScript } from './script_for.js';
 export { exportTable, importTable } from './table.js';
 export { undoScript } from './undo.js';

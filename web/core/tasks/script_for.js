@@ -29,15 +29,3 @@ export function assertBase({ bases }, base) {
     const other = bases.find(said => said.base !== base);
     if (other) throw new Fault(baseFault(bases, base), FAULT.OTHER_BASE, { other });
 }
-
-/**
- * A script for an image that begins with a block. Throws what the two functions above throw.
- * @param {Calls} calls
- * @param {Pieces} pieces
- * @param {number} base
- */
-export async function scriptFor(calls, pieces, base) {
-    const script = await validScript(calls, pieces);
-    assertBase(script, base);
-    return script;
-}

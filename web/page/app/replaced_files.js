@@ -1,11 +1,13 @@
 // The lines of a script that replace files of the disc: those of a file go when it is replaced once more.
 
 import { RESULT, VERB } from '../../core/module/index.js';
-import { NEWEST_VERSION, Refusal, headLine, linesOfText, passPatched, patchesOf, readScript, userPlace } from '../../core/script/index.js';
+import { NEWEST_VERSION, headLine, linesOfText, patchesOf, userPlace } from '../../core/script/index.js';
+import { applyScript, validScript } from '../../core/tasks/index.js';
 
 /** @typedef {import('../../core/module/calls.js').PatchRange} PatchRange */
 /** @typedef {import('../../core/bytes.js').Reader} Reader */
 /** @typedef {import('../../core/script/model.js').UserRange} UserRange */
+/** @typedef {import('../../core/turns.js').Signal} Signal */
 /** @typedef {import('./script_lines.js').ScriptLines} ScriptLines */
 /** @typedef {{ number: number, text: string, patch: PatchRange }} Line */
 
@@ -41,12 +43,12 @@ function mayReplace({ patch }, places) {
  * @param {ScriptLines} script
  * @param {{ reader: Reader, base: number }} image
  * @param {Line[]} lines
+ * @param {Signal} [signal]
  */
-async function fittingLines(script, image, lines) {
+async function fittingLines(script, image, lines, signal) {
     const text = [headLine(script.versionName() || NEWEST_VERSION.name), ...lines.map(line => line.text), ''].join('\n');
-    const read = await readScript(script.calls, [new TextEncoder().encode(text)]);
-    if (read instanceof Refusal) return [];
-    const { outcomes } = await passPatched(script.calls, image.reader, read, { base: image.base, carry: true });
+    const read = await validScript(script.calls, [new TextEncoder().encode(text)], true);
+    const { outcomes } = await applyScript(script, image, read, { carry: true }, { signal });
     return outcomes.flatMap(({ number, result }) => result === RESULT.OK ? lines[number - 2] : []);
 }
 
@@ -56,14 +58,15 @@ async function fittingLines(script, image, lines) {
  * @param {ScriptLines} script
  * @param {{ reader: Reader, base: number }} image
  * @param {UserRange[]} places of the file
+ * @param {Signal} [signal]
  */
-export async function linesReplacing(script, image, places) {
+export async function linesReplacing(script, image, places, signal) {
     let left = linesIn(script, places).filter(line => mayReplace(line, places));
     /** @type {Line[]} */
     let found = [];
     // Of two lines that replace the same bytes of the disc, only one fits in a run.
     for (let run = 0; run < MOST_RUNS && left.length > 0; run++) {
-        const fitting = await fittingLines(script, image, left);
+        const fitting = await fittingLines(script, image, left, signal);
         found = found.concat(fitting);
         const known = new Set(fitting);
         left = fitting.length > 0 ? left.filter(line => !known.has(line)) : [];

@@ -8,7 +8,7 @@ import { passFile, placesOfFile, replaceFile, sharingText } from '../../core/tas
 import { visible } from '../../core/texts/index.js';
 import { ReplacedFiles, linesIn, linesReplacing } from '../app/index.js';
 import { fileReader } from '../open/index.js';
-import { downloadBytes, watched } from '../save/index.js';
+import { downloadBytes } from '../save/index.js';
 import * as texts from '../texts/index.js';
 import { counted, say, told } from '../texts/index.js';
 import { announce, button, element, fill, isCancelled, jobBar, keyed, messageParts, nameOf, notice, runAt, seen } from '../ui/index.js';
@@ -227,8 +227,7 @@ export class FilesList {
             if (made.script === null) throw new Fault(leftText(made.left, image.part.name, MOST_RUNS));
             if (made.script.long) throw new Fault(texts.scriptTooLongToReplace);
             const places = placesOfFile(file);
-            const reader = watched(image.reader, { ...watch, progress: () => {} });
-            const earlier = await linesReplacing(script, { reader, base: image.base }, places);
+            const earlier = await linesReplacing(script, image, places, watch.signal);
             const come = linesMade(made.script);
             const gone = this.app.changeScript(lines => this.replaced.replace(lines, image.reader, chosen.path, come, earlier));
             return this.addedWords(chosen, fresh.size, come, { gone, places, sharing: made.sharing });

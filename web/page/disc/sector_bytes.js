@@ -2,7 +2,7 @@
 
 import { readBytes } from '../../core/bytes.js';
 import { SECTOR_SIZE } from '../../core/module/index.js';
-import { applyPatches } from '../../core/script/index.js';
+import { applyInMemory } from '../../core/tasks/index.js';
 
 /** @typedef {import('../app/state.js').App} App */
 /** @typedef {import('../app/state.js').Image} Image */
@@ -18,7 +18,8 @@ export async function sectorBytes(app, { reader, base }, block) {
     const old = await readBytes(reader, at, SECTOR_SIZE);
     const script = app.script.scriptNear(block);
     if (script === '') return { old, fresh: old };
-    const { pieces } = await applyPatches(app.calls, reader, { text: new TextEncoder().encode(script), bases: [] }, { base, carry: true });
+    const read = { text: new TextEncoder().encode(script), bases: [] };
+    const { pieces } = await applyInMemory(app, { reader, base }, read, { carry: true });
     for (const piece of pieces) {
         if (!('bytes' in piece) || at < piece.at || at >= piece.at + piece.bytes.length) continue;
         return { old, fresh: piece.bytes.subarray(at - piece.at, at - piece.at + SECTOR_SIZE) };

@@ -3,11 +3,11 @@
 
 import { discFault } from '../../core/disc/index.js';
 import { RESULT, SECTOR_SIZE } from '../../core/module/index.js';
-import { oldBytesOf, passPatched, wordsOn } from '../../core/script/index.js';
+import { oldBytesOf, wordsOn } from '../../core/script/index.js';
 import { surveyCounts } from '../../core/sectors/index.js';
 import { openTrack } from '../../core/tasks/index.js';
 import { sha1Of } from '../app/index.js';
-import { assertNotTooLong, isPatched, scriptFor, watched } from '../save/index.js';
+import { isPatched, tryWork } from '../save/index.js';
 import * as texts from '../texts/index.js';
 import { told } from '../texts/index.js';
 
@@ -57,10 +57,7 @@ export async function judgeImage(app, data, image, watch) {
     const early = addressedBase(image, data.base) === data.base ? '' : await hash();
     const base = [data.image.sha1, data.result].includes(early) ? data.base : addressedBase(image, data.base);
     const work = { reader, base, script: data.script, carry: data.carry };
-    const script = await scriptFor(app, data.script, base);
-    assertNotTooLong(reader);
-    const seen = watched(reader, { signal: watch.signal, progress: () => {} });
-    const { outcomes } = await passPatched(app.calls, seen, script, { base, carry: data.carry });
+    const { outcomes } = await tryWork(app, work, { signal: watch.signal });
     const refused = outcomes.filter(it => it.result !== RESULT.OK);
     const words = refused.length === 0 ? '' : wordsOn(app.calls.outcomeLine(1, refused[0].result, refused[0].block, refused[0].offset), 1);
     const { without } = oldBytesOf(app.calls, data.script);

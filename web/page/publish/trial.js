@@ -1,11 +1,8 @@
 // What a patcher is made of: the script as it was tried on the image, and the name that the patched image gets.
 
 import { RESULT } from '../../core/module/index.js';
-import { pieceReader } from '../../core/piece_reader.js';
-import { applyPatches } from '../../core/script/index.js';
-import { readByHands } from '../open/index.js';
 import { isImageName } from '../player/index.js';
-import { patchedName, scriptFor } from '../save/index.js';
+import { patchedName, patchedWork } from '../save/index.js';
 import { stemOf } from '../ui/index.js';
 
 /** @typedef {import('../app/state.js').App} App */
@@ -39,16 +36,15 @@ const LONGEST_PROPOSED = 100;
  */
 export async function triedOn(app, image, carry) {
     const script = app.script.text();
-    const reader = readByHands(image.reader, app.crew, { aborted: false });
-    const made = await applyPatches(app.calls, reader, await scriptFor(app, script, image.base), { base: image.base, carry });
-    const refused = made.outcomes.filter(it => it.result !== RESULT.OK);
+    const { outcomes, result } = await patchedWork(app, { reader: image.reader, base: image.base, script, carry });
+    const refused = outcomes.filter(it => it.result !== RESULT.OK);
     return {
         script,
-        patches: made.outcomes.length,
+        patches: outcomes.length,
         refused: refused.length,
         first: refused.reduce((first, { number }) => first === 0 ? number : Math.min(first, number), 0),
-        damaged: made.outcomes.filter(it => it.result === RESULT.DAMAGED).length,
+        damaged: outcomes.filter(it => it.result === RESULT.DAMAGED).length,
         ...app.script.oldBytes(),
-        result: pieceReader(image.reader, made.pieces),
+        result,
     };
 }

@@ -1,12 +1,13 @@
 // What is done with a script and an image: checking, and saving the patched image.
 
-import { readBytes, watchedReader } from '../../core/bytes.js';
-import { FAULT, Fault, cancelled, failedBy } from '../../core/faults.js';
-import { MOST_SCRIPT_BYTES, MOST_SECTORS, STATUS } from '../../core/module/index.js';
+import { readBytes } from '../../core/bytes.js';
+import { FAULT, Fault, failedBy } from '../../core/faults.js';
+import { MOST_SCRIPT_BYTES, MOST_SECTORS, SECTOR_SIZE, STATUS } from '../../core/module/index.js';
+import { pieceReader } from '../../core/piece_reader.js';
 import { readerForTwo } from '../../core/read_ahead.js';
-import { NEAR_HELD, NEAR_WRITTEN, passPatched } from '../../core/script/index.js';
+import { NEAR_HELD, NEAR_WRITTEN } from '../../core/script/index.js';
 import { imageTooLong } from '../../core/sectors/index.js';
-import { scriptFor as scriptOf } from '../../core/tasks/index.js';
+import { applyInMemory, applyScript, validScript } from '../../core/tasks/index.js';
 import { RunningHash } from '../app/index.js';
 import { readByHands } from '../open/index.js';
 import * as texts from '../texts/index.js';
@@ -17,6 +18,7 @@ import { saveImage } from './pieces.js';
 import { workRefused } from './refused.js';
 
 /** @typedef {import('../app/state.js').App} App */
+/** @typedef {import('../../core/bytes.js').Piece} Piece */
 /** @typedef {import('../../core/bytes.js').Reader} Reader */
 /** @typedef {import('../../core/script/patch_run.js').Take} Take */
 /** @typedef {import('../../core/script/patches.js').Patched} Patched */
@@ -25,20 +27,20 @@ import { workRefused } from './refused.js';
 /** @typedef {import('./chosen_file.js').OpenFile} OpenFile */
 /** Who watches the work; `accept` is awaited before an image that is saved is whole. */
 /** @typedef {{ signal: { aborted: boolean }, progress: (done: number, all: number) => void, accept?: () => Promise<void> }} PatchWatch */
+/** @typedef {import('../../core/tasks/engine.js').Watch} TaskWatch */
 /**
  * The file that was saved, what the program prints, and the file's size and its SHA-1, if one was asked for.
  * @typedef {import('./pieces.js').SavedFile & { made: Patched, size: number, sha1: string }} Saved
  */
 
 /**
- * A script for an image that begins with a block. Throws a Fault with advice.
+ * A script without faults. Throws a Fault with advice.
  * @param {Pick<App, 'calls'>} app
  * @param {string} script
- * @param {number} base
  */
-export async function scriptFor({ calls }, script, base) {
+async function readWork({ calls }, script) {
     await nextTurn();
-    const read = await scriptOf(calls, [new TextEncoder().encode(script)], base).catch(refuse);
+    const read = await validScript(calls, [new TextEncoder().encode(script)]).catch(refuse);
     await nextTurn();
     return read;
 }
@@ -60,45 +62,53 @@ export function assertNotTooLong({ size }) {
 }
 
 /**
- * A reader that ends a job which was cancelled, and says how far it has come.
- * @param {Reader} reader
- * @param {PatchWatch} watch
- * @returns {Reader}
+ * What would become of each patch. Throws a Fault with advice.
+ * @param {Pick<App, 'calls'>} app
+ * @param {PatchWork} work
+ * @param {TaskWatch} [watch]
  */
-export function watched(reader, { signal, progress }) {
-    return watchedReader(reader, at => {
-        if (signal.aborted) throw cancelled();
-        progress(at, reader.size);
-    });
+export async function tryWork(app, { reader, base, script, carry }, watch) {
+    const read = await readWork(app, script);
+    assertNotTooLong(reader);
+    return applyScript(app, { reader, base }, read, { carry }, watch).catch(refuse);
 }
 
 /**
- * What would become of each patch.
+ * As tryWork, but many sectors may be read, and the workers help.
  * @param {App} app
  * @param {PatchWork} work
  * @param {PatchWatch} watch
- * @returns {Promise<Patched>}
  */
-export async function checkWork(app, { reader, base, script, carry }, watch) {
-    const read = await scriptFor(app, script, base);
-    assertNotTooLong(reader);
-    return passPatched(app.calls, watched(readByHands(reader, app.crew, watch.signal), watch), read, { base, carry });
+export function checkWork(app, work, watch) {
+    return tryWork(app, { ...work, reader: readByHands(work.reader, app.crew, watch.signal) }, watch);
+}
+
+/**
+ * As checkWork, with the patched image.
+ * @param {App} app
+ * @param {PatchWork} work
+ */
+export async function patchedWork(app, { reader, base, script, carry }) {
+    const image = { reader: readByHands(reader, app.crew, { aborted: false }), base };
+    const { outcomes, pieces } = await applyInMemory(app, image, await readWork(app, script), { carry }).catch(refuse);
+    return { outcomes, result: pieceReader(reader, pieces) };
 }
 
 /**
  * Whether the script, without the old bytes that it asks for, would change nothing in the image.
- * @param {App} app
+ * @param {Pick<App, 'calls'>} app
  * @param {Pick<PatchWork, 'reader' | 'base' | 'script'>} work
  */
 export async function isPatched(app, { reader, base, script }) {
     let same = true;
     const both = readerForTwo(reader);
-    const how = { base, carry: true, withoutOld: true };
-    const made = await passPatched(app.calls, both, await scriptFor(app, script, base), how, async piece => {
+    const take = async (/** @type {Piece} */ piece) => {
         if (!('bytes' in piece) || !same) return;
         const there = await readBytes(both, piece.at, piece.bytes.length);
         same = there.every((byte, i) => byte === piece.bytes[i]);
-    });
+    };
+    const how = { carry: true, withoutOld: true, take };
+    const made = await applyScript(app, { reader: both, base }, await readWork(app, script), how).catch(refuse);
     return same && made.status === STATUS.DONE && made.outcomes.length > 0;
 }
 
@@ -115,15 +125,18 @@ export async function saveWork(app, { reader, base, carry, script, opened = [] }
     assertNotTooLong(reader);
     /** @type {Patched[]} */
     const made = [];
+    const { signal, accept, progress } = watch;
     const making = async () => {
-        const read = await scriptFor(app, script, base);
+        const read = await readWork(app, script);
+        const image = { reader: readByHands(reader, app.crew, signal), base };
         // The pieces of a download are held, and nothing is written before it: what is read shows how far it has come.
-        const byHands = readByHands(reader, app.crew, watch.signal);
-        const [source, near] = canStream() ? [byHands, NEAR_WRITTEN] : [watched(byHands, watch), NEAR_HELD];
-        return async (/** @type {Take} */ take) => void made.push(await passPatched(app.calls, source, read, { base, carry, near }, take));
+        const reading = { signal, progress: (/** @type {number} */ sectors) => progress(sectors * SECTOR_SIZE, reader.size) };
+        const [near, seen] = canStream() ? [NEAR_WRITTEN, {}] : [NEAR_HELD, reading];
+        return async (/** @type {Take} */ take) => {
+            made.push(await applyScript(app, image, read, { carry, near, take }, seen).catch(refuse));
+        };
     };
     const hash = wanted === '' ? null : new RunningHash(app.parts);
-    const { signal, accept, progress } = watch;
     const saving = { signal, accept, progress: (/** @type {number} */ done) => progress(done, reader.size) };
     try {
         const saved = await saveImage([reader], making, name, opened, { ...saving, ...hash && comparing(hash, wanted) });

@@ -204,7 +204,7 @@ export class CheckCard {
                 const bar = jobBar(texts.checkingScript, cancel);
                 fill(this.body, ...bar.parts);
                 const work = { reader: image.reader, base: image.base, script: lines.text(), carry: this.carry.checked };
-                const patched = await checkWork(this.app, work, { signal, progress: bar.at });
+                const patched = await checkWork(this.app, work, { signal, progress: bar.sectors });
                 const already = patched.outcomes.some(it => it.result !== RESULT.OK) && await isPatched(this.app, work);
                 if (this.app.image !== image || work.script !== lines.text()) return;
                 this.already = already;
