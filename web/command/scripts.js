@@ -1,8 +1,8 @@
 // The jobs that write scripts of whole images: `diff`, `rebuilds` and `undo`. The core has applied what it writes.
 
-import { Fault } from '../core/faults.js';
+import { FAULT, Fault, failedBy } from '../core/faults.js';
 import { RECORD_SIZE } from '../core/module/index.js';
-import { LineList, ScriptParts, assertFits, baseComment, baseFault, headLine, leftText, scriptForBase } from '../core/script/index.js';
+import { LineList, ScriptParts, assertFits, baseComment, headLine, leftText, scriptForBase } from '../core/script/index.js';
 import { blocksIn, blocksText, isDamaged } from '../core/sectors/index.js';
 import { compareTrack, openTrack, undoScript } from '../core/tasks/index.js';
 import { differingFields } from './fields.js';
@@ -150,10 +150,19 @@ function refusedText(refused, name) {
  * @param {NoUndo} made
  * @param {DiscImage} image
  */
-function whyNoUndo(made, { name, base }) {
-    if (made.why === 'error') return made.line.replace(/^cdpatch: /, '');
-    if (made.why === 'base') return baseFault(made.bases, base);
+function whyNoUndo(made, { name }) {
     return made.why === 'refused' ? refusedText(made.refused, name) : NOTHING_TO_TAKE_BACK;
+}
+
+/**
+ * Says the error of a script as this command does, and not as the program.
+ * @param {unknown} error
+ * @returns {never}
+ */
+function scriptFailed(error) {
+    if (!failedBy(error, FAULT.SCRIPT)) throw error;
+    const { message } = error;
+    throw new Fault(message.replace(/^cdpatch: /, ''));
 }
 
 /** @param {Run} run */
@@ -163,7 +172,7 @@ export async function undoJob(run) {
     const { image } = opened;
     const script = run.files.piecesOf(run.names[1]);
     const engine = { calls: run.calls, crew: run.crew.crew(image.sectors, UNDOING_THREADS) };
-    const made = await undoScript(engine, opened, script, run.options, run.watch);
+    const made = await undoScript(engine, opened, script, run.options, run.watch).catch(scriptFailed);
     if (made.script === null) throw new Fault(whyNoUndo(made, image));
     if (made.refused > 0) run.say(refusedText(made.refused, image.name));
     sayOfRuns(run, made.left, left => left.why === 'damaged' ? `${blocksText([left])}: ${DAMAGE_STAYS_OUT}` : leftText([left], image.name));

@@ -1,16 +1,18 @@
 // Builds the script that reverts another one.
 
-import { ByteList, readBytes, watchedReader } from '../bytes.js';
+import { ByteList, readBytes } from '../bytes.js';
 import { cancelled } from '../faults.js';
-import { RESULT, SECTOR_SIZE, sectorCount } from '../module/index.js';
+import { RESULT, SECTOR_SIZE } from '../module/index.js';
 import { readerForTwo } from '../read_ahead.js';
-import { Refusal, ScriptParts, passPatched, readScript, scriptForBase } from '../script/index.js';
+import { ScriptParts, scriptForBase } from '../script/index.js';
 import { differingSectors, sectorOf } from '../sectors/index.js';
+import { applyScript } from './apply.js';
+import { validScript } from './script_for.js';
+import { watchedSectors } from './watched.js';
 
 /** @typedef {import('../bytes.js').Piece} Piece */
 /** @typedef {import('../bytes.js').Reader} Reader */
 /** @typedef {import('../crew/crew.js').Crew} Crew */
-/** @typedef {import('../script/base_said.js').BaseSaid} BaseSaid */
 /** @typedef {import('../script/sector_lines.js').Left} Left */
 /** @typedef {import('../script/sector_lines.js').Lines} Lines */
 /** @typedef {import('../script/script_writer.js').Script} Script */
@@ -25,10 +27,9 @@ import { differingSectors, sectorOf } from '../sectors/index.js';
  * @typedef {{ script: Script, refused: number, left: Left[] }} Undo
  */
 /**
- * Why there is no such script: the other one has an error, as the line of the module says; it is for a different base; the image refuses
- * patches of it, and the others change nothing; or it changes nothing, as on an image that is patched already.
- * @typedef {{ script: null } & ({ why: 'error', line: string } | { why: 'base', bases: BaseSaid[] } | { why: 'refused', refused: number } |
- *     { why: 'unchanged' })} NoUndo
+ * Why there is no such script: the image refuses patches of the other one, and those that it does not refuse change nothing; or the other
+ * one changes nothing, as on an image that is patched already.
+ * @typedef {{ script: null } & ({ why: 'refused', refused: number } | { why: 'unchanged' })} NoUndo
  */
 
 /** Sectors that are compared at a time, and how many times at once. */
@@ -85,7 +86,7 @@ class TakenBack {
 
 /**
  * Reverts a script: gives the one that makes the image of the track again from what the script makes of it. Throws what the reader throws,
- * and a Fault, CANCELLED.
+ * and a Fault: SCRIPT, OTHER_BASE, or CANCELLED.
  * @param {Pick<Engine, 'calls'> & { crew: Pick<Crew, 'given'> }} engine
  * @param {Pick<OpenedTrack, 'image'>} opened before the script is applied
  * @param {Pieces} script
@@ -95,12 +96,11 @@ class TakenBack {
  */
 export async function undoScript({ calls, crew }, { image }, script, options = {}, watch = {}) {
     const [{ base }, { carry = false, long = false }] = [image, options];
-    const read = await readScript(calls, script, long);
-    if (read instanceof Refusal) return { script: null, why: 'error', line: new TextDecoder().decode(read.text).trimEnd() };
-    if (read.bases.some(said => said.base !== base)) return { script: null, why: 'base', bases: read.bases };
-    const both = readerForTwo(readerOf(image.reader, watch));
+    const read = await validScript(calls, script, long);
+    const both = readerForTwo(watchedSectors(image.reader, watch));
     const back = new TakenBack(both, base, (pieces, blocks) => crew.given('lines', pieces, { blocks, how: { carry, heal: true } }));
-    const { outcomes } = await passPatched(calls, both, read, { base, carry, near: 0 }, piece => back.take(piece));
+    const take = (/** @type {Piece} */ piece) => back.take(piece);
+    const { outcomes } = await applyScript({ calls }, { reader: both, base }, read, { carry, near: 0, take });
     const parts = await back.end();
     if (watch.signal?.aborted) throw cancelled();
     const refused = outcomes.filter(({ result }) => result !== RESULT.OK).length;
@@ -108,17 +108,4 @@ export async function undoScript({ calls, crew }, { image }, script, options = {
     if (isEmpty && refused > 0) return { script: null, why: 'refused', refused };
     if (isEmpty && outcomes.length > 0) return { script: null, why: 'unchanged' };
     return { script: scriptForBase(parts.script(calls), base), refused, left: parts.left };
-}
-
-/**
- * A reader that says how many sectors it has come to, and ends with its signal.
- * @param {Reader} reader
- * @param {Watch} watch
- */
-function readerOf(reader, { signal, progress }) {
-    const all = sectorCount(reader.size);
-    return watchedReader(reader, at => {
-        if (signal?.aborted) throw cancelled();
-        progress?.(Math.floor(at / SECTOR_SIZE), all);
-    });
 }

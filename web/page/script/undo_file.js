@@ -1,12 +1,12 @@
 // The script that takes the open one back, as a file.
 
-import { baseFault } from '../../core/script/index.js';
+import { FAULT, failedBy } from '../../core/faults.js';
 import { blocksText } from '../../core/sectors/index.js';
 import { undoScript } from '../../core/tasks/index.js';
 import { downloadBytes } from '../save/index.js';
 import * as texts from '../texts/index.js';
 import { say, told } from '../texts/index.js';
-import { capital, element, fill, isCancelled, isDisabled, jobBar, nameOf, notice, runAt, sayAt, sentence } from '../ui/index.js';
+import { element, fill, isCancelled, isDisabled, jobBar, nameOf, notice, runAt, sayAt, sentence } from '../ui/index.js';
 
 /** @typedef {import('../app/state.js').App} App */
 /** @typedef {import('../app/state.js').Image} Image */
@@ -46,10 +46,10 @@ async function makeUndoAt(app, image, { bar: place, said }, lines, carry) {
             return undoScript(app, image.opened, script, { carry }, { signal, progress: bar.sectors });
         });
         if (made.script !== null) downloadBytes(made.script.pieces, name);
-        sayAt(said, made.script === null ? noUndoWords(made, image.base) : savedWords(made, name, carry));
+        sayAt(said, made.script === null ? noUndoWords(made) : savedWords(made, name, carry));
     } catch (error) {
         sayAt(said, isCancelled(error) ? notice('plain', texts.jobCancelled, texts.noUndoMade)
-            : notice('bad', sentence(error), texts.noUndoMade));
+            : notice('bad', failedBy(error, FAULT.SCRIPT) ? texts.scriptHasFault : sentence(error), texts.noUndoMade));
     } finally {
         fill(place);
     }
@@ -71,11 +71,8 @@ function savedWords({ left, refused, script: { long } }, name, carry) {
 /**
  * Why there is no such script.
  * @param {NoUndo} made
- * @param {number} base of the image
  */
-function noUndoWords(made, base) {
-    if (made.why === 'error') return notice('bad', texts.scriptHasFault, texts.noUndoMade);
-    if (made.why === 'base') return notice('bad', `${capital(baseFault(made.bases, base))}.`, texts.noUndoMade);
+function noUndoWords(made) {
     const why = made.why === 'refused' ? told(texts.allRefusedByImage, { n: made.refused }) : texts.imageHasItAlready;
     return notice('bad', why, texts.openImageBefore);
 }
