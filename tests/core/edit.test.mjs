@@ -102,7 +102,9 @@ async function disc(t, path) {
 }
 
 /** The script that replaces a file. */
-const replaced = ({ image, file }, fresh, how = {}, crew = localCrew()) => replaceFile(calls, crew, image, file, readerOf(fresh, how.most ?? Infinity), how);
+const replaced = (it, fresh, how = {}, crew = localCrew()) => replacedBy(it, readerOf(fresh, how.most ?? Infinity), how, crew);
+const replacedBy = ({ image, file: { names, extents } }, wanted, { fill, ...how }, crew = localCrew()) =>
+    replaceFile({ calls, crew }, { image, part: image, contents: async () => ({ volume: names }) }, { entries: extents, wanted, fill }, how);
 
 test('a file becomes another of its length, and nothing else changes', async t => {
     const it = await disc(t, '/GAME.DAT');
@@ -163,7 +165,7 @@ test('a file that shrinks while it is read', async t => {
     const it = await disc(t, '/GAME.DAT');
     if (!it) return;
     const shrunk = { size: 15000, read: async (at, length) => new Uint8Array(Math.max(Math.min(length, 9000 - at), 0)) };
-    await assert.rejects(replaceFile(calls, localCrew(), it.image, it.file, shrunk, {}), { code: 'image ended' });
+    await assert.rejects(replacedBy(it, shrunk, {}), { code: 'image ended' });
 });
 
 test('bytes of sectors with addresses of other blocks keep them', async () => {

@@ -9,7 +9,7 @@ import { SHEETS, TABLES, continuing, crowded, harmlessVolume, nested, overlappin
 const { sheetOf } = await core('disc/cue.js');
 const { natureOf } = await core('disc/file_type.js');
 const { findIn } = await core('texts/find.js');
-const { filesOf, wholeFile } = await core('iso/files.js');
+const { filesOf } = await core('iso/files.js');
 const { Crew, localHand } = await core('crew/crew.js');
 const { JOBS } = await core('jobs/jobs.js');
 const { replaceFile } = await core('tasks/replace_file.js');
@@ -142,8 +142,9 @@ test('a file of many extents looks at each a few times', async () => {
     const sector = calls.encode(calls.address(0), new Uint8Array(2048));
     const sectors = 2 * count + 30;
     const image = { base: 0, sectors, reader: { size: 2352 * sectors, read: async (at, length) => sector.slice(0, length) } };
-    const file = { ...wholeFile(entries), names };
-    const { left } = await replaceFile(calls, new Crew([localHand(calls, JOBS)]), image, file, readerOf(new Uint8Array(2048 * count - 1)));
+    const opened = { image, part: image, contents: async () => ({ volume: names }) };
+    const engine = { calls, crew: new Crew([localHand(calls, JOBS)]) };
+    const { left } = await replaceFile(engine, opened, { entries, wanted: readerOf(new Uint8Array(2048 * count - 1)) });
     assert.deepStrictEqual(left, []);
     assert.ok(reads < 100 * count, `${reads}`);
 });

@@ -9,7 +9,7 @@ const { Fault } = await core('faults.js');
 const { sheetOf } = await core('disc/cue.js');
 const { KnownDumps } = await core('disc/dat.js');
 const { fileOrder } = await core('iso/file_order.js');
-const { filesOf, wholeFile } = await core('iso/files.js');
+const { filesOf } = await core('iso/files.js');
 const { Crew, localHand } = await core('crew/crew.js');
 const { JOBS } = await core('jobs/jobs.js');
 const { replaceFile } = await core('tasks/replace_file.js');
@@ -73,10 +73,11 @@ function replacedParts(count) {
     const empty = { size: 0, read: async () => new Uint8Array(0) };
     return async () => {
         const entries = Array.from({ length: count }, (_, i) => entry(i));
-        const file = wholeFile(entries);
         fileOrder({ reader, base: 0, sectors }, entries);
         const names = { entries, files: entries, udf: false, own: new Map(), tables: [] };
-        await replaceFile(calls, new Crew([localHand(calls, JOBS)]), { base: 0, reader, sectors }, { ...file, names }, empty);
+        const image = { base: 0, reader, sectors };
+        const opened = { image, part: image, contents: async () => ({ volume: names }) };
+        await replaceFile({ calls, crew: new Crew([localHand(calls, JOBS)]) }, opened, { entries, wanted: empty });
     };
 }
 

@@ -5,9 +5,9 @@ import { natureOf } from '../core/disc/index.js';
 import { Fault } from '../core/faults.js';
 import { LAST_BASE, USER_SIZE, kindName } from '../core/module/index.js';
 import { blocksIn, blocksText } from '../core/sectors/index.js';
-import { passFile, passUser, repairTrack } from '../core/tasks/index.js';
+import { extractFile, passUser, repairTrack } from '../core/tasks/index.js';
 import { RunningHashes, sayKnown } from './hashes.js';
-import { fileAtPath } from './looking.js';
+import { entriesAtPath } from './looking.js';
 import { openTrackOf } from './opening.js';
 import { MOST_UNTESTED, linesOfRuns, sayOfRuns, untestedText, visible } from './printed.js';
 
@@ -167,6 +167,6 @@ export async function userJob(run) {
 export async function extractJob(run) {
     const out = await run.files.make(run.names[2]);
     const opened = await openTrackOf(run, run.names[0]);
-    const { extents } = await fileAtPath(opened, run.names[1]);
-    return Number(sayOthers(run, await passFile(run.crew, opened.part, extents, {}, user => out.write(user))));
+    const entries = await entriesAtPath(opened, run.names[1]);
+    return Number(sayOthers(run, await extractFile(run, opened, entries, user => out.write(user))));
 }

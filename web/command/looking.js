@@ -3,7 +3,7 @@
 import { bytesOfLines } from '../core/bytes.js';
 import { Fault } from '../core/faults.js';
 import { hexText } from '../core/hex_digits.js';
-import { filesLines, wholeFile } from '../core/iso/index.js';
+import { filesLines } from '../core/iso/index.js';
 import { USER_SIZE, kindName } from '../core/module/index.js';
 import { FIELDS, addressIn, addressText, findingOf } from '../core/sectors/index.js';
 import { sectorsOfRange } from '../core/tasks/index.js';
@@ -34,16 +34,15 @@ const ROW = 16;
 const BYTES_SHOWN = 128;
 
 /**
- * The file of a path, and what names the files of its volume. Throws a Fault if there is none.
+ * The entries of the file of a path. Throws a Fault if there is none.
  * @param {OpenedTrack} opened
  * @param {string} path
  */
-export async function fileAtPath(opened, path) {
-    const names = volumeIn(await opened.contents());
-    const { files } = names;
+export async function entriesAtPath(opened, path) {
+    const { files } = volumeIn(await opened.contents());
     const rooted = (/** @type {string} */ name) => `/${name}`.replace(/^\/+/, '/');
     const named = files.filter(file => [file.path, visible(file.path)].map(rooted).includes(rooted(path)));
-    if (named.length > 0) return { ...wholeFile(named), names };
+    if (named.length > 0) return named;
     const meant = nearest(rooted(path), files.map(file => rooted(file.path)));
     throw new Fault(`there is no file ${path}; ${meant === null ? 'cdscript files lists them' : `there is ${meant}`}`);
 }

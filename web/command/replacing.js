@@ -7,11 +7,11 @@ import { leftText } from '../core/script/index.js';
 import { assertHasRoom, filledUp, findTextAt, leftHitText, replaceFile, replaceHits, sharingText } from '../core/tasks/index.js';
 import { contextOf, unitsAlike } from '../core/texts/index.js';
 import { replaceListJob } from './listing.js';
-import { fileAtPath } from './looking.js';
+import { entriesAtPath } from './looking.js';
 import { placeGiven } from './numbers.js';
 import { openTrackOf } from './opening.js';
 import { sayOfRuns } from './printed.js';
-import { writeParts, writeScript } from './scripts.js';
+import { writeFinished, writeParts } from './scripts.js';
 import { encodingsOf, foundText } from './searching.js';
 
 /** @typedef {import('../core/disc/disc.js').DiscImage} DiscImage */
@@ -139,15 +139,15 @@ export async function replaceFileJob(run) {
     if (fill === 'end' || (fill && fill.length !== 1)) throw new Fault('--fill is one byte here');
     const target = await run.target();
     const opened = await openTrackOf(run, run.names[0]);
-    const { image, part } = opened;
-    const file = await fileAtPath(opened, run.names[1]);
+    const entries = await entriesAtPath(opened, run.names[1]);
     const { reader } = await run.files.image(run.names[2]);
-    const made = await replaceFile(run.calls, run.crew, part, file, reader, fill && { fill: fill[0] });
-    sayOfRuns(run, made.left, left => leftText([left], part.name));
+    const made = await replaceFile(run, opened, { entries, wanted: reader, fill: fill && fill[0] });
+    const { file } = made;
+    sayOfRuns(run, made.left, left => leftText([left], opened.part.name));
     sayOfRuns(run, made.sharing, other => sharingText(file.path, other));
     if (made.script === null) throw new Fault('these blocks of the file can not be patched, so no script is written');
     if (fill && reader.size < file.size) run.say(`bytes filled up with ${hexText(fill)}: ${file.size - reader.size}`);
     else if (reader.size !== file.size) run.say(`${file.path} had ${file.size} bytes, and gets ${reader.size}`);
-    await writeScript(run, target, made.script, image.base);
+    await writeFinished(run, target, made.script);
     return 0;
 }

@@ -3,14 +3,16 @@
 import { sliceOf } from '../bytes.js';
 import { SECTOR_KIND, SECTOR_SIZE, USER_SIZE, sectorCount } from '../module/index.js';
 import { addToRuns, joinedUser, sectorOf } from '../sectors/index.js';
+import { fileOfTrack } from './opened.js';
 
 /** @typedef {import('../bytes.js').Reader} Reader */
 /** @typedef {import('../module/calls.js').Calls} Calls */
-/** @typedef {import('../disc/disc.js').DiscImage} DiscImage */
 /** @typedef {import('../iso/files.js').FileEntry} FileEntry */
 /** @typedef {import('../crew/crew.js').Sharer} Sharer */
 /** @typedef {import('../crew/crew.js').Sharing} Sharing */
 /** @typedef {import('../sectors/runs.js').Run & { kind: number }} KindRun */
+/** @typedef {import('./engine.js').Engine} Engine */
+/** @typedef {import('./opened.js').OpenedTrack} OpenedTrack */
 /** @typedef {(bytes: Uint8Array) => void | Promise<void>} TakeBytes */
 /** @typedef {{ user: Uint8Array, others: KindRun[] }} UserRange the user data of a range, and the sectors that are not of Mode 1 */
 
@@ -54,14 +56,17 @@ export async function passUser(crew, reader, size, how, take) {
 }
 
 /**
- * The same of a file of a track, extent by extent.
- * @param {Sharer} crew
- * @param {DiscImage} part
- * @param {FileEntry[]} extents
- * @param {Sharing} how
+ * Extracts a file of a track: gives its bytes to `take`, in order. Returns the runs of its sectors that are not of Mode 1. Throws what
+ * fileOfTrack and the reader throw, and a Fault, CANCELLED.
+ * @param {Pick<Engine, 'crew'>} engine
+ * @param {Pick<OpenedTrack, 'part' | 'contents'>} opened
+ * @param {FileEntry[]} entries of its path
  * @param {TakeBytes} take
+ * @param {Sharing} [how]
  */
-export async function passFile(crew, part, extents, how, take) {
+export async function extractFile({ crew }, opened, entries, take, how = {}) {
+    const { part } = opened;
+    const { extents } = await fileOfTrack(opened, entries);
     /** @type {KindRun[]} */
     const others = [];
     for (const { block, size } of extents) {

@@ -3,7 +3,7 @@
 export { applyInMemory, applyScript } from './apply.js';
 export { addressShift, commonPart, isSameRange } from './common_part.js';
 export { FIELD_COUNT, SECOND_STATE, compareTrack, diffRange, differRange, findDifferences } from './compare.js';
-export { passFile, passUser, userRange } from './convert.js';
+export { extractFile, passUser, userRange } from './convert.js';
 export { findText, findTextAt } from './find.js';
 export { findingsIn, foundInSurvey, surveyedTrack, surveyedTracks, tailOf, unsurveyedTracks } from './inform.js';
 export { leftRowText } from './list.js';

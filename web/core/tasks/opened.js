@@ -2,7 +2,7 @@
 
 import { dataTrack } from '../disc/index.js';
 import { FAULT, failedBy } from '../faults.js';
-import { fileOrder, filesOf } from '../iso/index.js';
+import { fileOrder, filesOf, wholeFile } from '../iso/index.js';
 
 /** @typedef {import('../disc/disc.js').Disc} Disc */
 /** @typedef {import('../disc/disc.js').DiscImage} DiscImage */
@@ -83,6 +83,17 @@ export function openTrack(disc, { track = null, base } = {}) {
  */
 export function trackBeside(first, other) {
     return first.byAddresses === first ? other : other.withBase(first.image.base);
+}
+
+/**
+ * A file of a track, and what else its volume names. Throws a Fault: VOLUME if there is no volume, or that the entries are not a file.
+ * @param {Pick<OpenedTrack, 'contents'>} opened
+ * @param {FileEntry[]} entries all of one path
+ */
+export async function fileOfTrack(opened, entries) {
+    const { volume, fault } = await opened.contents();
+    if (volume === null) throw fault;
+    return { ...wholeFile(entries), names: volume };
 }
 
 /**

@@ -4,8 +4,9 @@ import { firstAfter, sliceOf } from '../bytes.js';
 import { Fault } from '../faults.js';
 import { SIZE_FIELD, endOfExtent } from '../iso/index.js';
 import { SECTOR_SIZE, USER_SIZE } from '../module/index.js';
-import { ScriptParts } from '../script/index.js';
+import { ScriptParts, scriptForBase } from '../script/index.js';
 import { bytesAround } from '../texts/index.js';
+import { fileOfTrack } from './opened.js';
 import { replaceBytes } from './replace_bytes.js';
 
 /** @typedef {import('../bytes.js').Reader} Reader */
@@ -14,15 +15,17 @@ import { replaceBytes } from './replace_bytes.js';
 /** @typedef {import('../iso/files.js').FileEntry} FileEntry */
 /** @typedef {import('../iso/files.js').VolumeFiles} VolumeFiles */
 /** @typedef {import('../iso/files.js').WholeFile} WholeFile */
-/** @typedef {import('../crew/crew.js').Sharer} Sharer */
 /** @typedef {import('../crew/crew.js').Sharing} Sharing */
 /** @typedef {import('../script/model.js').UserRange} UserRange */
 /** @typedef {import('../script/sector_lines.js').Left} Left */
 /** @typedef {import('../script/script_writer.js').Script} Script */
+/** @typedef {import('./engine.js').Engine} Engine */
+/** @typedef {import('./opened.js').OpenedTrack} OpenedTrack */
 /** @typedef {Pick<VolumeFiles, 'entries' | 'udf' | 'own' | 'tables' | 'files'>} VolumeNames what a volume names, and its own blocks */
 /**
- * A script, none if a sector is left, which is not consistent; and the paths of other files that have some of the blocks, and change too.
- * @typedef {{ script: Script | null, left: Left[], sharing: string[] }} Replacement
+ * The finished script, null if a sector is left, which is not consistent; the file that it replaces; and the paths of other files that have
+ * some of the blocks, and change too.
+ * @typedef {{ script: Script | null, left: Left[], file: WholeFile, sharing: string[] }} Replacement
  */
 
 /** @param {{ size: number }} extent how many bytes its sectors have */
@@ -37,10 +40,11 @@ function extentKey({ block, size }) {
 
 /**
  * Where the lines that replace a file write: in its sectors, and in the lengths that its records have.
- * @param {Pick<WholeFile, 'extents'> & { names: VolumeNames }} file
+ * @param {Pick<VolumeNames, 'entries'>} names
+ * @param {FileEntry[]} extents of the file
  * @returns {UserRange[]}
  */
-export function placesOfFile({ extents, names }) {
+export function placesOfFile(names, extents) {
     const records = [...recordsByKey(names.entries, extents).values()].flat();
     return [...extents.map(extent => ({ block: extent.block, offset: 0, size: extentRoom(extent) })),
         ...records.map(({ record: { block, offset } }) => ({ block, offset: offset + SIZE_FIELD.offset, size: SIZE_FIELD.length }))];
@@ -123,21 +127,23 @@ function recordsByKey(entries, extents) {
 /**
  * The script that gives a file of a disc other bytes. Without `fill` these may be as many as its sectors have; the records of the file get
  * its new length, and the rest becomes 00. With it the length stays. Throws a Fault.
- * @param {Calls} calls
- * @param {Sharer} crew
- * @param {DiscImage} image the track's
- * @param {WholeFile & { names: VolumeNames }} file
- * @param {Reader} wanted
- * @param {Sharing & { fill?: number }} how with the byte that fills up
+ * @param {Engine} engine
+ * @param {Pick<OpenedTrack, 'image' | 'part' | 'contents'>} opened
+ * @param {{ entries: FileEntry[], wanted: Reader, fill?: number }} options the entries of the file's path, the new file, and the byte that
+ *     fills up
+ * @param {Sharing} [how]
  * @returns {Promise<Replacement>}
  */
-export async function replaceFile(calls, crew, image, { path, size, extents, names }, wanted, { fill, ...how } = {}) {
+export async function replaceFile({ calls, crew }, opened, { entries, wanted, fill }, how = {}) {
+    const { names, ...file } = await fileOfTrack(opened, entries);
+    const { path, size, extents } = file;
+    const { part: image } = opened;
     const keeps = fill !== undefined || wanted.size === size;
     const lengths = extents.map(extent => keeps ? extent.size : extentRoom(extent));
     const room = lengths.reduce((sum, length) => sum + length, 0);
     const had = `${size} bytes${keeps ? '' : ` and room for ${room}`}`;
     if (wanted.size > room) throw new Fault(`${path} has ${had}, the new file ${wanted.size}`);
-    const sharing = sharingWith({ path, size, extents }, names, keeps);
+    const sharing = sharingWith(file, names, keeps);
     const records = recordsByKey(names.entries, extents);
     const parts = new ScriptParts();
     const filled = filledReader(wanted, room + USER_SIZE, fill);
@@ -153,7 +159,8 @@ export async function replaceFile(calls, crew, image, { path, size, extents, nam
         await crew.share('replace', readers, { end: extent.block * USER_SIZE + lengths[i] }, shared, lines => parts.push(lines));
         before += lengths[i];
     }
-    return { script: parts.left.length > 0 ? null : parts.script(calls), left: parts.left, sharing };
+    const script = parts.left.length > 0 ? null : scriptForBase(parts.script(calls), opened.image.base);
+    return { script, left: parts.left, file, sharing };
 }
 
 /**

@@ -1,10 +1,10 @@
 // The tab Files: the files of the disc by their blocks. The chosen one is saved as a file, or replaced by one.
 
 import { Fault } from '../../core/faults.js';
-import { filesLines, wholeFile } from '../../core/iso/index.js';
+import { filesLines } from '../../core/iso/index.js';
 import { leftText, linesMade } from '../../core/script/index.js';
 import { blocksIn } from '../../core/sectors/index.js';
-import { passFile, placesOfFile, replaceFile, sharingText } from '../../core/tasks/index.js';
+import { extractFile, placesOfFile, replaceFile, sharingText } from '../../core/tasks/index.js';
 import { visible } from '../../core/texts/index.js';
 import { ReplacedFiles, linesIn, linesReplacing } from '../app/index.js';
 import { fileReader } from '../open/index.js';
@@ -199,16 +199,16 @@ export class FilesList {
 
     /** @param {Listed} file */
     extract(file) {
-        return this.work(texts.readingFile, texts.noFileSaved, async ({ part }, watch) => {
+        return this.work(texts.readingFile, texts.noFileSaved, async ({ opened }, watch) => {
             /** @type {Blob[]} */
             const pieces = [];
-            const { extents } = wholeFile(file.entries);
             const names = this.app.files;
-            const others = await passFile(this.app.crew, part, extents, watch, bytes => void pieces.push(new Blob([bytes])));
+            const take = (/** @type {Uint8Array} */ bytes) => void pieces.push(new Blob([bytes]));
+            const others = await extractFile(this.app, opened, file.entries, take, watch);
             const name = fileStem(file.path);
             downloadBytes(pieces, name);
             const doubt = others.length > 0 && told(texts.sectorsNotModeOne, { n: blocksIn(others) });
-            const isChanged = names !== null && linesIn(this.app.script, placesOfFile({ extents, names })).length > 0;
+            const isChanged = names !== null && linesIn(this.app.script, placesOfFile(names, file.entries)).length > 0;
             return notice(doubt ? 'warn' : 'good', say(texts.fileSaved, { name: nameOf(name) }), doubt,
                 isChanged && element('p', {}, texts.fileAsOnDisc));
         });
@@ -221,15 +221,14 @@ export class FilesList {
         const { chosen, app: { files } } = this;
         if (!fresh || chosen === null || files === null) return;
         await this.work(texts.makingLines, texts.nothingAdded, async (image, watch) => {
-            const { calls, crew, script } = this.app;
-            const file = { ...wholeFile(chosen.entries), names: files };
-            const made = await replaceFile(calls, crew, image.part, file, fileReader(fresh), watch);
+            const { app, app: { script } } = this;
+            const made = await replaceFile(app, image.opened, { entries: chosen.entries, wanted: fileReader(fresh) }, watch);
             if (made.script === null) throw new Fault(leftText(made.left, image.part.name, MOST_RUNS));
             if (made.script.long) throw new Fault(texts.scriptTooLongToReplace);
-            const places = placesOfFile(file);
+            const places = placesOfFile(files, chosen.entries);
             const earlier = await linesReplacing(script, image, places, watch.signal);
             const come = linesMade(made.script);
-            const gone = this.app.changeScript(lines => this.replaced.replace(lines, image.reader, chosen.path, come, earlier));
+            const gone = app.changeScript(lines => this.replaced.replace(lines, image.reader, chosen.path, come, earlier));
             return this.addedWords(chosen, fresh.size, come, { gone, places, sharing: made.sharing });
         });
     }
