@@ -2,7 +2,7 @@
 
 import { readBytes } from '../core/bytes.js';
 import { sectorCount } from '../core/module/index.js';
-import { addressShift, foundInSurvey, surveyedTrack, surveyedTracks, tailOf } from '../core/tasks/index.js';
+import { foundInSurvey, surveyedTrack, surveyedTracks, tailOf } from '../core/tasks/index.js';
 import { RunningHashes, SHA1_ONLY } from './hashes.js';
 import { openTrackOf, sayUnknownBase } from './opening.js';
 import { turn } from './pausing.js';
@@ -106,7 +106,7 @@ export async function foundInFiles(run, disc, needs = SHA1_ONLY) {
         const surveys = [];
         for (const it of own) {
             const reader = it.isWhole && !isBeside ? hashed : it.image.reader;
-            const survey = await run.survey(reader, it.image.base, 'survey', addressShift(it.image));
+            const survey = await run.survey(reader, it.image.base, 'survey', it.shift);
             surveys.push({ ...it, ...await foundInSurvey(it, survey) });
         }
         found.push({ file, hashes: await (beside || hashed.digest()), surveys, tail: tailOf(disc, i) });

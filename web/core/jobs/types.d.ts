@@ -14,7 +14,7 @@ declare module '../crew/jobs.js' {
         survey: { args: { shift?: number }; answer: RangeSurvey };
         /** Records that have only kinds. */
         kinds: { args: { shift?: number }; answer: Survey };
-        sums: { args: { surveys: boolean }; answer: Summed };
+        sums: { args: { surveys: boolean; shift?: number }; answer: Summed };
         find: { args: { texts: Wanted[] } & Limits; answer: Found[] };
         diff: { args: {}; answer: Lines };
         lines: { args: { blocks: number[]; how: How }; answer: Lines };

@@ -12,9 +12,9 @@ import { surveyRange } from './survey.js';
  * @param {Calls} calls
  * @param {Uint8Array} bytes
  * @param {number} block
- * @param {{ surveys: boolean }} args
+ * @param {{ surveys: boolean, shift?: number }} args with that of the survey
  * @returns {Summed}
  */
-export function sumsOfRange(calls, bytes, block, { surveys }) {
-    return { bytes, crc: crc32(0, bytes), survey: surveys ? surveyRange(calls, bytes, block) : null };
+export function sumsOfRange(calls, bytes, block, { surveys, ...args }) {
+    return { bytes, crc: crc32(0, bytes), survey: surveys ? surveyRange(calls, bytes, block, args) : null };
 }

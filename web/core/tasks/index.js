@@ -1,7 +1,7 @@
 // What a user does with a disc: each task once, for all doors. Tasks return data. Doors ask, show the progress, and print or draw.
 
 export { applyInMemory, applyScript } from './apply.js';
-export { addressShift, commonPart, isSameRange } from './common_part.js';
+export { commonPart, isSameRange } from './common_part.js';
 export { FIELD_COUNT, SECOND_STATE, compareTrack, diffRange, differRange, findDifferences } from './compare.js';
 export { extractFile, passUser, userRange } from './convert.js';
 export { findText, findTextAt } from './find.js';

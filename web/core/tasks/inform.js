@@ -3,6 +3,7 @@
 import { MODE1, lackOf, lostSectors, mode1Tracks, otherSectors } from '../disc/index.js';
 import { SECTOR_SIZE } from '../module/index.js';
 import { blocksIn, surveyCounts } from '../sectors/index.js';
+import { addressShift } from './common_part.js';
 
 /** @typedef {import('../disc/disc.js').Disc} Disc */
 /** @typedef {import('../disc/disc.js').DiscImage} DiscImage */
@@ -13,9 +14,10 @@ import { blocksIn, surveyCounts } from '../sectors/index.js';
 /** @typedef {import('../sectors/survey.js').Survey} Survey */
 /** @typedef {Pick<import('./opened.js').OpenedTrack, 'disc' | 'track' | 'image' | 'part'>} Opened */
 /**
- * A track that is surveyed, as the `part` of an `image`. `isWhole` says that the image is a whole file, and `isAlone` that by the cue sheet
- * the disc has no other track. `mode1Tracks` are the tracks in the image that the cue sheet says are Mode 1, null without a sheet.
- * @typedef {{ number: number, file: number, image: DiscImage, part: DiscImage, isWhole: boolean, isAlone: boolean,
+ * A track that is surveyed, as the `part` of an `image` whose sectors have addresses of blocks that are `shift` later. `isWhole` says that
+ * the image is a whole file, and `isAlone` that by the cue sheet the disc has no other track. `mode1Tracks` are the tracks in the image
+ * that the cue sheet says are Mode 1, null without a sheet.
+ * @typedef {{ number: number, file: number, image: DiscImage, part: DiscImage, shift: number, isWhole: boolean, isAlone: boolean,
  *     mode1Tracks: Run[] | null }} SurveyedTrack
  */
 /**
@@ -42,7 +44,8 @@ function hasOneTrack({ sheet, tracks }) {
  * @returns {SurveyedTrack}
  */
 export function surveyedTrack({ disc, track: { number, file }, image, part }) {
-    return { number, file, image, part, isWhole: true, isAlone: hasOneTrack(disc), mode1Tracks: mode1Tracks(disc, file, image.base) };
+    const whole = { isWhole: true, isAlone: hasOneTrack(disc), mode1Tracks: mode1Tracks(disc, file, image.base) };
+    return { number, file, image, part, shift: addressShift(image), ...whole };
 }
 
 /**
@@ -59,7 +62,7 @@ export function surveyedTracks(disc) {
         const isWhole = others.every(it => it.image?.base === image.base);
         if (isWhole) return others[0] === track ? [surveyedTrack({ disc, track, image, part })] : [];
         const own = type === MODE1 ? [{ first: part.base, last: part.base + part.sectors - 1 }] : [];
-        return [{ number, file, image: part, part, isWhole, isAlone: false, mode1Tracks: own }];
+        return [{ number, file, image: part, part, shift: addressShift(part), isWhole, isAlone: false, mode1Tracks: own }];
     });
 }
 

@@ -123,9 +123,10 @@ export class Summing {
      * Reads all sectors. Throws what Crew.share throws.
      * @param {import('../../core/crew/crew.js').Sharing} how
      * @param {((survey: RangeSurvey) => void) | null} [surveyed] who wants their survey
+     * @param {number} [shift] how many blocks later those are whose addresses the sectors have
      */
-    async read(how, surveyed = null) {
-        await this.crew.share('sums', [this.ahead], { surveys: surveyed !== null }, how, async ({ bytes, crc, survey }) => {
+    async read(how, surveyed = null, shift = 0) {
+        await this.crew.share('sums', [this.ahead], { surveys: surveyed !== null, shift }, how, async ({ bytes, crc, survey }) => {
             if (surveyed !== null && survey !== null) surveyed(survey);
             await this.add(bytes, crc);
         });

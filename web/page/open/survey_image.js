@@ -31,14 +31,14 @@ export async function readImage(app, image) {
  * @param {App} app
  * @param {Image} image
  * @param {AbortSignal} signal
- * @param {(take: (answer: RangeSurvey) => void) => Promise<void>} read
+ * @param {(take: (answer: RangeSurvey) => void, shift: number) => Promise<void>} read
  */
 async function surveyBy(app, image, signal, read) {
-    const survey = app.beginSurvey(image.base, image.sectors);
+    const [survey, track] = [app.beginSurvey(image.base, image.sectors), surveyedTrack(image.opened)];
     let isWhole = false;
     try {
-        await read(answer => app.addToSurvey(survey, answer));
-        const found = await foundInSurvey(surveyedTrack(image.opened), survey);
+        await read(answer => app.addToSurvey(survey, answer), track.shift);
+        const found = await foundInSurvey(track, survey);
         survey.marks.lose(found.lost);
         survey.lack = found.lack;
         if (signal.aborted) throw cancelled();
@@ -56,7 +56,7 @@ async function surveyBy(app, image, signal, read) {
  */
 async function surveyOnly(app, image, signal) {
     const how = { base: image.base, signal };
-    await surveyBy(app, image, signal, take => app.crew.share('survey', [image.reader], {}, how, take));
+    await surveyBy(app, image, signal, (take, shift) => app.crew.share('survey', [image.reader], { shift }, how, take));
     await listFiles(app, image, signal);
 }
 
@@ -69,7 +69,7 @@ async function surveyOnly(app, image, signal) {
 async function surveyAndHash(app, image, signal) {
     const sums = new Summing(app, image.reader, done => app.noteHashed(done));
     try {
-        await surveyBy(app, image, signal, take => sums.read({ base: image.base, signal }, take));
+        await surveyBy(app, image, signal, (take, shift) => sums.read({ base: image.base, signal }, take, shift));
         const [known] = await Promise.all([sums.end(), listFiles(app, image, signal)]);
         if (signal.aborted) throw cancelled();
         app.setSums(image, known);
