@@ -241,6 +241,8 @@ test('what no repair takes', () => inDirectory(async room => {
     const good = imageOf(room, 300, 30);
     write(room, { old: damaged(good, 30, [40, 100]), later: imageOf(room, 300, 330) });
     await fails(['merge', 'old', 'later', 'out'], 'old begins with block 30, later with block 330: they are not the same part of a disc', room);
+    write(room, { 'sheet.cue': 'FILE "old" BINARY\n TRACK 01 MODE1/2352\n  INDEX 01 00:00:00\n' });
+    await fails(['merge', 'sheet.cue', 'later', 'out'], 'sheet.cue begins with block 30, later with block 330: they are not the same part of a disc', room);
     const other = Buffer.concat([good.subarray(2352 * 8), good.subarray(0, 2352 * 8)]);
     write(room, { other, edited: Buffer.concat([other.subarray(0, 3 * 2352), good.subarray(3 * 2352)]) });
     const { status, errors } = await run(['merge', 'old', 'other', 'out', '--base', '30'], { cwd: room });

@@ -78,7 +78,7 @@ function sayOtherRange(run, image, other, { common, missing, beyond }, out) {
  * Why nothing is repaired.
  * @param {Repair} repair
  * @param {Refusal} refused
- * @param {string[]} names of the image, and of the other ones
+ * @param {string[]} names of the image and of the other ones, as they were given
  */
 function refusedText({ different, sectors }, refused, [name, ...others]) {
     const other = others[refused.other];
@@ -114,7 +114,7 @@ export async function mergeJob(run) {
     const seen = (/** @type {Uint8Array} */ bytes) => void (hash && hash.update(bytes));
     const repair = await repairTrack(run, opened, dumps, piece => out.writePiece(image.reader, piece, seen), run.watch);
     const { refused, doubtful, untested } = repair;
-    if (refused) throw new Fault(refusedText(repair, refused, [image, ...others].map(it => it.name)));
+    if (refused) throw new Fault(refusedText(repair, refused, [name, ...more]));
     repair.ranges.forEach((ranges, i) => sayOtherRange(run, image, others[i], ranges, out.name));
     others.filter((_, i) => repair.tails[i]).forEach(other => run.say(`${TAILS} in ${other.name}; those of ${name} are kept`));
     await run.output.write(bytesOfLines(repairLines(repair, others).map(visible)));
