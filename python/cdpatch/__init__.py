@@ -1,4 +1,4 @@
-"""CD-ROM sectors and images by libcdpatch: EDC and P/Q parity, what is wrong with sectors, and patches of raw images.
+"""CD-ROM sectors and raw images by libcdpatch: EDC, P and Q parity, defects of sectors, and patches of images.
 
     import sys
     import cdpatch
@@ -8,46 +8,50 @@
     with open('disc.bin', 'rb') as image, open('new.bin', 'xb') as new:
         cdpatch.patch(image, script, new, log=sys.stdout.write)
 
-What is wrong with the sectors of a file, in little memory (examples/fixlist.py does more):
+To list the damaged sectors of a file without loading it whole (examples/fixlist.py does more):
 
     with open('disc.bin', 'rb') as image:
         for first in range(0, 1000000, 1000):
             for block, record in enumerate(cdpatch.survey(image.read(1000 * 2352), first), first):
                 print(cdpatch.audit_line(block, record), end='')
 
-The calls; help(cdpatch.patch) says more of one:
+The calls; help(cdpatch.patch) describes one in full:
 
-    patch(reader, script, writer)    patches an image of a file or a pipe, in little memory
-    apply(image, script)             patches an image in memory or mapped
-    check(image, script)             what apply would do; of an empty image only whether the script is valid
-    audit(image)                     what is wrong with an image, as `cdpatch audit` prints it
+    patch(reader, script, writer)    patches an image that is read from a file or a pipe, in little memory
+    apply(image, script)             patches an image in memory or in a mapped file
+    check(image, script)             reports what apply would do; with an empty image, only whether the script is valid
+    audit(image)                     the damaged sectors of an image, as `cdpatch audit` prints them
     listing(image)                   the runs of sectors of one kind, as `cdpatch list` prints them
 
-    survey(sectors)                  a Record of each sector, what audit and listing say of it
-    audit_line(block, record)        the line of audit for a sector
-    audit_end(sectors, mode1, damaged, tail)        its last line
-    listing_line(first, last, kind)  the line of listing for sectors of one kind
-    listing_end(sectors, tail)       its last line
+    survey(sectors)                  a Record for each sector, with what audit and listing report
+    audit_line(block, record)        the line that audit prints for a sector
+    audit_end(sectors, mode1, damaged, tail)        the last line of audit
+    listing_line(first, last, kind)  the line that listing prints for a run of sectors
+    listing_end(sectors, tail)       the last line of listing
 
     kind(sector)                     one of KINDS
     address(block)                   the three bytes of a block's address
-    is_consistent(sector)            whether it is a Mode 1 sector with nothing wrong in it
+    is_consistent(sector)            whether it is a Mode 1 sector without any damage
     defect(sector)                   what is wrong with it: Intermediate field, EDC, parity
     broken(sector)                   which code words are broken
     edc(data)                        the EDC of any bytes
-    encode(address, user)            a sector of an address and user data
-    rebuild(sector)                  the sector with its codes made anew
-    with_user(sector, offset, new)   the sector with other user data
-    with_address(sector, address)    the sector with another address
-    with_parity(sector)              the sector with P and Q parity made anew
+    encode(address, user)            the sector with an address and user data
+    rebuild(sector)                  the sector with all its codes recalculated
+    with_user(sector, offset, new)   the sector with different user data
+    with_address(sector, address)    the sector with a different address
+    with_parity(sector)              the sector with P and Q parity recalculated
     library_version()                the version of libcdpatch
 
-Images, scripts, sectors, user data and addresses are bytes, bytearray, memoryview, mmap, array, or any other object with a buffer
-whose bytes are in a row, which help calls ReadableBuffer: each is read where it stands, whatever the size of its items, but a script that
-is not bytes is copied. Only `out` of `apply`, a WriteableBuffer, is written. What is read of a map counts as memory of the process (RSS), until the system wants it back. Threads
-may make calls at the same time, also on the same bytes; what one writes, no other reads or writes meanwhile. The library is the file
-that CDPATCH_LIBRARY names, or one in the directory of this package, or that of the loader, or one in `lib` of the prefix that this
-package is installed below; one of these two that lacks a call is passed over."""
+Images, scripts, sectors, user data, and addresses may be bytes, bytearray, memoryview, mmap, array, or any other object with a contiguous
+buffer of items of any size; help calls these ReadableBuffer. They are read in place, but a script that is not bytes is copied. Only `out`
+of `apply`, a WriteableBuffer, is written. Pages of a mapped file that were read count as memory of the process (RSS) until the system
+reclaims them.
+
+Threads may call at the same time, also with the same bytes, unless one of them writes these bytes.
+
+The library is the file that CDPATCH_LIBRARY names. Without that variable it is the one in the directory of this package, else the one that
+the loader finds, else the one in `lib` of the prefix below which this package is installed. Of these last two, a library that lacks a call
+is skipped."""
 
 from ._errors import Damaged, Failed, NotMode1, OutOfRange, Refused
 from ._images import Patched, apply, audit, check, listing
@@ -69,6 +73,6 @@ __all__ = [
 
 
 def library_version() -> str:
-    """Returns the version of the library that this package has loaded, such as '1.3.0'."""
+    """Returns the version of the library that this package has loaded, for example '1.3.0'."""
     number = library.cdpatch_version()
     return f'{number // 10000}.{number // 100 % 100}.{number % 100}'

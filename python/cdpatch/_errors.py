@@ -1,4 +1,4 @@
-"""Why a call makes nothing."""
+"""The errors that calls raise."""
 
 from __future__ import annotations
 
@@ -10,11 +10,11 @@ from ._numbers import LINE_SIZE, Result
 
 
 class Failed(ValueError):
-    """The status of the command is 2. The message is what it prints, without the last line feed; or, if no image has the base, that."""
+    """The command would end with status 2. The message is what it prints, without the last line feed, or that no image has this base."""
 
 
 class Refused(ValueError):
-    """A sector stays as it was. The message says why."""
+    """A sector cannot be changed as asked. The message gives the reason."""
 
 
 class NotMode1(Refused):
@@ -22,7 +22,7 @@ class NotMode1(Refused):
 
 
 class Damaged(Refused):
-    """The sector is damaged, and the damage was not to be carried."""
+    """The sector is damaged, and `carry` was not given."""
 
 
 class OutOfRange(Refused):
@@ -33,7 +33,7 @@ _REFUSALS: dict[int, Type[Refused]] = {Result.NOT_MODE1: NotMode1, Result.DAMAGE
 
 
 def refusal(result: int) -> Refused:
-    """The error for a result of a change, with the library's words."""
+    """Converts the result of a change to an error with the library's message."""
     text = ctypes.create_string_buffer(LINE_SIZE)
     size: int = library.cdpatch_result_text(result, text)
     return _REFUSALS[result](text.raw[:size].decode())

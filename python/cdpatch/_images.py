@@ -1,4 +1,4 @@
-"""The commands of cdpatch on an image in memory or mapped, which is read where it stands."""
+"""The commands of cdpatch for an image in memory or in a mapped file, which is read in place."""
 
 from __future__ import annotations
 
@@ -17,14 +17,14 @@ if TYPE_CHECKING:
 
 
 class Patched(NamedTuple):
-    """What `apply` makes: the new image, what it prints, and whether a patch was refused."""
+    """The result of `apply`: the new image, what `cdpatch apply` prints, and whether a patch was refused."""
     image: bytearray
     text: str
     found: bool
 
 
 class _InMemory:
-    """An image in memory, and the new one if that is made: perhaps in the same place."""
+    """An image in memory, and the new image, if one is written. Both may be in the same place."""
 
     def __init__(self, image: Held, new: Optional[Held]) -> None:
         self.image = image
@@ -44,7 +44,8 @@ class _InMemory:
 
 
 def _reported(call: Callable[..., int], image: ReadableBuffer, base: int) -> Report:
-    """What a command prints of the sectors of an image, and whether its status is 1. The room is enough, as cdpatch.h has it."""
+    """Returns what a command prints about the sectors of an image, and whether its status is 1. The buffer has the size that cdpatch.h
+    gives for the longest text."""
     with Held(image) as held:
         text, length = bytearray(100 + 40 * (held.size // SECTOR_SIZE)), ctypes.c_size_t()
         with Held(text, writable=True) as room:
@@ -56,24 +57,23 @@ def _reported(call: Callable[..., int], image: ReadableBuffer, base: int) -> Rep
 
 
 def listing(image: ReadableBuffer, base: int = 0) -> str:
-    """Returns what `cdpatch list` prints: the runs of sectors of one kind, in an image of any size whose first sector is block `base`,
-    0 to 449849.
+    """Returns what `cdpatch list` prints: the runs of sectors of one kind, in an image of any size whose first sector is block `base`.
 
-    Raises Failed if the base is another number, or the image has more than 2352000000 bytes, which is 1000000 sectors."""
+    Raises Failed if the base is not 0 to 449849, or if the image has more than 2352000000 bytes, which is 1000000 sectors."""
     return _reported(library.cdpatch_list, image, base).text
 
 
 def audit(image: ReadableBuffer, base: int = 0) -> Report:
-    """Returns what `cdpatch audit` prints: what is wrong with the Mode 1 sectors of an image of any size whose first sector is block
-    `base`, 0 to 449849; and whether something is, which may be only an address.
+    """Returns what `cdpatch audit` prints about the Mode 1 sectors of an image of any size whose first sector is block `base`, and whether
+    it reports anything. A wrong address is reported too, but is not damage.
 
-    Raises Failed if the base is another number, or the image has more than 2352000000 bytes, which is 1000000 sectors."""
+    Raises Failed if the base is not 0 to 449849, or if the image has more than 2352000000 bytes, which is 1000000 sectors."""
     return _reported(library.cdpatch_audit, image, base)
 
 
 def check(image: ReadableBuffer, script: ReadableBuffer, base: int = 0, carry: bool = False) -> Report:
-    """Returns what `cdpatch check` prints: what `apply` would do with each patch of a script; and whether one is refused. Of the image
-    only the sectors that patches look at are read; if it is empty, as `b''`, the script is read and nothing else.
+    """Returns what `cdpatch check` prints, that is, what `apply` would do with each patch of a script, and whether a patch would be
+    refused. Only the sectors that patches refer to are read. With an empty image (`b''`) only the script is checked.
 
     Raises Failed as `apply` does."""
     with Held(image) as held:
@@ -92,22 +92,23 @@ def apply(image: ReadableBuffer, script: ReadableBuffer, base: int = 0, carry: b
 
 def apply(image: ReadableBuffer, script: ReadableBuffer, base: int = 0, carry: bool = False, *,
           out: Optional[WriteableBuffer] = None) -> Patched | Report:
-    """Patches an image of any size, whose first sector is block `base`, 0 to 449849, by a script. Returns a Patched: the new image, what
-    `cdpatch apply` prints, and whether a patch was refused; the image has the others. With `carry` damage is no reason
-    to refuse a patch, and stays; a `rebuild` removes it, with `carry` and without.
+    """Applies a script to an image of any size whose first sector is block `base`. Returns a Patched: the new image, what `cdpatch apply`
+    prints, and whether a patch was refused. The new image has all patches that were not refused. With `carry`, patches of damaged sectors
+    are applied too, and the damage stays. A `rebuild` removes damage with or without `carry`.
 
-    With `out`, such as the map of a new file, the new image is written to its first bytes, and the others stay; then the result is a
-    Report, which has no image. Beside it, a call takes the memory of the log, at most 5243080 bytes, twice, 20 bytes for each patch, and
-    that of a copy of the script, if it is not `bytes`.
+    With `out`, for example a mapped new file, the new image is written to its first bytes, its other bytes stay, and the result is a Report,
+    which has no image. The call also needs memory for the log (at most 5243080 bytes, twice), 20 bytes for each patch, and a copy of a script that
+    is not `bytes`.
 
-    Raises Failed if the base is another number, the script is invalid or too long, or the image has more than 2352000000 bytes: `out` then
-    begins with a prefix of the new image, perhaps an empty one.
-    Raises ValueError, and writes nothing, if `out` is smaller than the image, or shares a byte with the image or the script; and if it
-    is read-only what its type raises then, which is BufferError, or ValueError for an array of numpy."""
+    Raises Failed if the base is not 0 to 449849, if the script is invalid or too long, or if the image has more than 2352000000 bytes.
+    `out` then begins with a prefix of the new image, which may be empty.
+
+    Raises ValueError, and writes nothing, if `out` is smaller than the image, or shares bytes with the image or the script. If `out` is
+    read-only, its type decides the error: BufferError, or ValueError for an array of numpy."""
     if out is not None:
         return _applied(image, script, base, carry, out)
-    # Bytes would be a second copy of the image. To patch the image itself would lose the old one: examples/patch_map.c does that.
-    with Held(image):  # Else an object whose bytes are not in a row would be copied, and each other call refuses it.
+    # bytearray and not bytes, which would be a second copy of the image. examples/patch_map.c patches an image in place, without a copy.
+    with Held(image):  # Refuses an object whose bytes are not contiguous, as every other call does; bytearray would copy it.
         made = bytearray(memoryview(image))
     with Held(made, writable=True) as held:
         return Patched(made, *run(_InMemory(held, held), held.size, script, base, carry))

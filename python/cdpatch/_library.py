@@ -1,4 +1,4 @@
-"""The shared library: where it is, and its calls with their types."""
+"""Finds and loads the shared library, and declares the types of its calls."""
 
 from __future__ import annotations
 
@@ -13,17 +13,17 @@ from ._numbers import RecordStruct
 
 NAME = 'cdpatch.dll' if sys.platform == 'win32' else 'libcdpatch.so.1'
 HERE = Path(__file__).resolve().parent
-# Where `make install` puts the package below a prefix, and where pip does. In another place the directories above belong to anybody.
+# Where `make install` and pip put the package below a prefix. Anywhere else, the directories above may belong to somebody else.
 INSTALLED = ('share/cdpatch/python/cdpatch', 'lib*/python3*/site-packages/cdpatch', 'lib*/python3*/dist-packages/cdpatch')
 
-# Of the numbers and of the sizes that calls take.
+# The largest numbers and sizes that calls accept.
 LARGEST_NUMBER, LARGEST_SIZE = 2 ** 32 - 1, 2 ** 64 - 1
 
 
 class Record(RecordStruct):
-    """What `list` and `audit` say of a sector: `kind` is its place in `KINDS`, `address` whether its address is another than its
-    block's, which is false for a block above 449849, as that has none, and `zeros`, `edc`, `p` and `q` are what a Defect has. All but
-    `kind` are 0 if it is not a Mode 1 sector."""
+    """What `list` and `audit` report about a sector. `kind` is an index into `KINDS`. `address` is true if the sector has a different
+    address than its block; it is false for blocks above 449849, which have no address. `zeros`, `edc`, `p`, and `q` are those of a Defect.
+    All but `kind` are 0 if the sector is not a Mode 1 sector."""
     kind: int
     address: bool
     zeros: bool
@@ -37,7 +37,7 @@ class Record(RecordStruct):
 
 @lru_cache
 def records_type(count: int) -> Type[ctypes.Array[Record]]:
-    """An array of so many records that can be pickled, as no other array of ctypes can."""
+    """The type of an array of `count` records that can be pickled, unlike other arrays of ctypes."""
     class Records(ctypes.Array[Record]):
         _type_ = Record
         _length_ = count
@@ -48,7 +48,7 @@ def records_type(count: int) -> Type[ctypes.Array[Record]]:
 
 
 def records_of(data: bytes) -> ctypes.Array[Record]:
-    """The records of these bytes."""
+    """Converts bytes to an array of records."""
     return records_type(len(data) // ctypes.sizeof(Record)).from_buffer_copy(data)
 
 
@@ -56,7 +56,7 @@ _SHORT, _NUMBER, _LONG, _SIZE = ctypes.c_uint16, ctypes.c_uint32, ctypes.c_uint6
 _FLAG, _POINTER = ctypes.c_bool, ctypes.c_void_p
 _TEXT_OF_IMAGE = (_POINTER, _SIZE, _NUMBER, _POINTER, _SIZE, _POINTER)
 
-# Of each call of this package what it returns, and what it takes.
+# The types of the result and the arguments of each call that this package uses.
 CALLS = {
     'version': (_NUMBER,),
     'result_text': (_SIZE, _NUMBER, _POINTER),
@@ -75,7 +75,7 @@ CALLS = {
     'change_address': (_NUMBER, _POINTER, _POINTER),
     'carry_address': (_NUMBER, _POINTER, _POINTER),
     'run_begin': (_SIZE, _POINTER, _POINTER, _SIZE, _NUMBER, _LONG, _NUMBER, _POINTER, _SIZE),
-    'run_next': (None,),  # Only values of ctypes, of C's types: to turn numbers into them would take longer than many a step.
+    'run_next': (None,),  # Gets only ctypes values: converting Python numbers takes longer than many steps.
     'list_line': (_SIZE, _NUMBER, _NUMBER, _NUMBER, _POINTER),
     'list_end': (_SIZE, _NUMBER, _SHORT, _POINTER),
     'audit_line': (_SIZE, _NUMBER, ctypes.POINTER(Record), _POINTER),
@@ -86,7 +86,7 @@ CALLS = {
 
 
 def _places() -> list[str]:
-    """Where the library may be. A name without a directory is the loader's to find."""
+    """The places to look for the library. The loader finds a name without a directory."""
     named = os.environ.get('CDPATCH_LIBRARY')
     if named:
         return [named]
@@ -99,7 +99,7 @@ def _places() -> list[str]:
 
 
 def _opened(place: str) -> ctypes.CDLL:
-    """The library of a place, after each call got its types. Raises ImportError if there is none, or one that lacks a call."""
+    """Loads a library and declares the types of its calls. Raises ImportError if there is no library, or if it lacks a call."""
     try:
         library = ctypes.CDLL(place)
     except OSError as why:
@@ -116,7 +116,7 @@ def _opened(place: str) -> ctypes.CDLL:
 
 
 def _first_opened() -> ctypes.CDLL:
-    """The library of the first place that has one with all calls."""
+    """Loads the first library that has all calls."""
     *places, last = _places()
     for place in places:
         try:

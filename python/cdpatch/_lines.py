@@ -1,4 +1,4 @@
-"""The lines of `listing` and of `audit` one by one, of what a survey has found."""
+"""The lines of `listing` and `audit`, one at a time, from the records of a survey."""
 
 from __future__ import annotations
 
@@ -16,14 +16,14 @@ Argument = Union[int, 'ctypes._Pointer[Record]']
 
 
 def _line(call: Callable[..., int], *given: Argument) -> str:
-    """The line that a call writes, with its line feed; empty if it writes none."""
+    """The line that a call writes, with its line feed, or an empty text if it writes none."""
     text = ctypes.create_string_buffer(LINE_SIZE)
     size = call(*given, text)
     return text.raw[:size].decode()
 
 
 def _number(given: int, most: int = LARGEST_NUMBER) -> int:
-    """A number that a call takes. Raises ValueError for another, and TypeError if it is no whole number."""
+    """A number from 0 to `most`. Raises ValueError if it is outside this range, and TypeError if it is not an integer."""
     number = index(given)
     if not 0 <= number <= most:
         raise ValueError(f'{number} is not 0 to {most}')
@@ -31,8 +31,8 @@ def _number(given: int, most: int = LARGEST_NUMBER) -> int:
 
 
 def listing_line(first: int, last: int, kind: str) -> str:
-    """Returns the line of `listing`, with its line feed, for the blocks `first` to `last`, which are of one of KINDS. Raises ValueError for
-    another kind, if `last` is less than `first`, or if a block is not 0 to 4294967295."""
+    """Returns the line that `listing` prints, with its line feed, for the blocks `first` to `last`, all of one kind. Raises ValueError if
+    the kind is not in KINDS, if `last` is less than `first`, or if a block is not 0 to 4294967295."""
     line = _line(library.cdpatch_list_line, _number(first), _number(last), KINDS.index(kind))
     if not line:
         raise ValueError(f'there are no blocks from {first} to {last}')
@@ -40,19 +40,19 @@ def listing_line(first: int, last: int, kind: str) -> str:
 
 
 def listing_end(sectors: int, tail: int) -> str:
-    """Returns the last line of `listing`, with its line feed: how many sectors there are, and how many bytes after them. Raises
-    ValueError if `sectors` is not 0 to 4294967295 or `tail` not 0 to 65535; it does not ask whether an image has such numbers."""
+    """Returns the last line of `listing`, with its line feed: the number of sectors, and the number of bytes after them. Raises
+    ValueError if `sectors` is not 0 to 4294967295, or `tail` is not 0 to 65535. No other relation between the numbers is checked."""
     return _line(library.cdpatch_list_end, _number(sectors), _number(tail, _LARGEST_TAIL))
 
 
 def audit_line(block: int, record: Record) -> str:
-    """Returns the line of `audit`, with its line feed, for a block, by its record of a survey; an empty text if it has none, since the
-    sector is not a Mode 1 sector, or nothing is wrong with it. Raises ValueError if the block is not 0 to 4294967295."""
+    """Returns the line that `audit` prints for a block, with its line feed, from the record that `survey` gave. The text is empty if the
+    sector is not a Mode 1 sector, or if nothing is wrong with it. Raises ValueError if the block is not 0 to 4294967295."""
     return _line(library.cdpatch_audit_line, _number(block), ctypes.pointer(record))
 
 
 def audit_end(sectors: int, mode1: int, damaged: int, tail: int) -> str:
-    """Returns the last line of `audit`, with its line feed: how many sectors there are, how many are Mode 1 sectors, how many of these are
-    damaged, and how many bytes there are after the sectors. Raises ValueError if `tail` is not 0 to 65535, or another number not 0 to
-    4294967295; it does not ask whether an image has such numbers."""
+    """Returns the last line of `audit`, with its line feed: the number of sectors, of Mode 1 sectors, of damaged Mode 1 sectors, and of
+    bytes after the sectors. Raises ValueError if `tail` is not 0 to 65535, or if another number is not 0 to 4294967295. No other relation
+    between the numbers is checked."""
     return _line(library.cdpatch_audit_end, _number(sectors), _number(mode1), _number(damaged), _number(tail, _LARGEST_TAIL))

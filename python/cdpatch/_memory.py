@@ -1,4 +1,4 @@
-"""The bytes of an object, read and written where they stand."""
+"""Gives the library access to the bytes of an object, in place."""
 
 from __future__ import annotations
 
@@ -25,12 +25,12 @@ _release.restype = None
 
 
 class Held:
-    """The bytes of an object: where they begin, which may be nowhere for no bytes, and how many they are, whatever the size of its items.
-    Until the end of a `with` block,
-    or as long as this exists, the object can neither move nor free them. A call of the library takes this for a pointer.
+    """The bytes of an object: their address, which may be 0 if there are none, and their number, whatever the size of the items. The
+    object can neither move nor free them until the end of a `with` block, or as long as this object exists. The library's calls accept it
+    as a pointer.
 
-    Raises ValueError if they are not `size` bytes; TypeError if the object has no buffer; BufferError if it is read-only and
-    `writable` is true, or its bytes are not in a row."""
+    Raises ValueError if the number of bytes is not `size`; TypeError if the object has no buffer; BufferError if the bytes are not
+    contiguous, or if `writable` is true and the object is read-only."""
 
     __slots__ = ('_export', '_as_parameter_', 'place', 'size')
 
@@ -45,7 +45,7 @@ class Held:
             raise ValueError(f'{self.size} bytes and not {size}')
 
     def release(self) -> None:
-        """Lets go of the object. A second time nothing happens."""
+        """Releases the object. A second call does nothing."""
         _release(self._export)
 
     __del__ = release
@@ -57,17 +57,18 @@ class Held:
         self.release()
 
     def overlaps(self, other: Held) -> bool:
-        """Whether the two have a byte in common."""
+        """Whether the two share a byte."""
         return self.place < other.place + other.size and other.place < self.place + self.size
 
 
 def lent(data: ReadableBuffer, size: int) -> Union[bytes, Held]:
-    """What a call takes for a pointer to `size` bytes. The `bytes` that most callers have go as they are, in half the time."""
+    """The argument for a pointer to `size` bytes. Objects of type `bytes`, which most callers have, are passed directly, in half the
+    time."""
     return data if type(data) is bytes and len(data) == size else Held(data, size)
 
 
 def lent_whole(data: ReadableBuffer) -> Tuple[Union[bytes, Held], int]:
-    """What a call takes for a pointer to any bytes, and how many they are."""
+    """The argument for a pointer to bytes, and their number."""
     if type(data) is bytes:
         return data, len(data)
     held = Held(data)

@@ -1,4 +1,4 @@
-"""An image patched from any reader to any writer."""
+"""Patches an image from any reader to any writer."""
 
 from __future__ import annotations
 
@@ -11,33 +11,33 @@ from ._running import UNKNOWN_SIZE, run
 if TYPE_CHECKING:
     from _typeshed import ReadableBuffer
 
-# As much as a pipe holds. Sector by sector what no patch looks at took four times as long.
+# The size of a pipe's buffer. Copying sector by sector took four times as long.
 MOST_HELD = 65536
 
 
 class Reader(Protocol):
-    """What gives an image: a file that is open for reading bytes, or any object with this method."""
+    """The source of an image: a file opened for reading in binary mode, or any object with this method."""
 
     def read(self, size: int, /) -> Optional[bytes]:
-        """Returns at least one byte and at most `size`, and no bytes at the end."""
+        """Returns 1 to `size` bytes, or no bytes at the end."""
 
 
 class Writer(Protocol):
-    """What takes an image: a file that is open for writing bytes, or any object with this method."""
+    """The destination of an image: a file opened for writing in binary mode, or any object with this method."""
 
     def write(self, data: bytes, /) -> Optional[int]:
-        """Takes at least one byte, and returns how many."""
+        """Writes at least one of the bytes, and returns how many it wrote."""
 
 
 class _Streams:
-    """The image of a reader, and a writer for the new one."""
+    """Reads an image from a reader, and writes the new image to a writer."""
 
     def __init__(self, reader: Reader, writer: Writer) -> None:
         self.reader = reader
         self.writer = writer
 
     def _some(self, size: int) -> bytes:
-        """At most so many bytes, as one read gives them."""
+        """The bytes of one read, at most `size`."""
         data = self.reader.read(size)
         if data is None:
             raise BlockingIOError('the reader has no bytes yet')
@@ -75,20 +75,21 @@ class _Streams:
 
 def patch(reader: Reader, script: ReadableBuffer, writer: Writer, base: int = 0, carry: bool = False, *,
           log: Optional[Callable[[str], object]] = None) -> Report:
-    """Reads an image, whose first sector is block `base`, 0 to 449849, patches it by a script, and writes the new image, of the same
-    size. Returns what `cdpatch apply` prints, and whether a patch was refused; the new image has the others. With `carry` damage
-    is no reason to refuse a patch, and stays; a `rebuild` removes it, with `carry` and without.
+    """Reads an image whose first sector is block `base`, applies a script to it, and writes the new image, which has the same size.
+    Returns what `cdpatch apply` prints, and whether a patch was refused. The new image has all patches that were not refused. With
+    `carry`, patches of damaged sectors are applied too, and the damage stays. A `rebuild` removes damage with or without `carry`.
 
-    With `log`, such as `sys.stdout.write`, each line of that is handed over as soon as it is known: of a patch before a sector of its block
-    or of a later one is written. So is the line of an error. The lines before a file fails are then not lost.
+    `log`, for example `sys.stdout.write`, gets each line of the output as soon as it is known: the line of a patch before any sector from
+    its block on is written. It also gets the line of an error. So if a file fails, the lines before are not lost.
 
-    No more than 65536 bytes of the image are held, so `reader` and `writer` may be pipes. A script that is not `bytes`, such as a bytearray,
-    is copied: what becomes of it meanwhile changes nothing. A read may give less than it is asked for, and a
-    write take less; `write` returns how many bytes it took, as that of Python's files does. Nothing is read after the end, and nothing
-    is flushed or closed.
+    At most 65536 bytes of the image are in memory, so `reader` and `writer` may be pipes. A script that is not `bytes` is copied, so a
+    change of it during the call has no effect. A read may return fewer bytes than requested, and a write may write fewer; `write` returns
+    the number of bytes written, as Python's files do. Nothing is read after the end of the image, and nothing is flushed or closed.
 
-    Raises Failed if the base is another number, or the script is invalid or too long: then nothing is read or written. A caller who opens
-    `writer` only after `check(b'', script)` has no empty file left of an invalid script. Raises Failed, with the log so far, if the image
-    has more than 2352000000 bytes, OSError if the writer takes nothing, BlockingIOError if the reader has nothing yet, ValueError if it
-    gives more than it is asked for, and what the three raise: then a prefix of the new image was written."""
+    Raises Failed, before anything is read or written, if the base is not 0 to 449849, or if the script is invalid or too long. To avoid an
+    empty file if the script is invalid, call `check(b'', script)` before you open `writer`.
+
+    Other errors can occur after a prefix of the new image was written: Failed, with the log so far, if the image has more than 2352000000
+    bytes; OSError if the writer writes nothing; BlockingIOError if the reader has no bytes yet; ValueError if it returns more bytes than
+    requested; and whatever `reader`, `writer`, and `log` raise."""
     return run(_Streams(reader, writer), UNKNOWN_SIZE, script, base, carry, log)

@@ -1,4 +1,4 @@
-"""A run of a script over an image: the library says step by step what to move, and a client moves it."""
+"""Runs a script over an image: the library decides each step, and a client moves the bytes."""
 
 from __future__ import annotations
 
@@ -18,29 +18,29 @@ if TYPE_CHECKING:
     from _typeshed import ReadableBuffer
 
 UNKNOWN_SIZE = LARGEST_SIZE
-# Plain numbers are compared faster.
+# Comparing plain integers is faster.
 _READ, _COPY, _WRITE, _LOG = map(int, (StepKind.READ, StepKind.COPY, StepKind.WRITE, StepKind.LOG))
 
 _FIELDS = struct.Struct(STEP_FORMAT)
 
 
 class Client(Protocol):
-    """What moves the bytes of an image, forward and each once. A call returns how many it moved: fewer than `size` only if the image
-    ends there. If it can't, it raises, and the run is left as it is. `hand` is a place in memory."""
+    """Moves the bytes of an image forward, each once. A call returns how many bytes it moved: fewer than `size` only at the end of the
+    image. If it cannot move them, it raises, and the run is abandoned. `hand` is an address in memory."""
 
     def read(self, at: int, size: int, hand: int) -> int:
-        """Reads bytes into the hand."""
+        """Reads bytes to `hand`."""
 
     def copy(self, at: int, size: int) -> int:
-        """Passes bytes on as they are."""
+        """Copies bytes unchanged."""
 
     def write(self, at: int, size: int, hand: int) -> int:
-        """Passes on bytes in hand."""
+        """Writes the bytes at `hand`."""
 
 
 def _kept(script: ReadableBuffer) -> ReadableBuffer:
-    """A script that nobody can change during a run, of whose lines that knows only where they are: a copy, if it is not `bytes`. One that
-    is too long is refused by its size, and not copied."""
+    """A script that cannot change during a run, which reads its lines again: a copy, if it is not `bytes`. A script that is too long is
+    not copied, because the run refuses it by its size."""
     with Held(script) as held:
         if type(script) is bytes or held.size > MOST_SCRIPT_BYTES:
             return script
@@ -49,8 +49,8 @@ def _kept(script: ReadableBuffer) -> ReadableBuffer:
 
 def run(client: Client, image_size: int, script: ReadableBuffer, base: int, carry: bool,
         hear: Optional[Callable[[str], object]] = None) -> Report:
-    """Leads a run to its end, tells `hear` each line of its log, and returns that. Raises Failed, with the log, if the script or the image
-    has an error."""
+    """Runs a script to the end, passes each line of the log to `hear`, and returns the report. Raises Failed, with the log, if the script
+    is invalid, or the image is too long."""
     base, log, done = checked_base(base), bytearray(), c_size_t()
     with Held(_kept(script)) as text:
         count = min(text.size, MOST_PATCHES)

@@ -1,4 +1,4 @@
-"""The codes of CD-ROM sectors, and sectors one by one. No call changes what it is given."""
+"""The codes of CD-ROM sectors, and single sectors. No call changes its arguments."""
 
 from __future__ import annotations
 
@@ -22,8 +22,8 @@ _Sector = ctypes.c_char * SECTOR_SIZE
 
 
 class Defect(NamedTuple):
-    """What is wrong with a sector: whether a byte of the Intermediate field is not 00, whether the EDC is wrong, and how many of 86 P
-    columns and of 52 Q diagonals are not code words."""
+    """The damage of a sector: whether a byte of the Intermediate field is not 00, whether the EDC is wrong, and how many of the 86 P
+    columns and the 52 Q diagonals are not code words."""
     zeros: bool
     edc: bool
     p: int
@@ -31,37 +31,39 @@ class Defect(NamedTuple):
 
 
 class Broken(NamedTuple):
-    """Which code words are broken: a byte for each of 86 P columns and of 52 Q diagonals, 1 if it is not a code word, else 0."""
+    """Which code words are broken: a byte for each of the 86 P columns and the 52 Q diagonals, 1 if it is not a code word, else 0."""
     columns: bytes
     diagonals: bytes
 
 
 def _copied(sector: ReadableBuffer) -> ctypes.Array[ctypes.c_char]:
-    lent(sector, SECTOR_SIZE)  # Raises ValueError for another size.
+    lent(sector, SECTOR_SIZE)  # Raises ValueError for a different size.
     return _Sector.from_buffer_copy(sector)
 
 
 def _changed(call: Callable[..., int], sector: ReadableBuffer, *arguments: Argument) -> tuple[int, bytes]:
-    """The result of a change, and the sector that it leaves."""
+    """Applies a change to a copy of a sector. Returns its result, and the sector."""
     made = _copied(sector)
     return call(made, *arguments), made.raw
 
 
 def _accepted(result: int, sector: bytes) -> bytes:
-    """The sector, unless the change was refused. What was held for it is let go by then, as an error keeps what its frames have."""
+    """Returns the sector, or raises if the change was refused. By then the buffers are released: an error would keep them in its
+    frames."""
     if result:
         raise refusal(result)
     return sector
 
 
 def edc(data: ReadableBuffer) -> int:
-    """Returns the EDC word of any bytes. A sector stores that of its bytes 0 to 2063 at 2064, the least significant byte first."""
+    """Returns the EDC of any bytes. A sector stores the EDC of its bytes 0 to 2063 at byte 2064, least significant byte first (ECMA-130,
+    14)."""
     word: int = library.cdpatch_edc(*lent_whole(data))
     return word
 
 
 def kind(sector: ReadableBuffer) -> str:
-    """Returns the kind of a sector of 2352 bytes, one of KINDS. Raises ValueError for another size."""
+    """Returns the kind of a sector of 2352 bytes, one of KINDS. Raises ValueError for a different size."""
     found: int = library.cdpatch_kind(lent(sector, SECTOR_SIZE))
     return KINDS[found]
 
@@ -75,7 +77,7 @@ def address(block: int) -> Optional[bytes]:
 
 
 def encode(address: ReadableBuffer, user: ReadableBuffer) -> bytes:
-    """Returns the one consistent Mode 1 sector, 2352 bytes, with 3 bytes of address, any, and 2048 bytes of user data. Raises
+    """Returns the one consistent Mode 1 sector, 2352 bytes, that has any 3 bytes as its address and 2048 bytes of user data. Raises
     ValueError for other sizes."""
     made = _Sector()
     library.cdpatch_encode(lent(address, ADDRESS_SIZE), lent(user, USER_SIZE), made)
@@ -83,37 +85,38 @@ def encode(address: ReadableBuffer, user: ReadableBuffer) -> bytes:
 
 
 def with_parity(sector: ReadableBuffer) -> bytes:
-    """Returns a sector of any kind, 2352 bytes, with P and Q parity recalculated. Raises ValueError for another size."""
+    """Returns a sector of any kind, 2352 bytes, with P and Q parity recalculated. Raises ValueError for a different size."""
     made = _copied(sector)
     library.cdpatch_fill_parity(made)
     return made.raw
 
 
 def is_consistent(sector: ReadableBuffer) -> bool:
-    """Returns whether a sector of 2352 bytes is a Mode 1 sector with nothing wrong in it. Raises ValueError for another size."""
+    """Returns whether a sector of 2352 bytes is a Mode 1 sector without any damage. Raises ValueError for a different size."""
     sound: bool = library.cdpatch_is_consistent(lent(sector, SECTOR_SIZE))
     return sound
 
 
 def defect(sector: ReadableBuffer) -> Defect:
-    """Returns what is wrong with a sector of 2352 bytes, read as a Mode 1 sector. Raises ValueError for another size."""
+    """Returns the damage of a sector of 2352 bytes, read as a Mode 1 sector. Raises ValueError for a different size."""
     found = DefectStruct()
     library.cdpatch_find_defect(lent(sector, SECTOR_SIZE), ctypes.byref(found))
     return Defect(found.zeros, found.edc, found.p, found.q)
 
 
 def broken(sector: ReadableBuffer) -> Broken:
-    """Returns which code words of a sector of any kind, 2352 bytes, are broken. A single wrong byte of 12 to 2247 lies where the broken
-    column and the broken diagonal cross; of 2248 to 2351 it breaks only a diagonal, and of 0 to 11 nothing. libcdpatch(3) says which
-    bytes each has. Raises ValueError for another size."""
+    """Returns which code words of a sector of any kind, 2352 bytes, are broken. A single wrong byte from 12 to 2247 is where the broken
+    column and the broken diagonal cross. A wrong byte from 2248 to 2351 breaks only a diagonal, and one from 0 to 11 breaks nothing.
+    libcdpatch(3) lists the bytes of each code word. Raises ValueError for a different size."""
     columns, diagonals = ctypes.create_string_buffer(COLUMNS), ctypes.create_string_buffer(DIAGONALS)
     library.cdpatch_find_broken(lent(sector, SECTOR_SIZE), columns, diagonals)
     return Broken(columns.raw, diagonals.raw)
 
 
 def survey(sectors: ReadableBuffer, block: int = 0) -> ctypes.Array[Record]:
-    """Returns a Record for each whole sector of the given bytes, of which the first is block `block`: an array of six bytes for each,
-    which makes an object of one only when it is read, and can be pickled. Bytes after the last whole sector are not looked at.
+    """Returns a Record for each whole sector of the given bytes, whose first sector is block `block`. The result is an array with six
+    bytes for each sector. It creates a Record only when an item is read, and it can be pickled. Bytes after the last whole sector are
+    ignored.
 
     Raises ValueError if a block is not 0 to 4294967294."""
     block = index(block)
@@ -126,17 +129,17 @@ def survey(sectors: ReadableBuffer, block: int = 0) -> ctypes.Array[Record]:
 
 
 def rebuild(sector: ReadableBuffer) -> bytes:
-    """Returns the one consistent sector with the header and the user data of a Mode 1 sector of 2352 bytes. Raises NotMode1, or
-    ValueError for another size."""
+    """Returns the one consistent sector that has the header and the user data of a Mode 1 sector of 2352 bytes. Raises NotMode1, or
+    ValueError for a different size."""
     return _accepted(*_changed(library.cdpatch_rebuild, sector))
 
 
 def with_user(sector: ReadableBuffer, offset: int, new: ReadableBuffer, carry: bool = False) -> bytes:
-    """Returns a Mode 1 sector of 2352 bytes with all bytes of `new` in its 2048 of user data, beginning at `offset`, with EDC and parity
+    """Returns a Mode 1 sector of 2352 bytes with the bytes of `new` at `offset` of its 2048 bytes of user data, and with EDC and parity
     updated. With `carry` the sector may be damaged: its damage stays, and none is added.
 
-    Raises NotMode1; Damaged, but not with `carry`; OutOfRange if the bytes are not within the user data; ValueError for another size
-    of the sector. To replace all 2048 bytes of a sector that is known to be sound, `encode` takes less than half the time."""
+    Raises NotMode1; Damaged, but not with `carry`; OutOfRange if the bytes are not within the user data; ValueError if the sector has
+    a different size. To replace all 2048 bytes of a sector that is known to be sound, `encode` needs less than half the time."""
     call = library.cdpatch_carry_user if carry else library.cdpatch_change_user
     offset = index(offset)
     place = offset if 0 <= offset <= LARGEST_SIZE else LARGEST_SIZE
@@ -144,8 +147,9 @@ def with_user(sector: ReadableBuffer, offset: int, new: ReadableBuffer, carry: b
 
 
 def with_address(sector: ReadableBuffer, address: ReadableBuffer, carry: bool = False) -> bytes:
-    """Returns a Mode 1 sector of 2352 bytes with 3 bytes of address in its header, with EDC and parity updated. With `carry` the sector
-    may be damaged: its damage stays, and none is added. Raises NotMode1; Damaged, but not with `carry`; ValueError for other
-    sizes."""
+    """Returns a Mode 1 sector of 2352 bytes with these 3 bytes as the address in its header, and with EDC and parity updated. With `carry`
+    the sector may be damaged: its damage stays, and none is added.
+
+    Raises NotMode1; Damaged, but not with `carry`; ValueError for other sizes."""
     call = library.cdpatch_carry_address if carry else library.cdpatch_change_address
     return _accepted(*_changed(call, sector, lent(address, ADDRESS_SIZE)))
