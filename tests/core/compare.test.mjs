@@ -243,7 +243,8 @@ test('the lines that are given away as they come, and the script of a base', asy
     assert.match(textOf(whole.script), new RegExp(`^cdpatch 2\n# base ${BASE}\n[a-z]+ `));
     const { script } = await compared(old, fresh, { take: async text => { lines.push(Buffer.from(text)); } });
     assert.deepEqual([textOf(script), script.size], [head(2), whole.script.size]);
-    assert.equal(textOf(script) + Buffer.concat(lines), textOf(whole.script));
+    assert.equal(lines[0].toString(), head(1));
+    assert.equal(textOf(script) + Buffer.concat(lines.slice(1)), textOf(whole.script));
     assert.match(textOf((await compareTrack({ calls, crew: localCrew() }, trackOf(old, 0), readerOf(fresh))).script), /^cdpatch 2\n[a-z]+ /);
 });
 

@@ -20,20 +20,23 @@ const wanted = { text: TEXT, encodings: [UTF8], limit: 10 };
 const APART = { block: 31, offset: USER - 5, size: TEXT.length };
 const WHOLE = { block: 36, offset: 100, size: TEXT.length };
 
-/** @param {{ parts: any }} made */
-const linesOf = ({ parts }) => decoded(Buffer.concat(parts.pieces)).split('\n').slice(0, -1);
+/** @param {{ script: any }} made */
+const linesOf = ({ script }) => decoded(Buffer.concat(script.pieces)).split('\n').slice(1, -1);
 
 test('a text over two extents of a file is found, read and replaced in the order of the file', async () => {
     const { opened } = await openedDisc();
     const { image, best, others, searched } = await findText(engine, opened, wanted);
     assert.deepEqual([best.count, best.hits, others, searched], [2, [APART, WHOLE], [], [UTF8.name]]);
     assert.equal((await contextOf(image, UTF8, APART)).hit, TEXT);
-    const made = await replaceHits(engine, { image, encoding: UTF8, hits: [APART] }, { freshFor: () => encoded('PRESS START') });
+    const made = await replaceHits(engine, opened, { image, encoding: UTF8, hits: [APART], freshFor: () => encoded('PRESS START') });
     assert.deepEqual(made.left, []);
     const due = ['set 31 2043 5052455353 was 7072657373', 'set 20 0 205354415254 was 207374617274'];
     assert.deepEqual(linesOf(made), due);
     const untried = untriedLines(image, { place: APART, old: encoded(TEXT), fresh: encoded('PRESS START') });
     assert.equal(decoded(untried.text), `${due.join('\n')}\n`);
+    const moved = await replaceHits(engine, { image: opened.withBase(150).image }, { image: { ...image, base: 150, order: undefined },
+        encoding: UTF8, hits: [{ ...WHOLE, block: 186 }], freshFor: () => encoded('PRESS START') });
+    assert.deepEqual(linesOf(moved)[0], '# base 150');
     const at = await findTextAt(engine, opened, { ...wanted, place: APART });
     assert.deepEqual([at.hits, at.encoding], [[APART], UTF8]);
 });
@@ -68,11 +71,11 @@ function imageOf(user) {
 test('hits that overlap are not replaced both, and what is left is named', async () => {
     const image = imageOf(Uint8Array.from([7, 7, 7, 0, 7, 7]));
     const places = { image, encoding: encodingOf('hex'), hits: [hit(0, 0, 2), hit(0, 1, 2), hit(0, 4, 2)] };
-    const made = await replaceHits(engine, places, { freshFor: () => Uint8Array.of(1, 2) });
+    const made = await replaceHits(engine, { image }, { ...places, freshFor: () => Uint8Array.of(1, 2) });
     assert.deepEqual(linesOf(made), ['set 0 0 0102 was 0707', 'set 0 4 0102 was 0707']);
     assert.deepEqual(made.left, [{ text: places.hits[1], why: 'it overlaps the one before it' }]);
-    const none = await replaceHits(engine, places, { freshFor() { throw new Fault('it has another length'); } });
-    assert.deepEqual([linesOf(none), none.left], [[], places.hits.map(text => ({ text, why: 'it has another length' }))]);
+    const none = await replaceHits(engine, { image }, { ...places, freshFor() { throw new Fault('it has another length'); } });
+    assert.deepEqual([none.script, none.left], [null, places.hits.map(text => ({ text, why: 'it has another length' }))]);
 });
 
 test('replacing hits can be cancelled, and their number is told', async () => {
@@ -80,7 +83,7 @@ test('replacing hits can be cancelled, and their number is told', async () => {
     const signal = { aborted: false };
     const progress = (done, all) => { told.push([done, all]); signal.aborted = done === 1; };
     const places = { image: imageOf(new Uint8Array(0)), encoding: encodingOf('hex'), hits: [hit(0, 0, 1), hit(0, 1, 1), hit(0, 2, 1)] };
-    const replacing = replaceHits(engine, places, { freshFor: () => Uint8Array.of(1) }, { signal, progress });
+    const replacing = replaceHits(engine, places, { ...places, freshFor: () => Uint8Array.of(1) }, { signal, progress });
     await assert.rejects(replacing, { code: 'cancelled' });
     assert.deepEqual(told, [[0, 3], [1, 3]]);
 });
@@ -90,8 +93,8 @@ test('a hit that may begin inside a character is left out, unless it is meant', 
     const image = imageOf(Uint8Array.of(0, 0x8A, 0x6B, 0x7A, 0, 0x6B, 0x7A));
     const places = { image, encoding: encodingOf('CP932'), hits: [hit(0, 2, 2), hit(0, 5, 2)] };
     const freshFor = () => Uint8Array.of(0x78, 0x78);
-    const made = await replaceHits(engine, places, { freshFor });
+    const made = await replaceHits(engine, { image }, { ...places, freshFor });
     assert.deepEqual([linesOf(made), made.left], [['set 0 5 7878 was 6B7A'],
         [{ text: places.hits[0], why: 'perhaps in the middle of a character (byte before: 8A)' }]]);
-    assert.deepEqual((await replaceHits(engine, places, { freshFor, inside: true })).left, []);
+    assert.deepEqual((await replaceHits(engine, { image }, { ...places, freshFor, inside: true })).left, []);
 });

@@ -11,10 +11,9 @@ import { entriesAtPath } from './looking.js';
 import { placeGiven } from './numbers.js';
 import { openTrackOf } from './opening.js';
 import { sayOfRuns } from './printed.js';
-import { writeFinished, writeParts } from './scripts.js';
+import { writeFinished } from './scripts.js';
 import { encodingsOf, foundText } from './searching.js';
 
-/** @typedef {import('../core/disc/disc.js').DiscImage} DiscImage */
 /** @typedef {import('../core/sectors/sector.js').Place} Place */
 /** @typedef {import('../core/tasks/find.js').Places} Places */
 /** @typedef {import('../core/tasks/opened.js').OpenedTrack} OpenedTrack */
@@ -105,17 +104,18 @@ function freshBytes(run, { encoding, hits }, text) {
  * Writes the script that replaces a text at places, and returns how many are left out. They are named; the only one is a Fault.
  * @param {Run} run
  * @param {import('./run.js').Target} target
- * @param {DiscImage} image
+ * @param {OpenedTrack} opened
  * @param {Places} places
  * @param {{ text: string, inside: boolean | undefined }} options
  */
-async function writeReplaced(run, target, image, places, { text, inside }) {
+async function writeReplaced(run, target, opened, places, { text, inside }) {
     const known = freshBytes(run, places, text);
     const freshFor = (/** @type {number} */ size) => /** @type {Uint8Array} */ (known.get(size));
-    const { parts, left } = await replaceHits(run, places, { freshFor, inside });
+    const { script, left } = await replaceHits(run, opened, { ...places, freshFor, inside });
     if (left.length === 1 && places.hits.length === 1) throw new Fault(left[0].why);
     sayOfRuns(run, left, leftHitText);
-    await writeParts(run, target, parts, image, 'no place is left');
+    if (script === null) throw new Fault('no place is left, so no script is written');
+    await writeFinished(run, target, script);
     return left.length;
 }
 
@@ -130,7 +130,7 @@ export async function replaceJob(run) {
     const opened = await openTrackOf(run, name, given !== null);
     const places = given === null ? await wantedPlaces(run, opened, before) : await placesAt(run, opened, given, before);
     const inside = given !== null || run.options.inside;
-    return Number(await writeReplaced(run, target, opened.image, places, { text: after, inside }) > 0);
+    return Number(await writeReplaced(run, target, opened, places, { text: after, inside }) > 0);
 }
 
 /** @param {Run} run */

@@ -2,7 +2,7 @@
 
 import { FAULT, Fault, failedBy } from '../core/faults.js';
 import { RECORD_SIZE } from '../core/module/index.js';
-import { LineList, ScriptParts, assertFits, baseComment, headLine, leftText, scriptForBase } from '../core/script/index.js';
+import { LineList, ScriptParts, leftText, scriptForBase } from '../core/script/index.js';
 import { blocksIn, blocksText, isDamaged } from '../core/sectors/index.js';
 import { compareTrack, openTrack, undoScript } from '../core/tasks/index.js';
 import { differingFields } from './fields.js';
@@ -28,17 +28,6 @@ const NOTHING_TO_TAKE_BACK = 'the image already has what the script writes, so n
 const DAMAGE_STAYS_OUT = 'damage does not come back; address and user data do';
 
 /**
- * Writes a script, with a comment that says its base if that is not 0.
- * @param {Run} run
- * @param {Target} target
- * @param {Script} script
- * @param {number} base of the image that it is for
- */
-export function writeScript(run, target, script, base) {
-    return writeFinished(run, target, scriptForBase(script, base));
-}
-
-/**
  * Writes a script that says its base.
  * @param {Run} run
  * @param {Target} target
@@ -47,21 +36,6 @@ export function writeScript(run, target, script, base) {
 export async function writeFinished(run, target, script) {
     for (const piece of script.pieces) await target.write(piece);
     sayOfScript(run, script);
-}
-
-/**
- * Writes the script of parts, which fits the image.
- * @param {Run} run
- * @param {Target} target
- * @param {ScriptParts} parts
- * @param {DiscImage} image
- * @param {string} none what is said if there are no lines
- */
-export async function writeParts(run, target, parts, image, none) {
-    if (parts.patches === 0) throw new Fault(`${none}, so no script is written`);
-    const script = parts.script(run.calls);
-    await assertFits(run.calls, image, script);
-    await writeScript(run, target, script, image.base);
 }
 
 /**
@@ -88,11 +62,9 @@ function remedyOf({ left, tail }, newName) {
 /**
  * How a file gets lines as they come, which it may since it has its name only when it is whole. Its head line is known after them.
  * @param {Target} target
- * @param {number} base
  */
-async function takingLines(target, base) {
+function takingLines(target) {
     if (!(target instanceof NewFile)) return {};
-    await target.write(new TextEncoder().encode(`${headLine()}\n${baseComment(base)}`));
     return { take: (/** @type {Uint8Array} */ text) => target.write(text) };
 }
 
@@ -109,7 +81,7 @@ export async function diffJob(run) {
         throw new Fault(fields ? sizes : `${sizes}, and no script changes a length`);
     }
     if (fields) return differingFields(run, target, opened, fresh);
-    const made = await compareTrack(run, opened, fresh, { skipDamaged, partial, ...await takingLines(target, image.base) });
+    const made = await compareTrack(run, opened, fresh, { skipDamaged, partial, ...takingLines(target) });
     sayOfRuns(run, made.left, left => leftText([left], newName));
     if (made.tail) run.say('the bytes after the last sector differ, and no script changes them');
     if (made.script === null) throw new Fault(`no script leads to that image, so none is written${remedyOf(made, newName)}`);
@@ -132,7 +104,7 @@ export async function rebuildsJob(run) {
         if (isDamaged(records, at)) lines.rebuild(block + at / RECORD_SIZE);
     }
     script.push(lines.lines());
-    await writeScript(run, target, script.script(run.calls), image.base);
+    await writeFinished(run, target, scriptForBase(script.script(run.calls), image.base));
     return 0;
 }
 

@@ -2,7 +2,7 @@
 
 import { readBytes, sameBytes } from '../bytes.js';
 import { RECORD, RECORD_SIZE, SECTOR_KIND, SECTOR_SIZE, sectorCount } from '../module/index.js';
-import { ScriptParts, linesBetween, scriptForBase } from '../script/index.js';
+import { ScriptParts, baseComment, headLine, linesBetween, scriptForBase } from '../script/index.js';
 import { FIELDS, differingSectors, isSound, sectorOf, sectorsAt } from '../sectors/index.js';
 
 /** @typedef {import('../module/calls.js').Calls} Calls */
@@ -53,14 +53,15 @@ export function diffRange(calls, old, fresh, first, how) {
  * @param {Engine} engine
  * @param {Pick<OpenedTrack, 'image'>} opened
  * @param {Reader} fresh
- * @param {{ skipDamaged?: boolean, partial?: boolean, take?: (text: Uint8Array) => Promise<void> }} [options] with `take` the lines are
- *     given to it as they come, before it is known whether there is a script, and the script has only its head
+ * @param {{ skipDamaged?: boolean, partial?: boolean, take?: (text: Uint8Array) => Promise<void> }} [options] with `take` the text is given
+ *     to it as it comes, before it is known whether there is a script, and of the script only the first line is left to be written over
  * @param {Sharing} [watch]
  * @returns {Promise<Comparison>}
  */
 export async function compareTrack({ calls, crew }, { image }, fresh, options = {}, watch = {}) {
     const { skipDamaged, partial, take } = options;
     const parts = new ScriptParts();
+    if (take !== undefined) await take(new TextEncoder().encode(`${headLine()}\n${baseComment(image.base)}`));
     await crew.share('diff', [image.reader, fresh], {}, { step: COMPARED_STEP, ...watch, base: image.base }, async lines => {
         if (take === undefined) return parts.push(lines);
         parts.count(lines);

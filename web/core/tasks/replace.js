@@ -5,6 +5,7 @@ import { ScriptParts } from '../script/index.js';
 import { bytesBefore, contextOf } from '../texts/index.js';
 import { letOthersIn } from '../turns.js';
 import { replaceBytes } from './replace_bytes.js';
+import { fittingScript } from './script_for.js';
 
 /** @typedef {import('../disc/disc.js').OrderedImage} OrderedImage */
 /** @typedef {import('../script/sector_lines.js').Lines} Lines */
@@ -13,6 +14,7 @@ import { replaceBytes } from './replace_bytes.js';
 /** @typedef {import('./engine.js').Engine} Engine */
 /** @typedef {import('./engine.js').Watch} Watch */
 /** @typedef {import('./find.js').Places} Places */
+/** @typedef {import('./opened.js').OpenedTrack} OpenedTrack */
 
 /**
  * Throws a Fault if a new text has more bytes than there are for it.
@@ -64,20 +66,21 @@ export async function replacedEach(image, texts, { signal, progress }, replace) 
 }
 
 /**
- * The lines that replace the hits of a text, and the hits that are left out, each with the reason. The core has tried the lines on the
- * sectors. A hit is left out if it may begin in the middle of a character, overlaps the one before it, has no room for the text, or lies
- * in a sector that is damaged or not Mode 1.
+ * Makes the script that replaces the hits of a text, which fits the image; null if no hit can be replaced. Also gives the hits that are
+ * left out, each with the reason: a hit may begin in the middle of a character, overlap the one before it, have no room for the text, or
+ * lie in a sector that is damaged or not Mode 1.
  * @param {Pick<Engine, 'calls'>} engine
- * @param {Places} places
- * @param {{ freshFor: (size: number) => Uint8Array, inside?: boolean }} options the new bytes for a number of old ones, which throws a
- *     Fault if they do not fit; and whether hits are replaced that may begin in the middle of a character
+ * @param {Pick<OpenedTrack, 'image'>} opened
+ * @param {Places & { freshFor: (size: number) => Uint8Array, inside?: boolean }} options the new bytes for a number of old ones, which
+ *     throws a Fault if they do not fit; and whether hits are replaced that may begin in the middle of a character
  * @param {Watch} [watch]
  */
-export function replaceHits({ calls }, { image, encoding, hits }, { freshFor, inside = false }, watch = {}) {
-    return replacedEach(image, hits, watch, async (hit, met) => {
+export async function replaceHits({ calls }, opened, { image, encoding, hits, freshFor, inside = false }, watch = {}) {
+    const { parts, left } = await replacedEach(image, hits, watch, async (hit, met) => {
         const { bytes, doubt } = await contextOf(image, encoding, hit, 0);
         if (met !== null) throw new Fault('it overlaps the one before it');
         if (doubt !== '' && !inside) throw new Fault(doubt);
         return { lines: await replaceBytes(calls, image, hit, bytes, freshFor(hit.size)), size: hit.size };
     });
+    return { script: await fittingScript(calls, opened.image, parts), left };
 }

@@ -1,11 +1,14 @@
-// A script for an image: without faults, and not written for another base.
+// A script for an image: one that is read, without faults and for no other base; and one that is made, which fits.
 
 import { FAULT, Fault } from '../faults.js';
-import { Refusal, baseFault, readScript } from '../script/index.js';
+import { Refusal, assertFits, baseFault, readScript, scriptForBase } from '../script/index.js';
 
 /** @typedef {import('../module/calls.js').Calls} Calls */
 /** @typedef {import('../script/script.js').Pieces} Pieces */
 /** @typedef {import('../script/script.js').ReadScript} ReadScript */
+/** @typedef {import('../script/script_writer.js').Script} Script */
+/** @typedef {import('../script/script_writer.js').ScriptParts} ScriptParts */
+/** @typedef {import('../disc/disc.js').DiscImage} DiscImage */
 
 /**
  * A script without faults. Throws a Fault, SCRIPT, whose message is the program's line, and what the script's reader throws.
@@ -28,4 +31,18 @@ export async function validScript(calls, pieces, long) {
 export function assertBase({ bases }, base) {
     const other = bases.find(said => said.base !== base);
     if (other) throw new Fault(baseFault(bases, base), FAULT.OTHER_BASE, { other });
+}
+
+/**
+ * The finished script of some lines, which fits its image; null if there are no lines. Throws a Fault if its patches conflict.
+ * @param {Calls} calls
+ * @param {DiscImage} image
+ * @param {ScriptParts} parts
+ * @returns {Promise<Script | null>}
+ */
+export async function fittingScript(calls, image, parts) {
+    if (parts.patches === 0) return null;
+    const script = scriptForBase(parts.script(calls), image.base);
+    await assertFits(calls, image, script);
+    return script;
 }

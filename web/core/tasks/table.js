@@ -1,9 +1,9 @@
 // The table of the texts of a track: exported for translators, and imported with their new texts.
 
 import { FAULT, Fault } from '../faults.js';
-import { assertFits, scriptForBase } from '../script/index.js';
 import { codesLeftOut, stretchesOf, tableOfTexts } from '../texts/index.js';
 import { encodingsOfRows, replaceList, rowsOfList } from './list.js';
+import { fittingScript } from './script_for.js';
 
 /** @typedef {import('../disc/disc.js').DiscFile} DiscFile */
 /** @typedef {import('../encodings/encoding.js').Encoding} Encoding */
@@ -75,9 +75,7 @@ export async function importTable({ calls }, opened, { list, encodings, isAsked,
     const rows = await rowsOfList(list.reader, list.name, isAlso, signal);
     const fresh = rows.filter(row => row.fresh !== '');
     const { parts, left } = await replaceList(calls, part, fresh, encodingsFor, fill, watch);
-    const isMade = parts.patches > 0 && (partial || left.length === 0);
-    const script = isMade ? scriptForBase(parts.script(calls), image.base) : null;
-    if (script !== null) await assertFits(calls, image, script);
+    const script = partial || left.length === 0 ? await fittingScript(calls, image, parts) : null;
     const withoutNew = rows.flatMap(row => row.fresh === '' ? { ...row, fresh: row.text } : []);
     const old = (await replaceList(calls, part, withoutNew, encodingsFor, null, { signal })).parts.script(calls);
     return { count: fresh.length, script, old, left, codes: await codesLeftOut(fresh, encodingsFor, signal) };

@@ -8,6 +8,7 @@ import { leftHitText, replaceHits } from '../../core/tasks/index.js';
 /** @typedef {import('../../core/tasks/engine.js').Engine} Engine */
 /** @typedef {import('../../core/tasks/engine.js').Watch} Watch */
 /** @typedef {import('../../core/tasks/find.js').Places} Places */
+/** @typedef {import('../../core/tasks/opened.js').OpenedTrack} OpenedTrack */
 
 /** Most hits that are kept: as many as a script has lines for. */
 export const MOST_HITS = MOST_PATCHES;
@@ -20,11 +21,12 @@ export function textLines({ text }) {
 /**
  * The lines that replace several hits, and why others have none.
  * @param {Engine} engine
+ * @param {OpenedTrack} opened
  * @param {Places} places
  * @param {(size: number) => Uint8Array} freshFor the new bytes for a number of old ones. Throws a Fault if they do not fit
  * @param {Watch} watch
  */
-export async function linesForAll(engine, places, freshFor, watch) {
-    const { parts, left } = await replaceHits(engine, places, { freshFor }, watch);
-    return { lines: linesMade(parts.script(engine.calls)), left: left.map(leftHitText) };
+export async function linesForAll(engine, opened, places, freshFor, watch) {
+    const { script, left } = await replaceHits(engine, opened, { ...places, freshFor }, watch);
+    return { lines: script === null ? [] : linesMade(script), left: left.map(leftHitText) };
 }

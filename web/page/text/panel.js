@@ -256,7 +256,7 @@ class TextPanel {
                 fill(this.replace.job, ...bar.parts);
                 const hits = found.hits.filter(hit => app.script.lineAt(hit) === 0);
                 const places = { image: found.image, encoding: chosenEncoding(app), hits };
-                return linesForAll(app, places, size => filledUp(fresh, size, filling), { signal, progress: bar.things });
+                return linesForAll(app, image.opened, places, size => filledUp(fresh, size, filling), { signal, progress: bar.things });
             });
             if (app.image !== image || this.found !== found) return;
             if (lines.length > 0) app.addLines(lines);
