@@ -362,6 +362,10 @@ test_forms() {
     refuses_form '../more/index.js is in a room that has no place in the order' core/iso/files.js "import '../more/index.js';"
     refuses_form 'dataTrack is for the tasks of the core' command/help.js "import { dataTrack } from '../core/disc/index.js';"
     refuses_form 'searchText is for the tasks of the core' page/disc/map.js "import { searchText } from '../../core/texts/index.js';"
+    refuses_form 'LineList is for the tasks of the core' page/disc/map.js "export { LineList } from '../../core/script/index.js';"
+    refuses_form 'Crew is for the tasks of the core' command/help.js "import { Crew } from '../core/crew/index.js';"
+    refuses_form '* is for the tasks of the core' npm/jobs.js "import * as sectors from '../core/sectors/index.js';"
+    refuses_form '* is for the tasks of the core' command/help.js "export * from '../core/texts/index.js';"
     refuses_form '../tasks/index.js is in a higher room' core/texts/search.js "import '../tasks/index.js';"
     wanted "eslint refuses a type of a higher room in a room's declarations" has_type core/crew/jobs.d.ts "export { Lines } from '../script/sector_lines.js';"
     for file in core/tasks/merge.js:.. page/disc/map.js:../../core command/help.js:../core npm/jobs.js:../core; do

@@ -1,5 +1,6 @@
 // A rule of eslint (`--rulesdir tools/eslint`): no room of web/core imports a value or a type of a higher room, and values of a room are
-// imported through its index.js. The types that a room has in files .d.ts are judged with its index.js.
+// imported through its index.js. The types that a room has in files .d.ts are judged with its index.js. A door imports tasks, and of the
+// rooms below them only what is listed here.
 
 const fs = require('fs');
 const path = require('path');
@@ -7,19 +8,56 @@ const path = require('path');
 /** From below. Below all of them are the helpers, which are the files of web/core itself. */
 const ROOMS = ['', 'module', 'sectors', 'crew', 'encodings', 'iso', 'disc', 'script', 'texts', 'tasks', 'jobs'];
 
-/** What only tasks use of the rooms below them: a door would forget the order of a track's files, or the base of an image. */
-const FOR_TASKS = {
-    disc: ['dataTrack'], iso: ['fileOrder'], texts: ['encodingsWith', 'endOfMatch', 'longestOf', 'searchText'],
+/** What all of a door may import: helpers, numbers and calls, and tasks. */
+const OPEN = ['', 'module', 'tasks'];
+
+/** The files that start workers or are run by them, which import the rooms of `IN_WORKERS` too. */
+const WORKERS = [path.join('page', 'worker.js'), path.join('page', 'app', 'crew.js'), path.join('command', 'threads.js')];
+const IN_WORKERS = ['crew', 'jobs'];
+
+/**
+ * What each door imports of the rooms between the module and tasks: what opens a disc and names it; the encodings that a user chooses, and
+ * bytes of a text; the lines of the editor; and views of sectors, runs, files, and texts. Procedures are in tasks.
+ */
+const BESIDE_TASKS = {
+    page: {
+        disc: ['KnownDumps', 'beginsLikeDat', 'discFault', 'isOneTrack', 'natureOf', 'openDisc', 'sheetOf', 'sheetOfOneTrack'],
+        encodings: ['CP932', 'ENCODINGS', 'SEARCHED', 'USUAL_ENCODING', 'encodeText', 'encodingOf', 'fillsOf', 'leftOutText', 'spaceIn',
+            'tableEncoding', 'tableTextOf', 'textOfFile', 'usualBytes'],
+        iso: ['filesAt', 'filesLines'],
+        script: ['NEAR_HELD', 'NEAR_WRITTEN', 'NEWEST_VERSION', 'ScriptModel', 'VERSIONS', 'afterColon', 'baseComment', 'contentOf',
+            'countOld', 'faultyWord', 'firstLinesOf', 'headLine', 'isMeantAsScript', 'isScript', 'lacksDigit', 'lastBlockOf', 'leftText',
+            'lineParts', 'lineText', 'linesGivingWayInTurns', 'linesMade', 'linesOfText', 'mergedInTurns', 'modelInParts', 'oldBytesOf',
+            'partOfWord', 'patchesOf', 'userPlace', 'wordsOf', 'wordsOn'],
+        sectors: ['FIELDS', 'HEADER_OFFSET', 'USER_OFFSET', 'addToRuns', 'addressIn', 'addressText', 'auditText', 'blocksIn', 'blocksText',
+            'findingOf', 'firstBlocks', 'imageTooLong', 'isSound', 'kindRuns', 'listText', 'surveyCounts'],
+        texts: ['bytesAround', 'bytesInside', 'charactersFrom', 'contextOf', 'contextsOf', 'filesWith', 'leftCodeText', 'shownCell',
+            'visible'],
+    },
+    command: {
+        disc: ['BAD_DUMP', 'KnownDumps', 'LAST_TRACK', 'fileIn', 'natureOf', 'openDisc', 'sampledBase', 'sheetsOf'],
+        encodings: ['ENCODINGS', 'SEARCHED', 'encodingOf', 'fillerOf', 'leftOutText', 'tableEncoding', 'tableTextOf', 'usualBytes'],
+        iso: ['filesLines'],
+        script: ['LineList', 'NEAR_WRITTEN', 'ScriptParts', 'leftText', 'scriptForBase'],
+        sectors: ['FIELDS', 'LONG_IMAGE', 'addToRuns', 'addressIn', 'addressText', 'auditText', 'blocksIn', 'blocksText', 'findingOf',
+            'imageTooLong', 'isDamaged', 'joinedRuns', 'kindRuns', 'listText'],
+        texts: ['FilesAlong', 'LONGEST_CHARACTER', 'LOOKED_BACK', 'bytesAround', 'bytesInside', 'charactersFrom', 'contextOf',
+            'contextsOf', 'leftCodeText', 'shownCell', 'unitsAlike', 'visible'],
+    },
+    npm: {
+        script: ['readLines'],
+        sectors: ['LONG_IMAGE', 'auditText', 'imageTooLong', 'listText'],
+    },
 };
 
-const IN_CORE = /[/\\]core[/\\](?:(\w+)[/\\])?[^/\\]+$/;
+const IN_CORE = /^(.*[/\\])core[/\\](?:(\w+)[/\\])?[^/\\]+$/;
 const TYPES = /import\('(\.[^']+)'\)/g;
 const DECLARED = /(?: from|^declare module) '(\.[^']+)'/gm;
 
 /** The room of a file of the core, undefined for another file. */
 function roomOf(file) {
     const found = IN_CORE.exec(file);
-    return found ? found[1] || '' : undefined;
+    return found ? found[2] || '' : undefined;
 }
 
 /** Why a file must not import another one, undefined if it may. */
@@ -32,11 +70,15 @@ function faultOf(file, source, isType) {
     return undefined;
 }
 
-/** Why a door must not import a name of the core, undefined if it may. */
+/** Why a door must not import a name of the core, or all names ('*'), undefined if it may. */
 function nameFaultOf(file, source, name) {
-    const room = roomOf(path.resolve(path.dirname(file), source));
-    const isDoor = roomOf(file) === undefined;
-    return isDoor && (FOR_TASKS[room] || []).includes(name) ? `${name} is for the tasks of the core.` : undefined;
+    const given = path.resolve(path.dirname(file), source);
+    const room = roomOf(given);
+    if (roomOf(file) !== undefined || room === undefined || OPEN.includes(room)) return undefined;
+    const place = path.relative(IN_CORE.exec(given)[1], file);
+    if (IN_WORKERS.includes(room) && WORKERS.includes(place)) return undefined;
+    const named = (BESIDE_TASKS[place.split(path.sep)[0]] || {})[room] || [];
+    return named.includes(name) ? undefined : `${name} is for the tasks of the core.`;
 }
 
 /** The text of the declarations beside an index.js, none beside another file. */
@@ -56,8 +98,9 @@ module.exports = {
         const value = node => {
             if (!node.source || !node.source.value.startsWith('.')) return;
             judge(node, node.source.value, false);
-            for (const { imported, local } of node.specifiers || []) {
-                const message = nameFaultOf(file, node.source.value, (imported || local).name);
+            const names = (node.specifiers || []).map(it => it.type.endsWith('NamespaceSpecifier') ? '*' : (it.imported || it.local).name);
+            for (const name of node.specifiers ? names : ['*']) {
+                const message = nameFaultOf(file, node.source.value, name);
                 if (message !== undefined) context.report({ node, message });
             }
         };
