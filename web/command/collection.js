@@ -5,7 +5,7 @@ import { dirname, join } from 'node:path';
 import { sheetsOf } from '../core/disc/index.js';
 import { Fault } from '../core/faults.js';
 import { reasonOf } from './failures.js';
-import { nameOfBytes, pathOf } from './names.js';
+import { nameOfBytes, pathIn, pathOf } from './names.js';
 import { letSignalsIn } from './pausing.js';
 import { pathsOfSheet } from './sheet_files.js';
 
@@ -61,7 +61,7 @@ export class Collection {
             .map(entry => ({ entry, name: nameOfBytes(entry.name) }))
             .sort((a, b) => Number(a.name > b.name) - Number(a.name < b.name));
         for (const { entry, name } of entries) {
-            const path = join(directory, name);
+            const path = pathIn(directory, name);
             if (entry.isDirectory()) await this.tried(path, () => this.addAll(path));
             else if (entry.isFile() || entry.isSymbolicLink()) await this.tried(path, () => this.addEntry(path));
         }

@@ -1,7 +1,7 @@
 // Names of files as the system has them: bytes, which are UTF-8 as a rule. For a byte that is not, a name here has a lone surrogate.
 
 import { readFileSync } from 'node:fs';
-import { win32 } from 'node:path';
+import { join, win32 } from 'node:path';
 
 /** What is added to a byte, so that it becomes a lone surrogate. */
 const ESCAPE = 0xDC00;
@@ -60,6 +60,16 @@ const DEVICE = /^(?:con|prn|aux|nul|conin\$|conout\$|(?:com|lpt)[0-9\xB9\xB2\xB3
 export function isNoFileOfWindows(path) {
     const { root, base } = win32.parse(path);
     return DEVICE.test(base) || path.slice(root.length).includes(':') || /^[\\/]{2}\.[\\/]/.test(path);
+}
+
+/**
+ * The path of a file in a directory. On Windows `D:` is the directory where one is on that drive; for `join` it is the drive's root.
+ * @param {string} directory
+ * @param {string} name
+ */
+export function pathIn(directory, name) {
+    const isDrive = process.platform === 'win32' && /^[a-z]:$/i.test(directory);
+    return isDrive ? `${directory}.\\${name}` : join(directory, name);
 }
 
 /**

@@ -4,10 +4,10 @@
 import { randomBytes } from 'node:crypto';
 import { closeSync, fchmodSync, fstatSync, fsync, fsyncSync, linkSync, lstatSync, openSync } from 'node:fs';
 import { realpathSync, renameSync, statSync, unlinkSync, writeSync } from 'node:fs';
-import { basename, dirname, join } from 'node:path';
+import { basename, dirname } from 'node:path';
 import { READ_SIZE, bytesOfPieces } from '../core/bytes.js';
 import { fileFault, hasCode, tryFile } from './failures.js';
-import { isNoFileOfWindows } from './names.js';
+import { isNoFileOfWindows, pathIn } from './names.js';
 import { later, letSignalsIn } from './pausing.js';
 
 /** @typedef {import('../core/bytes.js').Piece} Piece */
@@ -47,7 +47,7 @@ function forget(place) {
 
 /** @param {string} name */
 function placeBeside(name) {
-    return join(dirname(name), `.cdscript-${randomBytes(8).toString('hex')}`);
+    return pathIn(dirname(name), `.cdscript-${randomBytes(8).toString('hex')}`);
 }
 
 /**

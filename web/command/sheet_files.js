@@ -2,7 +2,7 @@
 
 import { readdirSync, realpathSync } from 'node:fs';
 import { dirname, join } from 'node:path';
-import { nameOfBytes, pathOf } from './names.js';
+import { nameOfBytes, pathIn, pathOf } from './names.js';
 
 /** @typedef {import('../core/disc/cue.js').Sheet} Sheet */
 
@@ -44,7 +44,7 @@ class Directories {
             const names = this.namesIn(path);
             const found = names.includes(part) ? part : names.find(it => it.toLowerCase() === part.toLowerCase());
             if (found === undefined) return null;
-            path = join(path, found);
+            path = pathIn(path, found);
         }
         return parts.length === 0 ? null : path;
     }
