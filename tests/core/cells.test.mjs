@@ -5,7 +5,7 @@ import { test } from 'node:test';
 import { calls, core, readerOf } from './common.mjs';
 
 const { MARKS, Table, rowText } = await core('texts/cells.js');
-const { assertMeant, cellOf, codesLeftOut, leftCodeText, shownCell, unitsOfCell } = await core('texts/codes.js');
+const { assertMeant, cellOf, codesLeftOut, shownCell, unitsOfCell } = await core('texts/codes.js');
 const { fillingAfter } = await core('encodings/encoding.js');
 const { encodingOf, tableOf, textOfFile } = await core('encodings/encodings.js');
 const { listRows, replaceList } = await core('tasks/list.js');
@@ -46,13 +46,16 @@ test('between tabs, quotes that are not needed are kept, unless the cells of the
     assert.deepEqual(await texts('block,offset,text,new\n1,2,x,"A herb!"\n'), [['x', 'A herb!']]);
 });
 
+/** The fault of a row whose cell runs on to another. */
+const runsOn = row => ({ code: 'list/cell-runs-on', facts: { row } });
+
 test('a cell in quotes between tabs that runs on to a row with a place names both rows', async () => {
     const list = 'block\toffset\ttext\tnew\n1\t0\told\t"Halt!\n1\t75\tother\tGo."\n2\t0\tx\t"two\nlines"\n3\t0\ty\t"\n\n3\t9\tz\t."\n';
     const rows = (await listed(list)).map(({ number, fresh, fault }) => [number, fresh, fault]);
-    assert.deepEqual(rows, [[2, '"Halt!', 'a cell in quotes runs on to row 3, which has a place of its own'], [3, 'Go."', ''], [4, 'two\nlines', ''],
-        [5, '"', 'a cell in quotes runs on to row 7, which has a place of its own'], [7, '."', '']]);
+    assert.deepEqual(rows, [[2, '"Halt!', runsOn(3)], [3, 'Go."', null], [4, 'two\nlines', null],
+        [5, '"', runsOn(7)], [7, '."', null]]);
     const other = 'text\tblock\toffset\tnew\n"x\na\t1\t2\tq"\n';
-    assert.deepEqual((await listed(other)).map(({ fault }) => fault), ['a cell in quotes runs on to row 3, which has a place of its own', '']);
+    assert.deepEqual((await listed(other)).map(({ fault }) => fault), [runsOn(3), null]);
 });
 
 test('a carriage return within a row is part of its cell, and ends rows only of a table without other line ends', () => {
@@ -105,13 +108,13 @@ test('codes in a cell are their bytes, and a cell is read as the bytes from whic
 test('a list has the rows with a new text, by the names of its columns', async () => {
     const list = 'New,Offset,block,text,note\nx,5,1,old,\n,6,1,other,\ny,+7,1,"a,b",z\n';
     const rows = await listed(list);
-    assert.deepEqual(rows, [{ number: 2, block: 1, offset: 5, room: -1, encoding: '', text: 'old', fresh: 'x', fault: '' },
-        { number: 4, block: 1, offset: -1, room: -1, encoding: '', text: 'a,b', fresh: 'y', fault: '' }]);
+    assert.deepEqual(rows, [{ number: 2, block: 1, offset: 5, room: -1, encoding: '', text: 'old', fresh: 'x', fault: null },
+        { number: 4, block: 1, offset: -1, room: -1, encoding: '', text: 'a,b', fresh: 'y', fault: null }]);
     const more = await listed(list, ({ offset }) => offset === 6);
     assert.deepEqual(more.map(({ number, fresh }) => [number, fresh]), [[2, 'x'], [3, ''], [4, 'y']]);
     assert.deepEqual(await listed(list, () => false), rows);
-    await assert.rejects(listed('1\t2\told\tnew\n'), { message: 'row 1 of the list names no column block, offset, text' });
-    await assert.rejects(listed('block,text,new,offset,New\n1,x,y,0,z\n'), { message: 'row 1 of the list names two columns new' });
+    await assert.rejects(listed('1\t2\told\tnew\n'), { code: 'list/no-column', facts: { row: 1, columns: ['block', 'offset', 'text'] } });
+    await assert.rejects(listed('block,text,new,offset,New\n1,x,y,0,z\n'), { code: 'list/column-twice', facts: { row: 1, column: 'new' } });
 });
 
 test('rows before the one that names the columns are passed over, and tell nothing of what stands between cells', async () => {
@@ -120,8 +123,8 @@ test('rows before the one that names the columns are passed over, and tell nothi
         const [{ number, text, fresh }] = await listed(before + rows);
         assert.deepEqual([number, text, fresh], [before.split('\n').length + 1, 'x, y', 'z']);
     }
-    await assert.rejects(listed('A title\n'.repeat(20) + rows), { message: 'row 1 of the list names no column block, offset, text, new' });
-    await assert.rejects(listed(`A title\nblock;offset;text;Neu\n`), { message: 'row 2 of the list names no column new' });
+    await assert.rejects(listed('A title\n'.repeat(20) + rows), { facts: { row: 1, columns: ['block', 'offset', 'text', 'new'] } });
+    await assert.rejects(listed(`A title\nblock;offset;text;Neu\n`), { code: 'list/no-column', facts: { row: 2, columns: ['new'] } });
 });
 
 test('of rows in one block that can not be patched each is left by its own number, and the others are replaced', async () => {
@@ -129,17 +132,17 @@ test('of rows in one block that can not be patched each is left by its own numbe
     sectors[2352 + 2351] ^= 1;
     const image = { name: 'image', base: 0, sectors: 3, reader: readerOf(sectors) };
     const rows = [[2, 0, 4], [3, 1, 4], [4, 1, 90], [7, 2, 4], [8, 2, 2047]].map(([number, block, offset]) =>
-        ({ number, block, offset, room: -1, encoding: '', text: 'A', fresh: 'B' }));
+        ({ number, block, offset, room: -1, encoding: '', text: 'A', fresh: 'B', fault: null }));
     const made = list => replaceList(calls, image, list, () => [encodingOf('CP932')], null);
-    const damaged = 'block 1 is damaged: repair it first';
+    const damaged = { code: 'replace/damaged', facts: { block: 1 } };
     const { parts, left } = await made(rows);
     assert.deepEqual([parts.patches, left], [3, [{ text: rows[1], why: damaged }, { text: rows[2], why: damaged }]]);
     assert.deepEqual((await made(rows.slice(2, 3))).left, [{ text: rows[2], why: damaged }]);
     const beyond = [{ ...rows[0], block: 3 }, { ...rows[0], number: 3, block: -1 }];
-    assert.deepEqual((await made(beyond)).left, [{ text: beyond[0], why: 'the image has the blocks 0 to 2' },
-        { text: beyond[1], why: 'block and offset are no numbers' }]);
+    assert.deepEqual((await made(beyond)).left, [{ text: beyond[0], why: { code: 'replace/no-block', facts: { first: 0, last: 2 } } },
+        { text: beyond[1], why: { code: 'list/no-place', facts: {} } }]);
     const met = [[8, 4], [2, 0], [5, 3]].map(([number, offset]) => ({ ...rows[0], number, offset, text: 'AAAA', fresh: 'BBBB' }));
-    assert.deepEqual((await made(met)).left, [{ text: met[2], why: 'it overlaps the text of row 2' }]);
+    assert.deepEqual((await made(met)).left, [{ text: met[2], why: { code: 'list/overlaps', facts: { row: 2 } } }]);
 });
 
 test('what fills up the room of a text is one byte over and over, in whole spaces, but for the 00 that ends the text', () => {
@@ -165,9 +168,9 @@ test('what a spreadsheet would run stands as a code at the beginning of a cell, 
 test('the error of a formula and a mistyped code are nothing that somebody meant', () => {
     const cp932 = encodingOf('CP932');
     for (const cell of ['Err:509', '#NAME?', '#REF!', '#VALUE!', '#DIV/0!', '#N/A']) {
-        assert.throws(() => assertMeant(cp932, cell), { message: `a spreadsheet wrote ${cell} in place of a formula: write the text, with {3D} for =` });
+        assert.throws(() => assertMeant(cp932, cell), { code: 'list/formula', facts: { cell } });
     }
-    const why = code => ({ message: `${code} is not a code, which is two digits 0 to F for each byte; a brace is {7B}` });
+    const why = code => ({ code: 'list/no-code', facts: { code } });
     for (const code of ['{zz}', '{O1}', '{0}', '{0D0}']) assert.throws(() => assertMeant(cp932, `a${code}b{0A}`), why(code));
     for (const cell of ['Err:509 ', '# NAME?', '#WOW!', '{0D0a}', '{あ}', '{}', '{7B}zz}', '{ a}']) assertMeant(cp932, cell);
     const table = tableOf(new TextEncoder().encode('F0={NAME}\n41=A\n'));
@@ -177,13 +180,13 @@ test('the error of a formula and a mistyped code are nothing that somebody meant
 
 test('codes that new texts leave out are told by number, each once, with the first rows', async () => {
     const left = async (rows, name = 'CP932') => (await codesLeftOut(rows.map(([text, fresh], i) => ({ number: i + 2, encoding: '', text, fresh })),
-        () => [encodingOf(name)])).map(leftCodeText);
+        () => [encodingOf(name)])).map(({ code, count, rows: all, first }) => [code, count, all, ...first]);
     assert.deepEqual(await left([['a{0D}{0A}b{0D}{0A}c{0D}{0A}', 'A{0D0A}B'], ['{03}', '{04}'], ['x', 'y'], ['{00}{00}', '{0000}']]),
-        ['new texts leave out {0D} 2 times: row 2', 'new texts leave out {0A} 2 times: row 2', 'new texts leave out {03} once: row 3']);
-    assert.deepEqual(await left(Array.from({ length: 8 }, () => ['{0A}', 'x'])), ['new texts leave out {0A} 8 times: rows 2, 3, 4, 5, 6, and 3 more']);
-    assert.deepEqual(await left([['{3D}a', 'b'], ['{22}a', 'b'], ['a{3D}', 'b'], ['{3D}', '{3D}']]), ['new texts leave out {3D} once: row 4']);
-    assert.deepEqual(await left([['{0A00}{0100}', '{0100}'], ['{3D00}a', 'b']], 'UTF-16LE'), ['new texts leave out {0A00} once: row 2']);
-    assert.deepEqual(await left([['a{0A}b', 'a\nb'], ['a{0D0A}b', 'a\nb']]), ['new texts leave out {0D} once: row 3']);
+        [['0D', 2, 1, 2], ['0A', 2, 1, 2], ['03', 1, 1, 3]]);
+    assert.deepEqual(await left(Array.from({ length: 8 }, () => ['{0A}', 'x'])), [['0A', 8, 8, 2, 3, 4, 5, 6]]);
+    assert.deepEqual(await left([['{3D}a', 'b'], ['{22}a', 'b'], ['a{3D}', 'b'], ['{3D}', '{3D}']]), [['3D', 1, 1, 4]]);
+    assert.deepEqual(await left([['{0A00}{0100}', '{0100}'], ['{3D00}a', 'b']], 'UTF-16LE'), [['0A00', 1, 1, 2]]);
+    assert.deepEqual(await left([['a{0A}b', 'a\nb'], ['a{0D0A}b', 'a\nb']]), [['0D', 1, 1, 3]]);
     assert.deepEqual(await left([[`${'{00}'.repeat(20000)}`, 'a']]), []);
 });
 

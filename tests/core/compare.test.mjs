@@ -9,7 +9,6 @@ import { CHANGES, RAW, blocksOf, changedImage, countOf, patchedBy, sectorAt, sou
 const { SECOND_STATE, compareTrack, diffRange, differRange, findDifferences } = await core('tasks/compare.js');
 const { ScriptParts } = await core('script/script_writer.js');
 const { MOST_SCRIPT_BYTES, RESULT, STATUS, STEP } = await core('module/records.js');
-const { blocksText } = await core('sectors/runs.js');
 
 const BASE = 33;
 const SAID = ['bytes', 'run', 'whole', 'address', 'both', 'sound'];
@@ -248,13 +247,6 @@ test('the lines that are given away as they come, and the script of a base', asy
     assert.match(textOf((await compareTrack({ calls, crew: localCrew() }, trackOf(old, 0), readerOf(fresh))).script), /^cdpatch 2\n[a-z]+ /);
 });
 
-test('blocks of runs in words', () => {
-    const runs = [{ first: 3, last: 3 }, { first: 5, last: 6 }, { first: 9, last: 20 }];
-    assert.deepEqual([1, 2, 3].map(count => blocksText(runs.slice(0, count))), ['block 3', 'blocks 3 and 5 to 6', 'blocks 3, 5 to 6 and 9 to 20']);
-    assert.equal(blocksText(runs.slice(1, 2)), 'blocks 5 to 6');
-    assert.deepEqual([1, 2, 3].map(most => blocksText(runs, most)), ['blocks 3 and 14 more', 'blocks 3, 5 to 6 and 12 more', 'blocks 3, 5 to 6 and 9 to 20']);
-});
-
 test('a script of more bytes than cdpatch takes needs --long', () => {
     const sizedScript = size => {
         const parts = new ScriptParts();
@@ -270,7 +262,7 @@ test('a script that would not fit in memory is refused', () => {
     const text = new Uint8Array(1 << 20);
     for (let i = 0; i < 1024; i++) parts.push({ text, patches: 1, ...PLAIN });
     assert.throws(() => parts.push({ text: text.subarray(0, 1), patches: 1, ...PLAIN }),
-        { name: 'Fault', message: 'the script would have more than 1073741824 bytes: too much differs' });
+        { name: 'Fault', code: 'script/too-large', facts: { most: 1073741824 } });
 });
 
 test('lines of sectors that differ in every other byte are tried a few sectors at a time', () => {
@@ -320,7 +312,7 @@ test('lines that the module does not take, or that give other sectors, are not g
     ];
     for (const wrong of wrongs) {
         const broken = Object.assign(Object.create(calls), wrong);
-        assert.throws(() => diffRange(broken, old, fresh, BASE), { name: 'Fault', message: /would not give the right sector/ });
+        assert.throws(() => diffRange(broken, old, fresh, BASE), { name: 'Fault', code: 'script/wrong-sector' });
     }
     assert.ok(diffRange(calls, old, fresh, BASE).text.length > 0);
 });

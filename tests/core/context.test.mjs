@@ -38,7 +38,7 @@ for (const name of ['CP932', 'EUC-JP', 'UTF-8', 'UTF-16LE', 'hex', 'a table']) {
         const found = await listed(contextsOf(image, encoding, hits));
         assert.deepStrictEqual(found.map(it => it.hit), hits);
         for (const { hit, context } of found) assert.deepStrictEqual(context, await contextOf(image, encoding, hit));
-        if (name === 'CP932') assert.ok(found.some(({ context }) => context.doubt !== ''));
+        if (name === 'CP932') assert.ok(found.some(({ context }) => context.doubt !== null));
     });
 }
 
@@ -47,9 +47,9 @@ test('a hit has the characters of 24 bytes before it and after it, and what is k
     const image = { reader: readerOf(rawOf(user)), base: BASE, sectors: 2 };
     const context = (at, size) => contextOf(image, encodingOf('CP932'), { block: BASE + Math.floor(at / USER), offset: at % USER, size });
     const [y, x] = ['y', 'x'].map(letter => Array.from({ length: 22 }, () => letter));
-    const due = { bytes: Uint8Array.of(0x82, 0xA0), doubt: '', before: [...x, 'ま'], hit: 'あ', after: ['い', ...y] };
+    const due = { bytes: Uint8Array.of(0x82, 0xA0), doubt: null, before: [...x, 'ま'], hit: 'あ', after: ['い', ...y] };
     assert.deepStrictEqual(await context(3002, 2), due);
-    const inside = { bytes: Uint8Array.of(0xA0, 0x82), doubt: 'perhaps in the middle of a character (byte before: 82)',
+    const inside = { bytes: Uint8Array.of(0xA0, 0x82), doubt: { code: 'find/inside', facts: { before: 0x82 } },
         before: [...x.slice(1), 'ま'], hit: '\uFFFD\uFFFD', after: ['｢', ...y, 'y'] };
     assert.deepStrictEqual(await context(3003, 2), inside);
     const hit = at => ({ block: BASE + Math.floor(at / USER), offset: at % USER, size: 2 });

@@ -49,18 +49,18 @@ test('bytes at any place, over borders of blocks too, and of any size', async ()
     }
 });
 
-test('old bytes that differ are refused by the words of the program', async () => {
+test('old bytes that differ are refused with the place of the first', async () => {
     const image = soundImage(diceOf(1), 3, BASE);
     const old = Uint8Array.from(userOf(image).subarray(2040, 2060));
     old[12] ^= 1;
-    await assert.rejects(replaceBytes(calls, imageOf(image), { block: BASE, offset: 2040 }, old, old), { message: `old bytes differ at block ${BASE + 1} offset 4` });
+    await assert.rejects(replaceBytes(calls, imageOf(image), { block: BASE, offset: 2040 }, old, old), { code: 'replace/other-bytes', facts: { block: BASE + 1, offset: 4 } });
 });
 
 test('bytes that a run would not replace so are not given out, unless they are tried with others later', async () => {
     const image = soundImage(diceOf(1), 3, BASE);
     const [place, old] = [{ block: BASE, offset: 7 }, Uint8Array.from(userOf(image).subarray(7, 9))];
     const broken = Object.assign(Object.create(calls), { runNext: (run, done) => ({ ...calls.runNext(run, done), status: 2 }) });
-    await assert.rejects(replaceBytes(broken, imageOf(image), place, old, old.map(byte => byte ^ 1)), { message: /would not give the right sector/ });
+    await assert.rejects(replaceBytes(broken, imageOf(image), place, old, old.map(byte => byte ^ 1)), { code: 'script/wrong-sector', facts: { block: BASE } });
     const later = await replaceBytes(broken, imageOf(image), place, old, old.map(byte => byte ^ 1), true);
     assert.equal(later.patches, 1);
 });
@@ -70,25 +70,25 @@ test('damaged sectors, sectors of another kind, and places that are not there', 
     image.set(CHANGES.damaged(sectorAt(image, 1), diceOf(1)), RAW);
     image.set(CHANGES.sync(sectorAt(image, 2), diceOf(1)), RAW * 2);
     const at = (block, offset, size = 4) => replaceBytes(calls, imageOf(image), { block, offset }, new Uint8Array(size), new Uint8Array(size));
-    await assert.rejects(at(BASE, 2045), { message: `block ${BASE + 1} is damaged: repair it first` });
-    await assert.rejects(at(BASE + 2, 0), { message: `block ${BASE + 2} is not Mode 1` });
+    await assert.rejects(at(BASE, 2045), { code: 'replace/damaged', facts: { block: BASE + 1 } });
+    await assert.rejects(at(BASE + 2, 0), { code: 'replace/not-mode1', facts: { block: BASE + 2 } });
     for (const [block, offset] of [[BASE - 1, 0], [BASE + 3, 0], [BASE + 2, 2045]]) {
-        await assert.rejects(at(block, offset), { message: `the image has the blocks ${BASE} to ${BASE + 2}` });
+        await assert.rejects(at(block, offset), { code: 'replace/no-block', facts: { first: BASE, last: BASE + 2 } });
     }
-    for (const offset of [-1, 2048]) await assert.rejects(at(BASE, offset), { message: 'an offset is 0 to 2047' });
-    await assert.rejects(at(BASE, 0, 0), { message: 'there are no old bytes' });
+    for (const offset of [-1, 2048]) await assert.rejects(at(BASE, offset), { code: 'replace/no-offset', facts: { last: 2047 } });
+    await assert.rejects(at(BASE, 0, 0), { code: 'replace/no-bytes' });
 });
 
 test('another length is refused with both, and fewer bytes are filled up', async () => {
     const image = soundImage(diceOf(3), 3, BASE);
     const old = Uint8Array.from(userOf(image).subarray(0, 6));
-    const message = 'the new bytes are 5, the old ones 6';
-    await assert.rejects(replaceBytes(calls, imageOf(image), { block: BASE, offset: 0 }, old, old.subarray(0, 5)), { name: 'Fault', message });
-    assert.throws(() => filledUp(new Uint8Array(5), 6, null), { message });
-    assert.throws(() => filledUp(new Uint8Array(7), 6, Uint8Array.of(0x20)), { message: 'the new bytes are 7, the old ones 6' });
+    const due = { name: 'Fault', code: 'replace/other-size', facts: { fresh: 5, old: 6 } };
+    await assert.rejects(replaceBytes(calls, imageOf(image), { block: BASE, offset: 0 }, old, old.subarray(0, 5)), due);
+    assert.throws(() => filledUp(new Uint8Array(5), 6, null), due);
+    assert.throws(() => filledUp(new Uint8Array(7), 6, Uint8Array.of(0x20)), { facts: { fresh: 7, old: 6 } });
     assert.deepEqual(filledUp(Uint8Array.of(1, 2), 6, Uint8Array.of(0x81, 0x40)), Uint8Array.of(1, 2, 0x81, 0x40, 0x81, 0x40));
     assert.deepEqual(filledUp(Uint8Array.of(1, 2), 2, Uint8Array.of(0x81, 0x40)), Uint8Array.of(1, 2));
-    assert.throws(() => filledUp(new Uint8Array(3), 6, Uint8Array.of(0x81, 0x40)), { message: 'cannot pad 3 bytes with the 2-byte filler 81 40; use --fill with one byte' });
+    assert.throws(() => filledUp(new Uint8Array(3), 6, Uint8Array.of(0x81, 0x40)), { code: 'replace/filler', facts: { missing: 3, filler: Uint8Array.of(0x81, 0x40) } });
 });
 
 /** A raw image of a volume with files, and one of the files. */
@@ -141,8 +141,8 @@ test('a shorter file is filled up to the old length and not further', async t =>
 test('a longer file, and one whose extent is not just its bytes', async t => {
     const it = await disc(t, '/GAME.DAT');
     if (!it) return;
-    await assert.rejects(replaced(it, new Uint8Array(15001), { fill: 0 }), { message: '/GAME.DAT has 15000 bytes, the new file 15001' });
-    await assert.rejects(replaced(it, new Uint8Array(16385)), { message: '/GAME.DAT has 15000 bytes and room for 16384, the new file 16385' });
+    await assert.rejects(replaced(it, new Uint8Array(15001), { fill: 0 }), { code: 'replace/long-file', facts: { path: '/GAME.DAT', size: 15000, room: null, wanted: 15001 } });
+    await assert.rejects(replaced(it, new Uint8Array(16385)), { code: 'replace/long-file', facts: { path: '/GAME.DAT', size: 15000, room: 16384, wanted: 16385 } });
     const [extent] = it.file.extents;
     assert.throws(() => wholeFile([{ ...extent, fault: 'it is interleaved' }]), { message: '/GAME.DAT: it is interleaved' });
 });
@@ -165,7 +165,7 @@ test('a file that shrinks while it is read', async t => {
     const it = await disc(t, '/GAME.DAT');
     if (!it) return;
     const shrunk = { size: 15000, read: async (at, length) => new Uint8Array(Math.max(Math.min(length, 9000 - at), 0)) };
-    await assert.rejects(replacedBy(it, shrunk, {}), { code: 'image ended' });
+    await assert.rejects(replacedBy(it, shrunk, {}), { code: 'image-ended' });
 });
 
 test('bytes of sectors with addresses of other blocks keep them', async () => {

@@ -56,7 +56,7 @@ test('a search can be cancelled, its progress is told, and an empty text has its
     await findText(engine, opened, wanted, { progress: (done, all) => void told.push([done, all]) });
     assert.deepEqual(told, [[40, 40]]);
     await assert.rejects(findText(engine, opened, wanted, { signal: { aborted: true } }), { code: 'cancelled' });
-    await assert.rejects(findText(engine, opened, { ...wanted, text: '' }), { code: 'no text' });
+    await assert.rejects(findText(engine, opened, { ...wanted, text: '' }), { code: 'find/empty' });
 });
 
 const hit = (block, offset, size) => ({ block, offset, size });
@@ -73,9 +73,9 @@ test('hits that overlap are not replaced both, and what is left is named', async
     const places = { image, encoding: encodingOf('hex'), hits: [hit(0, 0, 2), hit(0, 1, 2), hit(0, 4, 2)] };
     const made = await replaceHits(engine, { image }, { ...places, freshFor: () => Uint8Array.of(1, 2) });
     assert.deepEqual(linesOf(made), ['set 0 0 0102 was 0707', 'set 0 4 0102 was 0707']);
-    assert.deepEqual(made.left, [{ text: places.hits[1], why: 'it overlaps the one before it' }]);
-    const none = await replaceHits(engine, { image }, { ...places, freshFor() { throw new Fault('it has another length'); } });
-    assert.deepEqual([none.script, none.left], [null, places.hits.map(text => ({ text, why: 'it has another length' }))]);
+    assert.deepEqual(made.left, [{ text: places.hits[1], why: { code: 'replace/overlaps', facts: {} } }]);
+    const none = await replaceHits(engine, { image }, { ...places, freshFor() { throw new Fault('replace/no-bytes', {}); } });
+    assert.deepEqual([none.script, none.left], [null, places.hits.map(text => ({ text, why: { code: 'replace/no-bytes', facts: {} } }))]);
 });
 
 test('replacing hits can be cancelled, and their number is told', async () => {
@@ -95,6 +95,6 @@ test('a hit that may begin inside a character is left out, unless it is meant', 
     const freshFor = () => Uint8Array.of(0x78, 0x78);
     const made = await replaceHits(engine, { image }, { ...places, freshFor });
     assert.deepEqual([linesOf(made), made.left], [['set 0 5 7878 was 6B7A'],
-        [{ text: places.hits[0], why: 'perhaps in the middle of a character (byte before: 8A)' }]]);
+        [{ text: places.hits[0], why: { code: 'find/inside', facts: { before: 0x8A } } }]]);
     assert.deepEqual((await replaceHits(engine, { image }, { ...places, freshFor, inside: true })).left, []);
 });

@@ -51,17 +51,17 @@ test('no quotes, nested or without an end, are looked at more than a few times',
 });
 
 test('a row of too many cells, and too many rows, are refused', async () => {
-    assert.throws(() => cellsIn(`a,b\n${','.repeat(50 << 20)}`, ','), { name: 'Fault', message: 'row 2 of the table has more than 1000 cells' });
+    assert.throws(() => cellsIn(`a,b\n${','.repeat(50 << 20)}`, ','), { name: 'Fault', code: 'list/too-many-cells', facts: { row: 2, most: 1000 } });
     assert.equal(cellsIn(`a,b\n${','.repeat(999)}\n`, ','), 1002);
     const rows = 'block\toffset\ttext\tnew\n' + '0\t0\ta\tb\n'.repeat(1000001);
     const read = async () => { for await (const row of listRows(rows)) assert.equal(row.text, 'a'); };
-    await assert.rejects(read(), { message: 'more than 1000000 rows of the list have a new text' });
+    await assert.rejects(read(), { code: 'list/too-many-rows', facts: { most: 1000000 } });
 });
 
 test('a list of many columns is refused, and a row of many codes is looked at once', async () => {
     const began = process.cpuUsage().user;
     const wide = `block\toffset\ttext\tnew${'\t'.repeat(250000)}\n${'x\n'.repeat(20000)}`;
-    await assert.rejects((async () => { for await (const row of listRows(wide)) assert.fail(row); })(), { message: 'row 1 of the table has more than 1000 cells' });
+    await assert.rejects((async () => { for await (const row of listRows(wide)) assert.fail(row); })(), { facts: { row: 1, most: 1000 } });
     const most = `block\toffset\ttext\tnew${'\t'.repeat(990)}\n${'x\n'.repeat(20000)}`;
     for await (const row of listRows(most)) assert.fail(row);
     const coded = (code, count) => ({ number: 2, encoding: '', text: code.repeat(count), fresh: '{01}'.repeat(count) });
@@ -108,7 +108,7 @@ const row = (text, fresh, offset = 0) => ({ number: 2, block: 0, offset, room: 9
 
 test('of a text of 50 MB no character is looked up', async () => {
     const long = 'A'.repeat(50 << 20);
-    const why = 'a text has more than 65536 characters';
+    const why = { code: 'list/long-text', facts: { most: 65536 } };
     for (const it of [row(long, 'b'), row('A', long)]) assert.deepEqual(await made([it]), { patches: 0, whys: [why], asked: 0 });
     const { patches, whys, asked } = await made([row('A'.repeat(8192), 'b\0c')]);
     assert.deepEqual([patches, whys], [2, []]);

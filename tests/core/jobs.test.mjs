@@ -5,7 +5,7 @@ import { test } from 'node:test';
 import { calls, core, diceOf, joinSurveys, readerOf, sameBytes, someImage, surveyed } from './common.mjs';
 import { answersOf, localCrew, withThreads } from './crews.mjs';
 
-const { FAULT, Fault } = await core('faults.js');
+const { Fault } = await core('faults.js');
 const { passUser } = await core('tasks/convert.js');
 const { Crew, UNREAD, localHand, serving, transfersOf } = await core('crew/crew.js');
 const { JOBS } = await core('jobs/jobs.js');
@@ -151,7 +151,7 @@ test('an image that is shorter than its size is an error, and short reads are no
     assert.deepEqual(await answersOf(localCrew(), 'survey', [readerOf(small, 1000)], {}, { step: 9 }), due);
     for (const end of [0, 1, 2352 * 9, 2352 * 50 - 1]) {
         const shrunk = { ...readerOf(small.subarray(0, end)), size: small.length };
-        await assert.rejects(answersOf(localCrew(), 'survey', [shrunk], {}, { step: 9 }), { code: 'image ended', message: `the image ends at byte ${end}` });
+        await assert.rejects(answersOf(localCrew(), 'survey', [shrunk], {}, { step: 9 }), { code: 'image-ended', facts: { at: end } });
     }
     await assert.rejects(answersOf(localCrew(), 'survey', [readerOf(small), readerOf(image)], {}, {}), /different lengths/);
 });
@@ -167,8 +167,8 @@ test('what a job or its taker throws ends it', async () => {
 });
 
 test('a fault that a worker meets comes with its code and what is known', async () => {
-    const table = { throwing: () => { throw new Fault('no such character', FAULT.TEXT, { at: 7 }); } };
-    const due = { name: 'Fault', message: 'no such character', code: 'text', facts: { at: 7 } };
+    const table = { throwing: () => { throw new Fault('image-ended', { at: 7 }); } };
+    const due = { name: 'Fault', code: 'image-ended', facts: { at: 7 } };
     await assert.rejects(answersOf(localCrew(table), 'throwing', [readerOf(small)], {}, {}), due);
     const hand = { post: message => setImmediate(() => hand.onreply(structuredClone(serving(calls, table)(message)))) };
     await assert.rejects(answersOf(new Crew([hand]), 'throwing', [readerOf(small)], {}, {}), due);

@@ -275,7 +275,7 @@ test('a read that fails, at any place, reaches the caller', async () => {
 test('an image that shrinks is no shorter image', async () => {
     const script = await readScript(calls, [encoded(`cdpatch 1\nfill ${BASE + 2400} 0 1 07\n`)]);
     const shrunk = { ...readerOf(image.subarray(0, 2400 * 2352 + 100)), size: image.length };
-    const ended = { code: 'image ended', message: `the image ends at byte ${2400 * 2352 + 100}` };
+    const ended = { code: 'image-ended', facts: { at: 2400 * 2352 + 100 } };
     await assert.rejects(applyPatches(calls, shrunk, script, { base: BASE, carry: true }), ended);
     await assert.rejects(passPatched(calls, shrunk, script, { base: BASE, carry: true }), ended);
     await assert.rejects(async () => { for await (const bytes of bytesOfPieces(shrunk, [{ from: 0, to: image.length }])) assert.ok(bytes); }, ended);

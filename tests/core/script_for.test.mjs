@@ -21,22 +21,21 @@ test('a script for its base is read, whose pieces may end anywhere', async () =>
 });
 
 test('a script for another base is refused, with its line', async () => {
-    const message = 'line 2 of the script says base 150, and the image begins with block 1 here';
-    const refused = { name: 'Fault', code: 'other base', message, facts: { other: { line: 2, base: BASE } } };
+    const refused = { name: 'Fault', code: 'script/other-base', facts: { line: 2, base: BASE, begins: 1 } };
     const script = await validScript(calls, [based]);
-    assert.throws(() => assertBase(script, 0), { code: 'other base' });
+    assert.throws(() => assertBase(script, 0), { code: 'script/other-base' });
     for (const apply of [applyScript, applyInMemory]) await assert.rejects(apply({ calls }, imageFrom(1), script), refused);
 });
 
 test('a script with a fault is refused with the line of cdpatch', async () => {
-    const message = `script line 3: ${MESSAGES.word_count}`;
-    const refused = { name: 'Fault', code: 'script', message, facts: { tooLong: false } };
+    const facts = { line: `script line 3: ${MESSAGES.word_count}`, tooLong: false };
+    const refused = { name: 'Fault', code: 'script/refused', facts };
     await assert.rejects(validScript(calls, [encoded('cdpatch 1\n# base 150\nset\n')]), refused);
 });
 
 test('a script that is too long is refused, and is read if it may be', async () => {
     const comment = encoded(`cdpatch 1\n#${' '.repeat(MOST_SCRIPT_BYTES)}\n`);
-    await assert.rejects(validScript(calls, [comment]), { code: 'script', facts: { tooLong: true } });
+    await assert.rejects(validScript(calls, [comment]), error => error.code === 'script/refused' && error.facts.tooLong);
     assert.deepEqual((await validScript(calls, [comment], true)).bases, []);
 });
 

@@ -38,7 +38,7 @@ test('a table has the texts of a track in the order of its files, or those of so
     const some = await exported(opened, { paths: ['/BIG'], csv: true });
     assert.deepEqual([some.text.startsWith('\uFEFFblock,offset,'), some.text.split(known).length, some.count < count], [true, 2, true]);
     assert.equal((await exported(opened, { least: known.length + 1 })).text.includes(known), false);
-    await assert.rejects(exported(opened, { paths: ['/BIG', '/BIGGER'] }), { code: 'no file' });
+    await assert.rejects(exported(opened, { paths: ['/BIG', '/BIGGER'] }), { code: 'no-file', facts: { path: '/BIGGER' } });
     await assert.rejects(exported(opened, {}, { signal: { aborted: true } }), { code: 'cancelled' });
 });
 
@@ -54,8 +54,8 @@ test('rows that do not fit are left out, or there is no script', async () => {
     const { opened } = await openedDisc();
     const rows = [[36, 100, TEXT, 'PRESS'], [31, 2043, 'press enter', 'enter'], [31, 2043, TEXT, `${TEXT} again`]];
     const made = await imported(opened, rows);
-    assert.deepEqual([made.count, made.left.map(({ text, why }) => [text.number, why])], [3, [[3, 'the old text does not stand there'],
-        [4, 'the new text has 17 bytes in CP932, and there is room for 11: 6 too many']]]);
+    assert.deepEqual([made.count, made.left.map(({ text, why }) => [text.number, why])], [3, [[3, { code: 'list/other-text', facts: {} }],
+        [4, { code: 'replace/no-room', facts: { name: 'CP932', size: 17, room: 11 } }]]]);
     assert.equal(scriptText(made).startsWith('cdpatch 1\nset 36 100 5052455353202020202020 was'), true);
     assert.equal((await imported(opened, rows, { partial: false })).script, null);
     assert.equal((await imported(opened, rows.slice(1))).script, null);

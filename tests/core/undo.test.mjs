@@ -159,11 +159,11 @@ test('undo of diff gives OLD', async () => {
 
 test('a script with a fault, one of a different base, a long one, and a read that fails', async () => {
     const image = soundImage(diceOf(5), 4, BASE);
-    await assert.rejects(undone(image, 'cdpatch 1\nput 1\n'), { code: 'script', message: `script line 2: ${MESSAGES.unknown_verb}` });
-    const other = { line: 3, base: BASE + 1 };
-    await assert.rejects(undone(image, `${head(1)}# base ${BASE + 1}\nset ${BASE} 0 01\n`), { code: 'other base', facts: { other } });
+    await assert.rejects(undone(image, 'cdpatch 1\nput 1\n'), { code: 'script/refused', facts: { line: `script line 2: ${MESSAGES.unknown_verb}`, tooLong: false } });
+    const facts = { line: 3, base: BASE + 1, begins: BASE };
+    await assert.rejects(undone(image, `${head(1)}# base ${BASE + 1}\nset ${BASE} 0 01\n`), { code: 'script/other-base', facts });
     const long = `cdpatch 1\n${`rebuild ${BASE}\n`.repeat(65536)}`;
-    await assert.rejects(undone(image, long), { code: 'script' });
+    await assert.rejects(undone(image, long), { code: 'script/refused' });
     const short = `cdpatch 1\nset ${BASE} 0 ${Buffer.of(~image[16]).toString('hex')}\n`;
     assert.equal(textOf((await undone(image, `${long}${short.slice(10)}`, { long: true })).script), textOf((await undone(image, short)).script));
     const script = `cdpatch 1\nset ${BASE} 0 01\nset ${BASE + 3} 0 01\n`;
@@ -178,7 +178,7 @@ test('a script with a fault, one of a different base, a long one, and a read tha
         await assert.rejects(undone(image, script, {}, {}, trackOf(image, BASE, failing)), { message: `no read ${fault}` });
     }
     const shrunk = { ...readerOf(image.subarray(0, 3 * RAW)), size: image.length };
-    await assert.rejects(undone(image, script, {}, {}, trackOf(image, BASE, shrunk)), { code: 'image ended' });
+    await assert.rejects(undone(image, script, {}, {}, trackOf(image, BASE, shrunk)), { code: 'image-ended' });
 });
 
 test('an undo says how many sectors it has come to, and one that is cancelled gives no script', async () => {

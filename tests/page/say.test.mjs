@@ -29,7 +29,7 @@ test('want of memory is said as that, whichever browser or worker has met it', c
     const long = new Uint8Array(2352 * 30000);
     assert.match(messageOf(caught(() => calls.survey(long, 0))), /not enough memory/);
     const { fault } = serving(calls, JOBS)({ number: 1, job: 'survey', pieces: [long], first: 0, args: {} });
-    assert.equal(fault.code, 'no memory');
+    assert.equal(fault.code, 'no-memory');
     assert.equal(messageOf(new Error('block 5 is damaged')), 'block 5 is damaged');
     assert.equal(messageOf('a text'), 'a text');
 });

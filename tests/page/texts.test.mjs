@@ -27,11 +27,12 @@ test('the form of a text follows from its number', () => {
 test('each form of another language stands at its place, whatever the engine names first', async context => {
     const place = mkdtempSync(join(tmpdir(), 'texts-'));
     context.after(() => rmSync(place, { recursive: true }));
-    cpSync(pageFile('texts'), place, { recursive: true });
+    for (const name of ['page/texts', 'sentences', 'core']) cpSync(pageFile(join('..', name)), join(place, name), { recursive: true });
     writeFileSync(join(place, 'package.json'), '{"type": "module"}');
-    const english = readFileSync(join(place, 'english.js'), 'utf8');
-    writeFileSync(join(place, 'english.js'), english.replace("LANGUAGE = 'en-GB'", "LANGUAGE = 'ru'"));
-    const russian = await import(join(place, 'say.js'));
+    const texts = join(place, 'page/texts');
+    const english = readFileSync(join(texts, 'english.js'), 'utf8');
+    writeFileSync(join(texts, 'english.js'), english.replace("LANGUAGE = 'en-GB'", "LANGUAGE = 'ru'"));
+    const russian = await import(join(texts, 'say.js'));
     const forms = [1, 3, 5, 21, 1.5].map(n => russian.told('{n} one|{n} few|{n} many|{n} other', { n }));
     assert.deepEqual(forms, ['1 one', '3 few', '5 many', '21 one', '1,5 other']);
 });

@@ -373,10 +373,12 @@ test_forms() {
     done
     refuses_form 'The core imports only of itself' core/sectors/runs.js "import '../../page/ui/dom.js';"
     refuses_form 'The core imports only of itself' core/bytes.js "import '../page/ui/dom.js';"
+    refuses_form 'The core imports only of itself' core/iso/files.js "import '../../sentences/index.js';"
+    refuses_form 'The sentences import only of themselves and of the core' sentences/english.js "import '../page/texts/index.js';"
     refuses_form 'The core imports only of itself' core/bytes.js "import 'node:os';"
-    refuses_form 'The page imports only of itself and of the core' page/ui/dom.js "import '../../command/files.js';"
-    refuses_form 'The page imports only of itself and of the core' page/main.js "import '../command/files.js';"
-    refuses_form 'The page imports only of itself and of the core' page/ui/dom.js "import 'node:fs';"
+    refuses_form 'The page imports only of itself, of the core and of the sentences' page/ui/dom.js "import '../../command/files.js';"
+    refuses_form 'The page imports only of itself, of the core and of the sentences' page/main.js "import '../command/files.js';"
+    refuses_form 'The page imports only of itself, of the core and of the sentences' page/ui/dom.js "import 'node:fs';"
     refuses_form "What a folder gives to others stands in its index.js" page/disc/map.js "import '../ui/dom.js';"
     refuses_form 'The state of the page is changed by its methods' page/disc/map.js "app.image = null;"
     refuses_form 'The methods of the state tell what has changed' page/disc/map.js "app.tell('image');"
@@ -388,8 +390,8 @@ test_forms() {
     refuses_form 'A failure has a code' core/sectors/runs.js "export const isGone = error => error.message === 'gone';"
     refuses_form 'Calls has a method for each call' page/disc/map.js "calls.exports.cdpatch_version();"
     refuses_form '../disc/index.js imports this module' page/text/panel.js "import '../disc/index.js';"
-    refuses_form 'The command imports only of itself, of the core and of node' command/help.js "import '../page/ui/dom.js';"
-    refuses_form 'The command imports only of itself, of the core and of node' command/help.js "import 'os';"
+    refuses_form 'The command imports only of itself, of the core, of the sentences and of node' command/help.js "import '../page/ui/dom.js';"
+    refuses_form 'The command imports only of itself, of the core, of the sentences and of node' command/help.js "import 'os';"
     for file in core/bytes.js core/sectors/runs.js page/main.js page/ui/dom.js command/help.js; do
         refuses_form 'A dynamic import' $file "import('./x.js');"
     done

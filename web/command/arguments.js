@@ -2,9 +2,9 @@
 
 import { LAST_TRACK } from '../core/disc/index.js';
 import { ENCODINGS, encodingOf } from '../core/encodings/index.js';
-import { Fault } from '../core/faults.js';
 import { bytesOfHex } from '../core/hex_digits.js';
 import { LAST_BASE, LAST_BLOCK } from '../core/module/index.js';
+import { ownFault } from '../sentences/index.js';
 import { FORMS, OPTION_FORMS } from './forms.js';
 import { numberOf } from './numbers.js';
 import { didYouMean } from './suggesting.js';
@@ -27,14 +27,14 @@ const SHORT_WORDS = { '-h': '--help', '-V': '--version' };
 /** @param {string} text */
 function fillOf(text) {
     if (text === 'end') return text;
-    if (!/^([0-9A-Fa-f]{2})+$/.test(text)) throw new Fault(`--fill is two hexadecimal digits for each byte, or end, not '${text}'`);
+    if (!/^([0-9A-Fa-f]{2})+$/.test(text)) throw ownFault(`--fill is two hexadecimal digits for each byte, or end, not '${text}'`);
     return bytesOfHex(text);
 }
 
 /** @param {string} name */
 function knownEncoding(name) {
     const known = ENCODINGS.map(it => it.name).join(', ');
-    if (encodingOf(name) === null) throw new Fault(`there is no encoding '${name}' here; there are ${known}`);
+    if (encodingOf(name) === null) throw ownFault(`there is no encoding '${name}' here; there are ${known}`);
     return name;
 }
 
@@ -78,14 +78,14 @@ function takeOption(options, word, left) {
     const name = Object.keys(OPTION_FORMS).find(key => OPTION_FORMS[key].word === meant);
     if (!name) {
         const known = Object.values(OPTION_FORMS).map(({ word: it }) => it);
-        throw new Fault(`there is no option ${spelled}${didYouMean(spelled, known) || '; a name that begins with - stands after --'}`);
+        throw ownFault(`there is no option ${spelled}${didYouMean(spelled, known) || '; a name that begins with - stands after --'}`);
     }
     const form = OPTION_FORMS[name];
     const isFlag = form.value === '';
-    if (isFlag && given !== undefined) throw new Fault(`${spelled} takes no value`);
-    if (name in options && !REPEATED.includes(name)) throw new Fault(`${form.word} was given twice`);
+    if (isFlag && given !== undefined) throw ownFault(`${spelled} takes no value`);
+    if (name in options && !REPEATED.includes(name)) throw ownFault(`${form.word} was given twice`);
     const text = isFlag || given !== undefined ? given : left.next().value;
-    if (!isFlag && text === undefined) throw new Fault(`${form.word} needs ${form.value}`);
+    if (!isFlag && text === undefined) throw ownFault(`${form.word} needs ${form.value}`);
     const value = isFlag || (name in VALUES ? VALUES[name](text) : text);
     options[name] = REPEATED.includes(name) ? [...options[name] || [], value] : value;
 }
@@ -112,7 +112,7 @@ function checkNames(job, names, options) {
     const least = takes.filter(name => !/^\[|\?$/.test(name)).length;
     const most = takes.some(name => name.endsWith('..')) ? Infinity : takes.length + together;
     if (names.length >= least && names.length <= most && (names.length - least) % (together + 1) === 0) return;
-    throw new Fault(`${job} needs ${usageOf(takes)}; see cdscript ${job} --help`);
+    throw ownFault(`${job} needs ${usageOf(takes)}; see cdscript ${job} --help`);
 }
 
 /**
@@ -134,16 +134,16 @@ export function argumentsOf(words) {
     if (given[0] === 'help' && given.length <= 2) options.help = true;
     const [job = '', ...names] = given[0] === 'help' ? given.slice(1) : given;
     if (options.version || options.notices || (options.help && job === '')) return { job: '', names: [], options };
-    if (job === '') throw new Fault('a job is missing; see cdscript --help');
+    if (job === '') throw ownFault('a job is missing; see cdscript --help');
     if (!Object.keys(FORMS).includes(job)) {
-        throw new Fault(`there is no job '${job}'${didYouMean(job, Object.keys(FORMS))}; see cdscript --help`);
+        throw ownFault(`there is no job '${job}'${didYouMean(job, Object.keys(FORMS))}; see cdscript --help`);
     }
     const foreign = Object.keys(options).find(name => name !== 'help' && !FORMS[job].options.includes(name));
-    if (foreign) throw new Fault(`${job} has no option ${OPTION_FORMS[foreign].word}; see cdscript ${job} --help`);
-    if (job === 'replace' && options.partial && options.list === undefined) throw new Fault('--partial needs --list');
+    if (foreign) throw ownFault(`${job} has no option ${OPTION_FORMS[foreign].word}; see cdscript ${job} --help`);
+    if (job === 'replace' && options.partial && options.list === undefined) throw ownFault('--partial needs --list');
     for (const [one, other] of EXCLUDING) {
         if (!(one in options && other in options)) continue;
-        throw new Fault(`${OPTION_FORMS[one].word} and ${OPTION_FORMS[other].word} exclude each other`);
+        throw ownFault(`${OPTION_FORMS[one].word} and ${OPTION_FORMS[other].word} exclude each other`);
     }
     if (!options.help) checkNames(job, names, options);
     return { job, names, options };

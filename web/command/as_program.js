@@ -1,11 +1,12 @@
 // The jobs that are the program's: `list`, `audit`, `check` and `apply`, with its texts, statuses and limits.
 
 import { sampledBase } from '../core/disc/index.js';
-import { FAULT, Fault, failedBy } from '../core/faults.js';
+import { Fault, failedBy } from '../core/faults.js';
 import { SECTOR_SIZE, STATUS } from '../core/module/index.js';
 import { NEAR_WRITTEN } from '../core/script/index.js';
 import { auditText, imageTooLong, listText } from '../core/sectors/index.js';
 import { applyScript, validScript } from '../core/tasks/index.js';
+import { ownFault, sentenceOf } from '../sentences/index.js';
 import { MESSAGES } from './messages.js';
 import { openTrackOf } from './opening.js';
 
@@ -21,7 +22,7 @@ import { openTrackOf } from './opening.js';
  */
 function programFault(text, advice = '') {
     const message = typeof text === 'string' ? `cdpatch: ${text}\n` : new TextDecoder().decode(text);
-    return new Fault(message, FAULT.PROGRAM, { advice });
+    return new Fault('program', { sentence: message, advice });
 }
 
 /**
@@ -34,9 +35,9 @@ function asProgram(job) {
         try {
             return await job(run);
         } catch (error) {
-            if (!failedBy(error, FAULT.PROGRAM)) throw error;
+            if (!failedBy(error, 'program')) throw error;
             run.files.removeUnfinished();
-            await run.output.write(new TextEncoder().encode(error.message));
+            await run.output.write(new TextEncoder().encode(sentenceOf(error)));
             if (error.facts.advice) run.say(error.facts.advice);
             return STATUS.FAILED;
         }
@@ -60,11 +61,11 @@ async function orSay(messages, tried) {
     try {
         return await tried();
     } catch (error) {
-        if (failedBy(error, FAULT.IMAGE_ENDED)) throw programFault(messages.read);
-        if (failedBy(error, FAULT.SCRIPT)) throw new Fault(`${error.message}\n`, FAULT.PROGRAM);
-        if (!failedBy(error, FAULT.FILE)) throw error;
+        if (failedBy(error, 'image-ended')) throw programFault(messages.read);
+        if (failedBy(error, 'script/refused')) throw new Fault('program', { sentence: `${sentenceOf(error)}\n` });
+        if (!failedBy(error, 'file')) throw error;
         const { attempt = 'open' } = error.facts;
-        throw programFault(messages[attempt], attempt === 'make' ? error.message : '');
+        throw programFault(messages[attempt], attempt === 'make' ? sentenceOf(error) : '');
     }
 }
 
@@ -82,7 +83,7 @@ async function checkBase(run, name, reader) {
     const { base, agreeing, mode1 } = await orSay(OF_IMAGES, () => sampledBase(run.calls, reader));
     if (base <= 0 || 2 * agreeing <= mode1) return;
     const found = `most addresses in ${name} say that it begins with block ${base}`;
-    if (mode1 >= FEWEST_ADDRESSES) throw new Fault(`${found}: give --base ${base}, or --base 0 to count from 0 all the same`);
+    if (mode1 >= FEWEST_ADDRESSES) throw ownFault(`${found}: give --base ${base}, or --base 0 to count from 0 all the same`);
     if (agreeing === mode1) run.say(`this image begins with block ${base}: --base ${base}`);
 }
 
@@ -135,8 +136,8 @@ async function scriptNamed(run) {
  * @returns {never}
  */
 function adviseBase(error) {
-    if (!failedBy(error, FAULT.OTHER_BASE) || !error.facts.other) throw error;
-    throw new Fault(`${error.message}: give --base ${error.facts.other.base}, or take that line out`);
+    if (!failedBy(error, 'script/other-base')) throw error;
+    throw ownFault(`${sentenceOf(error)}: give --base ${error.facts.base}, or take that line out`);
 }
 
 /**

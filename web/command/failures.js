@@ -1,7 +1,6 @@
 // Files that fail, and what the codes of the system mean to a person. Whatever fails, the status is 2.
 
-import { FAULT, Fault } from '../core/faults.js';
-
+import { Fault } from '../core/faults.js';
 /** @type {Record<string, string>} */
 const REASONS = {
     EACCES: 'no permission',
@@ -50,7 +49,7 @@ export function hasCode(error, code) {
  * @param {unknown} error
  */
 export function fileFault(attempt, name, error) {
-    return new Fault(`cannot ${attempt} ${name}: ${reasonOf(error)}`, FAULT.FILE, { attempt, file: name });
+    return new Fault('file', { sentence: `cannot ${attempt} ${name}: ${reasonOf(error)}`, attempt, file: name });
 }
 
 /**

@@ -1,8 +1,9 @@
 // Files: images as readers, scripts in pieces, and files that are made new.
 
 import { closeSync, constants, fstatSync, open, read, readFileSync, readSync } from 'node:fs';
-import { Fault, inMemory } from '../core/faults.js';
+import { inMemory } from '../core/faults.js';
 import { MOST_SECTORS, SECTOR_SIZE } from '../core/module/index.js';
+import { ownFault } from '../sentences/index.js';
 import { hasCode, tryFile } from './failures.js';
 import { pathOf } from './names.js';
 import { NewFile } from './new_file.js';
@@ -155,7 +156,7 @@ export class Files {
         if (known) return known;
         const descriptor = await this.opened(name, constants.O_RDONLY | (constants.O_NONBLOCK || 0));
         const stat = await tryFile('read', name, () => fstatSync(descriptor));
-        if (!stat.isFile()) throw new Fault(`${name} is no regular file, and only the cue sheet names it: give it as the image`);
+        if (!stat.isFile()) throw ownFault(`${name} is no regular file, and only the cue sheet names it: give it as the image`);
         const file = { name, reader: diskReader(name, descriptor, stat.size, 0) };
         this.changed.set(name, timeText(stat));
         this.images.set(name, file);

@@ -2,10 +2,10 @@
 
 import { bytesOfLines } from '../core/bytes.js';
 import { natureOf } from '../core/disc/index.js';
-import { Fault } from '../core/faults.js';
 import { LAST_BASE, USER_SIZE, kindName } from '../core/module/index.js';
-import { blocksIn, blocksText } from '../core/sectors/index.js';
+import { blocksIn } from '../core/sectors/index.js';
 import { extractFile, passUser, repairTrack } from '../core/tasks/index.js';
+import { blocksText, ownFault } from '../sentences/index.js';
 import { RunningHashes, sayKnown } from './hashes.js';
 import { entriesAtPath } from './looking.js';
 import { openTrackOf } from './opening.js';
@@ -114,7 +114,7 @@ export async function mergeJob(run) {
     const seen = (/** @type {Uint8Array} */ bytes) => void (hash && hash.update(bytes));
     const repair = await repairTrack(run, opened, dumps, piece => out.writePiece(image.reader, piece, seen), run.watch);
     const { refused, doubtful, untested } = repair;
-    if (refused) throw new Fault(refusedText(repair, refused, [name, ...more]));
+    if (refused) throw ownFault(refusedText(repair, refused, [name, ...more]));
     repair.ranges.forEach((ranges, i) => sayOtherRange(run, image, others[i], ranges, out.name));
     others.filter((_, i) => repair.tails[i]).forEach(other => run.say(`${TAILS} in ${other.name}; those of ${name} are kept`));
     await run.output.write(bytesOfLines(repairLines(repair, others).map(visible)));
@@ -132,10 +132,10 @@ export async function rawJob(run) {
     const { name, reader } = await run.files.image(run.names[0]);
     const { kind, what } = await natureOf(run.calls, reader);
     const count = reader.size / USER_SIZE;
-    if (!['iso', 'audio', 'unknown'].includes(kind)) throw new Fault(`${name} is ${what}, and no ISO image`);
-    if (!Number.isInteger(count)) throw new Fault(`${name} has ${reader.size} bytes, not 2048 for each sector`);
+    if (!['iso', 'audio', 'unknown'].includes(kind)) throw ownFault(`${name} is ${what}, and no ISO image`);
+    if (!Number.isInteger(count)) throw ownFault(`${name} has ${reader.size} bytes, not 2048 for each sector`);
     if (first + count > BLOCKS_WITH_ADDRESS) {
-        throw new Fault(`${name} goes on after block ${BLOCKS_WITH_ADDRESS - 1}, the last one with an address`);
+        throw ownFault(`${name} goes on after block ${BLOCKS_WITH_ADDRESS - 1}, the last one with an address`);
     }
     await run.crew.share('raw', [reader], {}, { base: first, units: [USER_SIZE] }, bytes => out.write(bytes));
     return 0;

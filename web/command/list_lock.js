@@ -1,9 +1,9 @@
 // A lock on a list, so that two runs at a time do not write the same lines. It is a file beside the list, with the number of the process.
 
 import { closeSync, openSync, readFileSync, realpathSync, unlinkSync } from 'node:fs';
-import { Fault } from '../core/faults.js';
 import { fileFault, hasCode } from './failures.js';
 import { writeFully } from './new_file.js';
+import { ownFault } from '../sentences/index.js';
 
 /**
  * Whether the process that made a lock still runs. If it has the number of this one, it has ended, and the number was given out again.
@@ -70,5 +70,5 @@ export function lockList(name) {
         removeLock(place);
         if (made(place)) return lock;
     }
-    throw new Fault(`another run (process ${heldBy(place)}) is writing to ${name}: wait for it, or remove ${place} if it has ended`);
+    throw ownFault(`another run (process ${heldBy(place)}) is writing to ${name}: wait for it, or remove ${place} if it has ended`);
 }

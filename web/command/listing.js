@@ -1,8 +1,7 @@
 // The job `replace --list`: the script of a table with the new texts of a disc.
 
-import { Fault } from '../core/faults.js';
-import { importTable, leftRowText } from '../core/tasks/index.js';
-import { leftCodeText } from '../core/texts/index.js';
+import { importTable } from '../core/tasks/index.js';
+import { ownFault, sentenceOf } from '../sentences/index.js';
 import { openTrackOf } from './opening.js';
 import { sayOfRuns } from './printed.js';
 import { writeFinished } from './scripts.js';
@@ -22,12 +21,12 @@ export async function replaceListJob(run, list) {
     const isAsked = encoding !== undefined || table !== undefined;
     const { reader } = await run.files.image(list);
     const { script, left, codes } = await importTable(run, opened, { list: { name: list, reader }, encodings, isAsked, fill, partial });
-    sayOfRuns(run, left, leftRowText);
-    sayOfRuns(run, codes, leftCodeText);
+    sayOfRuns(run, left, facts => sentenceOf({ code: 'list/row-left', facts }));
+    sayOfRuns(run, codes, facts => sentenceOf({ code: 'list/code-left', facts }));
     if (left.length > 0 && !partial) {
-        throw new Fault(`rows that do not fit: ${left.length}, so no script is written; --partial leaves them out`);
+        throw ownFault(`rows that do not fit: ${left.length}, so no script is written; --partial leaves them out`);
     }
-    if (script === null) throw new Fault('no row fits, so no script is written');
+    if (script === null) throw ownFault('no row fits, so no script is written');
     await writeFinished(run, target, script);
     return Number(left.length > 0);
 }

@@ -1,7 +1,6 @@
 // The jobs that look into a data track: `files`, `find` and `show`.
 
 import { bytesOfLines } from '../core/bytes.js';
-import { Fault } from '../core/faults.js';
 import { hexText } from '../core/hex_digits.js';
 import { filesLines } from '../core/iso/index.js';
 import { USER_SIZE, kindName } from '../core/module/index.js';
@@ -9,6 +8,7 @@ import { FIELDS, addressIn, addressText, findingOf } from '../core/sectors/index
 import { sectorsOfRange } from '../core/tasks/index.js';
 import { FilesAlong, LONGEST_CHARACTER, LOOKED_BACK, bytesAround, bytesInside, charactersFrom, contextsOf } from '../core/texts/index.js';
 import { shownCell } from '../core/texts/index.js';
+import { ownFault, sentenceOf } from '../sentences/index.js';
 import { placeGiven } from './numbers.js';
 import { openTrackOf } from './opening.js';
 import { visible } from './printed.js';
@@ -44,7 +44,7 @@ export async function entriesAtPath(opened, path) {
     const named = files.filter(file => [file.path, visible(file.path)].map(rooted).includes(rooted(path)));
     if (named.length > 0) return named;
     const meant = nearest(rooted(path), files.map(file => rooted(file.path)));
-    throw new Fault(`there is no file ${path}; ${meant === null ? 'cdscript files lists them' : `there is ${meant}`}`);
+    throw ownFault(`there is no file ${path}; ${meant === null ? 'cdscript files lists them' : `there is ${meant}`}`);
 }
 
 /**
@@ -62,7 +62,7 @@ function volumeIn({ volume, fault }) {
  * @param {TrackContents} contents
  */
 export function sayNoVolume(run, { fault }) {
-    if (fault !== null) run.say(`no file is named: ${fault.message}`);
+    if (fault !== null) run.say(`no file is named: ${sentenceOf(fault)}`);
 }
 
 /** @param {Run} run */
@@ -100,7 +100,7 @@ function printedFiles(files) {
  */
 function hitLine(files, hit, { before, hit: text, after, doubt }) {
     const around = shownCell(visible(`${before.join('')}${text}${after.join('')}`));
-    return [hit.block, hit.offset, hit.size, filesText(files, hit), around, ...doubt === '' ? [] : [doubt]].join('\t');
+    return [hit.block, hit.offset, hit.size, filesText(files, hit), around, ...doubt === null ? [] : [sentenceOf(doubt)]].join('\t');
 }
 
 /**

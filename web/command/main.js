@@ -2,8 +2,9 @@
 
 import { isMainThread, workerData } from 'node:worker_threads';
 import { gunzipSync } from 'node:zlib';
-import { FAULT, Fault, failedBy } from '../core/faults.js';
+import { Fault, failedBy } from '../core/faults.js';
 import { STATUS } from '../core/module/index.js';
+import { ownFault, sentenceOf } from '../sentences/index.js';
 import { isLimited, runAgain } from './again.js';
 import { argumentsOf } from './arguments.js';
 import { Files } from './files.js';
@@ -44,8 +45,8 @@ async function printHelp({ job, options }, run) {
 /** @param {unknown} error */
 function messageOf(error) {
     if (!(error instanceof Error)) return String(error);
-    if (failedBy(error, FAULT.NO_MEMORY)) return MESSAGES.no_memory;
-    if (error instanceof Fault) return visible(error.message);
+    if (failedBy(error, 'no-memory')) return MESSAGES.no_memory;
+    if (error instanceof Fault) return visible(sentenceOf(error));
     return `internal error: ${(error.stack || '').split('\n').map(visible).join('\n')}`;
 }
 
@@ -68,9 +69,9 @@ export async function main(words, streams = STANDARD, files = new Files(streams.
     const messages = new Messages(streams.errors);
     let run = null;
     try {
-        if (words.some(word => word.includes('\uFFFD'))) throw new Fault(MESSAGES.no_text);
+        if (words.some(word => word.includes('\uFFFD'))) throw ownFault(MESSAGES.no_text);
         const given = argumentsOf(words);
-        if (words.some(word => hasOddBytes(word) && !isNameRead(word, given))) throw new Fault(MESSAGES.no_text);
+        if (words.some(word => hasOddBytes(word) && !isNameRead(word, given))) throw ownFault(MESSAGES.no_text);
         const { help, version, notices } = given.options;
         run = new Run(given, streams, files, messages);
         const status = help || version || notices ? await printHelp(given, run) : await FORMS[given.job].job(run);
@@ -78,7 +79,7 @@ export async function main(words, streams = STANDARD, files = new Files(streams.
         await files.finish();
         return status;
     } catch (error) {
-        if (!failedBy(error, FAULT.READER_ENDED)) messages.say(messageOf(error));
+        if (!failedBy(error, 'reader-ended')) messages.say(messageOf(error));
         return STATUS.FAILED;
     } finally {
         if (run !== null) run.crew.close();
@@ -121,7 +122,7 @@ export function start() {
     // Node would end with status 0 if a job waited for what never comes.
     process.once('beforeExit', () => {
         files.removeUnfinished();
-        process.exit(failed(new Fault('internal error: the job has not ended')));
+        process.exit(failed(ownFault('internal error: the job has not ended')));
     });
     main(wordsOfProcess(), STANDARD, files).catch(failed).then(status => process.exit(status));
 }

@@ -1,7 +1,7 @@
 // Numbers of the command line.
 
-import { Fault } from '../core/faults.js';
 import { LAST_BLOCK, USER_SIZE } from '../core/module/index.js';
+import { ownFault } from '../sentences/index.js';
 
 /**
  * A number of decimal digits within its limits.
@@ -13,7 +13,7 @@ import { LAST_BLOCK, USER_SIZE } from '../core/module/index.js';
 export function numberOf(text, name, least, most) {
     const number = /^[0-9]+$/.test(text) ? Number(text) : NaN;
     if (number >= least && number <= most) return number;
-    throw new Fault(`${name} is a number from ${least} to ${most}, not '${text}'`);
+    throw ownFault(`${name} is a number from ${least} to ${most}, not '${text}'`);
 }
 
 /**

@@ -3,9 +3,10 @@
 import { dirname } from 'node:path';
 import { wholeOf } from '../core/bytes.js';
 import { natureOf, openDisc, sheetsOf } from '../core/disc/index.js';
-import { FAULT, Fault, failedBy } from '../core/faults.js';
+import { failedBy } from '../core/faults.js';
 import { imageTooLong } from '../core/sectors/index.js';
 import { openTrack } from '../core/tasks/index.js';
+import { ownFault } from '../sentences/index.js';
 import { tryFile } from './failures.js';
 import { MESSAGES } from './messages.js';
 import { pathsOfSheet } from './sheet_files.js';
@@ -26,7 +27,7 @@ export async function openDiscOf(run, name) {
     const others = kind === 'cue' ? await filesOfSheet(run, file) : [];
     const disc = await openNamedFiles(run, [file, ...others]);
     const long = disc.files.find(({ reader }) => imageTooLong(reader.size));
-    if (long) throw new Fault(`${long.name}: ${MESSAGES.long_image}`, FAULT.INPUT, { file: long.name });
+    if (long) throw ownFault(`${long.name}: ${MESSAGES.long_image}`, { file: long.name });
     return disc;
 }
 
@@ -39,8 +40,8 @@ async function openNamedFiles(run, files) {
     try {
         return await openDisc(run.calls, files);
     } catch (error) {
-        if (!failedBy(error, FAULT.MISSING_FILES)) throw error;
-        throw new Fault(`${error.facts.found} It is not in the directory of the cue sheet.`, FAULT.INPUT, { file: error.facts.sheet });
+        if (!failedBy(error, 'missing-files')) throw error;
+        throw ownFault(`${error.facts.found} It is not in the directory of the cue sheet.`, { file: error.facts.sheet });
     }
 }
 

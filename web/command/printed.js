@@ -1,6 +1,7 @@
 // Words that several jobs print.
 
-import { blocksIn, blocksText, joinedRuns } from '../core/sectors/index.js';
+import { blocksIn, joinedRuns } from '../core/sectors/index.js';
+import { blocksText } from '../sentences/index.js';
 
 /** @typedef {import('../core/sectors/runs.js').Run} BlockRun */
 /** @typedef {import('./run.js').Run} Run */

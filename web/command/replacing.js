@@ -3,9 +3,9 @@
 import { fillerOf, usualBytes } from '../core/encodings/index.js';
 import { Fault } from '../core/faults.js';
 import { hexText } from '../core/hex_digits.js';
-import { leftText } from '../core/script/index.js';
-import { assertHasRoom, filledUp, findTextAt, leftHitText, replaceFile, replaceHits, sharingText } from '../core/tasks/index.js';
+import { assertHasRoom, filledUp, findTextAt, replaceFile, replaceHits } from '../core/tasks/index.js';
 import { contextOf, unitsAlike } from '../core/texts/index.js';
+import { ownFault, sentenceOf } from '../sentences/index.js';
 import { replaceListJob } from './listing.js';
 import { entriesAtPath } from './looking.js';
 import { placeGiven } from './numbers.js';
@@ -33,17 +33,17 @@ const MOST_PLACES = 1000000;
 async function wantedPlaces(run, opened, text) {
     const { all, inside } = run.options;
     const { image, best } = await foundText(run, opened, text, all ? MOST_PLACES : MOST_LISTED);
-    if (best === null) throw new Fault('the text is not found');
+    if (best === null) throw ownFault('the text is not found');
     const { count, hits, encoding } = best;
     if (count === 1 && !all && !inside) await assertBegins({ image, encoding, hits });
     if (count === 1 || (all && count === hits.length)) return { image, encoding, hits };
-    if (all) throw new Fault(`the text stands at ${count} places, and no more than ${MOST_PLACES} are replaced`);
+    if (all) throw ownFault(`the text stands at ${count} places, and no more than ${MOST_PLACES} are replaced`);
     for (const hit of hits) {
         const { doubt, before, hit: own, after } = await contextOf(image, encoding, hit);
-        const place = `it stands at block ${hit.block} offset ${hit.offset}${doubt === '' ? '' : `, ${doubt}`}`;
+        const place = `it stands at block ${hit.block} offset ${hit.offset}${doubt === null ? '' : `, ${sentenceOf(doubt)}`}`;
         run.say(`${place}: ${[...before, own, ...after].join('')}`);
     }
-    throw new Fault(`the text stands at ${count} places: give BLOCK and OFFSET of one, or --all`);
+    throw ownFault(`the text stands at ${count} places: give BLOCK and OFFSET of one, or --all`);
 }
 
 /**
@@ -52,7 +52,7 @@ async function wantedPlaces(run, opened, text) {
  */
 async function doubtText({ image, encoding, hits: [hit] }) {
     const { doubt } = await contextOf(image, encoding, hit, 0);
-    return doubt === '' ? '' : leftHitText({ text: hit, why: doubt });
+    return doubt === null ? '' : sentenceOf({ code: 'replace/hit-left', facts: { text: hit, why: doubt } });
 }
 
 /**
@@ -61,7 +61,7 @@ async function doubtText({ image, encoding, hits: [hit] }) {
  */
 async function assertBegins(places) {
     const doubt = await doubtText(places);
-    if (doubt !== '') throw new Fault(`${doubt}: --inside replaces it all the same`);
+    if (doubt !== '') throw ownFault(`${doubt}: --inside replaces it all the same`);
 }
 
 /**
@@ -93,7 +93,7 @@ function freshBytes(run, { encoding, hits }, text) {
     for (const size of new Set(hits.map(hit => hit.size))) {
         assertHasRoom(encoding, bytes, size);
         const missing = size - bytes.length;
-        if (missing > 0 && fill === null) throw new Fault(`${encoding.name} has no space to fill up with: give --fill`);
+        if (missing > 0 && fill === null) throw ownFault(`${encoding.name} has no space to fill up with: give --fill`);
         known.set(size, filledUp(bytes, size, fill));
         if (missing > 0 && fill !== null) run.say(`bytes filled up with ${hexText(fill)}: ${missing}`);
     }
@@ -112,9 +112,9 @@ async function writeReplaced(run, target, opened, places, { text, inside }) {
     const known = freshBytes(run, places, text);
     const freshFor = (/** @type {number} */ size) => /** @type {Uint8Array} */ (known.get(size));
     const { script, left } = await replaceHits(run, opened, { ...places, freshFor, inside });
-    if (left.length === 1 && places.hits.length === 1) throw new Fault(left[0].why);
-    sayOfRuns(run, left, leftHitText);
-    if (script === null) throw new Fault('no place is left, so no script is written');
+    if (left.length === 1 && places.hits.length === 1) throw new Fault(left[0].why.code, left[0].why.facts);
+    sayOfRuns(run, left, facts => sentenceOf({ code: 'replace/hit-left', facts }));
+    if (script === null) throw ownFault('no place is left, so no script is written');
     await writeFinished(run, target, script);
     return left.length;
 }
@@ -125,7 +125,7 @@ export async function replaceJob(run) {
     const [name, ...more] = run.names;
     const [after, before, offset, block] = more.reverse();
     const given = block === undefined ? null : placeGiven(block, offset);
-    if (given !== null && run.options.all) throw new Fault('--all and a place exclude each other');
+    if (given !== null && run.options.all) throw ownFault('--all and a place exclude each other');
     const target = await run.target();
     const opened = await openTrackOf(run, name, given !== null);
     const places = given === null ? await wantedPlaces(run, opened, before) : await placesAt(run, opened, given, before);
@@ -136,16 +136,16 @@ export async function replaceJob(run) {
 /** @param {Run} run */
 export async function replaceFileJob(run) {
     const { fill } = run.options;
-    if (fill === 'end' || (fill && fill.length !== 1)) throw new Fault('--fill is one byte here');
+    if (fill === 'end' || (fill && fill.length !== 1)) throw ownFault('--fill is one byte here');
     const target = await run.target();
     const opened = await openTrackOf(run, run.names[0]);
     const entries = await entriesAtPath(opened, run.names[1]);
     const { reader } = await run.files.image(run.names[2]);
     const made = await replaceFile(run, opened, { entries, wanted: reader, fill: fill && fill[0] });
     const { file } = made;
-    sayOfRuns(run, made.left, left => leftText([left], opened.part.name));
-    sayOfRuns(run, made.sharing, other => sharingText(file.path, other));
-    if (made.script === null) throw new Fault('these blocks of the file can not be patched, so no script is written');
+    sayOfRuns(run, made.left, left => sentenceOf({ code: 'script/left', facts: { runs: [left], image: opened.part.name } }));
+    sayOfRuns(run, made.sharing, other => sentenceOf({ code: 'replace/shared-blocks', facts: { path: file.path, other } }));
+    if (made.script === null) throw ownFault('these blocks of the file can not be patched, so no script is written');
     if (fill && reader.size < file.size) run.say(`bytes filled up with ${hexText(fill)}: ${file.size - reader.size}`);
     else if (reader.size !== file.size) run.say(`${file.path} had ${file.size} bytes, and gets ${reader.size}`);
     await writeFinished(run, target, made.script);

@@ -3,9 +3,10 @@
 import { gunzipSync } from 'node:zlib';
 import { joinedBytes, watchedReader } from '../core/bytes.js';
 import { KnownDumps } from '../core/disc/index.js';
-import { FAULT, Fault, failedBy } from '../core/faults.js';
+import { Fault, failedBy } from '../core/faults.js';
 import { Calls, SECTOR_SIZE, sectorCount } from '../core/module/index.js';
 import { addToRuns } from '../core/sectors/index.js';
+import { ownFault, sentenceOf } from '../sentences/index.js';
 import { visible } from './printed.js';
 import { Output } from './stdout.js';
 import { Threads } from './threads.js';
@@ -89,7 +90,7 @@ export class Run {
         const known = new KnownDumps();
         for (const name of dat) {
             await known.add(this.files.piecesOf(name)).catch(error => {
-                throw failedBy(error, FAULT.FILE) || !(error instanceof Fault) ? error : new Fault(`${name}: ${error.message}`);
+                throw failedBy(error, 'file') || !(error instanceof Fault) ? error : ownFault(`${name}: ${sentenceOf(error)}`);
             });
         }
         if (known.leftOut > 0) this.say(`entries of the DAT without a size or a hash, which match no file: ${known.leftOut}`);

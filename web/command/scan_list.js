@@ -3,7 +3,7 @@
 import { closeSync, ftruncateSync, openSync, readFileSync, readSync, statSync } from 'node:fs';
 import { basename } from 'node:path';
 import { bytesOfLines } from '../core/bytes.js';
-import { Fault } from '../core/faults.js';
+import { ownFault } from '../sentences/index.js';
 import { hasCode, tryFile } from './failures.js';
 import { timeText } from './files.js';
 import { lockList } from './list_lock.js';
@@ -129,7 +129,7 @@ export class ResumedList {
         const lines = new TextDecoder().decode(bytes.subarray(0, this.size)).split('\n').slice(0, -1);
         if (bytes.length > 0 && (this.size === 0 || !lines.every(line => LISTED.test(line)))) {
             this.close();
-            throw new Fault(`${this.name} is no list that scan has written, so it stays as it is`);
+            throw ownFault(`${this.name} is no list that scan has written, so it stays as it is`);
         }
         if (this.size < bytes.length) ftruncateSync(this.descriptor, this.size);
         this.rows = lines.map(line => line.split('\t'));
@@ -233,7 +233,7 @@ function isOther(row) {
 export async function resumedList(run) {
     const { resume, output } = run.options;
     if (resume === undefined) return null;
-    if (output !== undefined) throw new Fault('--resume and -o exclude each other');
+    if (output !== undefined) throw ownFault('--resume and -o exclude each other');
     await tryFile('open', resume, () => closeSync(openSync(resume, 'a+')));
     run.files.onmake();
     const lock = lockList(resume);

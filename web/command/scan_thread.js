@@ -6,6 +6,7 @@ import { Fault } from '../core/faults.js';
 import { kindName } from '../core/module/index.js';
 import { blocksIn, kindRuns } from '../core/sectors/index.js';
 import { findingsIn, unsurveyedTracks } from '../core/tasks/index.js';
+import { sentenceOf } from '../sentences/index.js';
 import { Files } from './files.js';
 import { openDiscOf } from './opening.js';
 import { untestedText } from './printed.js';
@@ -135,7 +136,8 @@ export async function scanOne(name, needs) {
         return { files: found.map((it, i) => scanned(run, disc, it, i)), notes, missing, fault: '', other: '' };
     } catch (error) {
         if (!(error instanceof Fault)) throw error;
-        const fault = error.facts.file === name ? error.message : `${name}: ${error.message}`;
+        const sentence = sentenceOf(error);
+        const fault = error.facts.file === name ? sentence : `${name}: ${sentence}`;
         return { files: [], notes, missing: [], fault, other: '' };
     } finally {
         files.close();

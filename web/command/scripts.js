@@ -1,10 +1,11 @@
 // The jobs that write scripts of whole images: `diff`, `rebuilds` and `undo`. The core has applied what it writes.
 
-import { FAULT, Fault, failedBy } from '../core/faults.js';
+import { failedBy } from '../core/faults.js';
 import { RECORD_SIZE } from '../core/module/index.js';
-import { LineList, ScriptParts, leftText, scriptForBase } from '../core/script/index.js';
-import { blocksIn, blocksText, isDamaged } from '../core/sectors/index.js';
+import { LineList, ScriptParts, scriptForBase } from '../core/script/index.js';
+import { blocksIn, isDamaged } from '../core/sectors/index.js';
 import { compareTrack, openTrack, undoScript } from '../core/tasks/index.js';
+import { blocksText, ownFault, sentenceOf } from '../sentences/index.js';
 import { differingFields } from './fields.js';
 import { NewFile } from './new_file.js';
 import { openDiscOf, openTrackOf } from './opening.js';
@@ -68,6 +69,15 @@ function takingLines(target) {
     return { take: (/** @type {Uint8Array} */ text) => target.write(text) };
 }
 
+/**
+ * Why sectors of an image are left.
+ * @param {import('../core/script/sector_lines.js').Left} left
+ * @param {string} image
+ */
+function leftText(left, image) {
+    return sentenceOf({ code: 'script/left', facts: { runs: [left], image } });
+}
+
 /** @param {Run} run */
 export async function diffJob(run) {
     const { skipDamaged, partial = false, track, fields = false } = run.options;
@@ -78,13 +88,13 @@ export async function diffJob(run) {
     const fresh = openTrack(await openDiscOf(run, newName), { track }).image.reader;
     if (image.reader.size !== fresh.size) {
         const sizes = `the images have ${image.reader.size} and ${fresh.size} bytes`;
-        throw new Fault(fields ? sizes : `${sizes}, and no script changes a length`);
+        throw ownFault(fields ? sizes : `${sizes}, and no script changes a length`);
     }
     if (fields) return differingFields(run, target, opened, fresh);
     const made = await compareTrack(run, opened, fresh, { skipDamaged, partial, ...takingLines(target) });
-    sayOfRuns(run, made.left, left => leftText([left], newName));
+    sayOfRuns(run, made.left, left => leftText(left, newName));
     if (made.tail) run.say('the bytes after the last sector differ, and no script changes them');
-    if (made.script === null) throw new Fault(`no script leads to that image, so none is written${remedyOf(made, newName)}`);
+    if (made.script === null) throw ownFault(`no script leads to that image, so none is written${remedyOf(made, newName)}`);
     if (target instanceof NewFile) {
         await target.writeFirst(made.script.pieces[0]);
         sayOfScript(run, made.script);
@@ -132,9 +142,8 @@ function whyNoUndo(made, { name }) {
  * @returns {never}
  */
 function scriptFailed(error) {
-    if (!failedBy(error, FAULT.SCRIPT)) throw error;
-    const { message } = error;
-    throw new Fault(message.replace(/^cdpatch: /, ''));
+    if (!failedBy(error, 'script/refused')) throw error;
+    throw ownFault(error.facts.line.replace(/^cdpatch: /, ''));
 }
 
 /** @param {Run} run */
@@ -145,9 +154,9 @@ export async function undoJob(run) {
     const script = run.files.piecesOf(run.names[1]);
     const engine = { calls: run.calls, crew: run.crew.crew(image.sectors, UNDOING_THREADS) };
     const made = await undoScript(engine, opened, script, run.options, run.watch).catch(scriptFailed);
-    if (made.script === null) throw new Fault(whyNoUndo(made, image));
+    if (made.script === null) throw ownFault(whyNoUndo(made, image));
     if (made.refused > 0) run.say(refusedText(made.refused, image.name));
-    sayOfRuns(run, made.left, left => left.why === 'damaged' ? `${blocksText([left])}: ${DAMAGE_STAYS_OUT}` : leftText([left], image.name));
+    sayOfRuns(run, made.left, left => left.why === 'damaged' ? `${blocksText([left])}: ${DAMAGE_STAYS_OUT}` : leftText(left, image.name));
     await writeFinished(run, target, made.script);
     return made.refused > 0 || made.left.length > 0 ? SOME_LEFT_OUT : 0;
 }

@@ -3,7 +3,8 @@
 import { writeSync } from 'node:fs';
 import { isatty } from 'node:tty';
 import { ByteList } from '../core/bytes.js';
-import { FAULT, Fault } from '../core/faults.js';
+import { ownFault } from '../sentences/index.js';
+import { Fault } from '../core/faults.js';
 import { hasCode, reasonOf } from './failures.js';
 import { pause } from './pausing.js';
 
@@ -24,8 +25,8 @@ function writeToStream(descriptor, bytes) {
             done += writeSync(descriptor, bytes, done);
         } catch (error) {
             // Who read it has ended, as `head` does: there is nobody left to say it to.
-            if (hasCode(error, 'EPIPE')) throw new Fault('', FAULT.READER_ENDED);
-            if (!hasCode(error, 'EAGAIN')) throw new Fault(`cannot write to standard output: ${reasonOf(error)}`);
+            if (hasCode(error, 'EPIPE')) throw new Fault('reader-ended', { sentence: '' });
+            if (!hasCode(error, 'EAGAIN')) throw ownFault(`cannot write to standard output: ${reasonOf(error)}`);
             pause();
         }
     }

@@ -2,8 +2,9 @@
 
 import { wholeOf } from '../core/bytes.js';
 import { encodingOf, tableTextOf } from '../core/encodings/index.js';
-import { FAULT, Fault, failedBy } from '../core/faults.js';
+import { failedBy } from '../core/faults.js';
 import { exportTable } from '../core/tasks/index.js';
+import { ownFault, sentenceOf } from '../sentences/index.js';
 import { sayNoVolume } from './looking.js';
 import { openTrackOf } from './opening.js';
 import { tableSaid } from './searching.js';
@@ -24,7 +25,7 @@ async function writeTable(target, table) {
             await target.write(new TextEncoder().encode(text));
         }
     } catch (error) {
-        if (failedBy(error, FAULT.NO_FILE)) throw new Fault(`${error.message}; cdscript files lists them`);
+        if (failedBy(error, 'no-file')) throw ownFault(`${sentenceOf(error)}; cdscript files lists them`);
         throw error;
     }
     return texts;
@@ -34,7 +35,7 @@ async function writeTable(target, table) {
 export async function textsJob(run) {
     const { encoding, table: file, csv, lines, min: least, in: paths } = run.options;
     const named = encoding === undefined ? null : encodingOf(encoding);
-    if (named !== null && !named.hasCharacters) throw new Fault(`texts are told by their characters, and ${named.name} has none`);
+    if (named !== null && !named.hasCharacters) throw ownFault(`texts are told by their characters, and ${named.name} has none`);
     const table = file && tableTextOf(await wholeOf((await run.files.image(file)).reader));
     const target = await run.target();
     const opened = await openTrackOf(run, run.names[0]);

@@ -1,6 +1,6 @@
 // Readers, pieces and byte buffers that the page and cdscript share.
 
-import { FAULT, Fault, newBytes } from './faults.js';
+import { Fault, newBytes } from './faults.js';
 
 /**
  * What an image is read by: bytes from a place on, as many as were asked for or fewer, but none only if the image ends there. They may
@@ -57,7 +57,7 @@ export async function readBytes(reader, at, length, room, least = length) {
     const parts = [];
     for (let done = 0; done < least;) {
         const part = await reader.read(at + done, length - done, room && room.subarray(done));
-        if (part.length === 0) throw new Fault(`the image ends at byte ${at + done}`, FAULT.IMAGE_ENDED);
+        if (part.length === 0) throw new Fault('image-ended', { at: at + done });
         parts.push(part);
         done += part.length;
     }

@@ -1,31 +1,20 @@
 // Failures that a user may see.
 
-/** What kind of failure it is, for who looks for one. A worker's answer carries it. */
-export const FAULT = Object.freeze(/** @type {const} */ ({
-    INPUT: 'input', CANCELLED: 'cancelled', NO_MEMORY: 'no memory', IMAGE_ENDED: 'image ended', UNREAD: 'unread', DISC: 'disc',
-    MISSING_FILES: 'missing files', VOLUME: 'volume', TEXT: 'text', NO_TEXT: 'no text', NO_FILE: 'no file', PATCHER: 'patcher',
-    FILE: 'file', UNWRITTEN: 'unwritten', PROGRAM: 'program', READER_ENDED: 'reader ended', SCRIPT: 'script', OTHER_BASE: 'other base',
-}));
+/** @typedef {import('./facts.js').Code} Code */
+/** @typedef {import('./facts.js').Facts} Facts */
+/** @typedef {import('./facts.js').Subject} Subject */
 
-/** @typedef {typeof FAULT[keyof typeof FAULT]} FaultCode */
 /**
- * What else is known: where in a text it is (`at`); the file that the message names (`file`); the files that are missing (`names`), and the
- * cue sheet that names them (`sheet`); what was found all the same (`found`); what to do (`advice`); how many bytes were written (`done`)
- * and whether the disk is full (`full`); what was tried with a file (`attempt`); whether a script is too long (`tooLong`), and the line in
- * which it says another base (`other`).
- * @typedef {{ at?: number, file?: string, names?: string[], sheet?: string, found?: string, advice?: string, done?: number, full?: boolean,
- *     attempt?: 'open' | 'read' | 'make' | 'write', tooLong?: boolean, other?: { line: number, base: number } }} FaultFacts
+ * An expected failure, which is shown to the user. Any other exception is a bug. A door's own failure has its sentence among its facts.
+ * @template {Code} [Name=Code]
  */
-
-/** An expected failure; its message can be shown to the user. Any other exception is a bug. */
 export class Fault extends Error {
     /**
-     * @param {string} message
-     * @param {FaultCode} [code]
-     * @param {FaultFacts} [facts]
+     * @param {Name} code
+     * @param {Facts[Name]} facts
      */
-    constructor(message, code = FAULT.INPUT, facts = {}) {
-        super(message);
+    constructor(code, facts) {
+        super('sentence' in facts ? String(facts.sentence) : code);
         this.name = 'Fault';
         this.code = code;
         this.facts = facts;
@@ -33,18 +22,30 @@ export class Fault extends Error {
 }
 
 /**
- * Whether an error is a failure of one of some kinds.
+ * Whether an error is a failure with one of some codes, or of one of some subjects.
+ * @template {Code | Subject} Wanted
  * @param {unknown} error
- * @param {...FaultCode} codes
- * @returns {error is Fault}
+ * @param {...Wanted} wanted
+ * @returns {error is Fault<import('./facts.js').CodesOf<Wanted>>}
  */
-export function failedBy(error, ...codes) {
-    return error instanceof Fault && codes.includes(error.code);
+export function failedBy(error, ...wanted) {
+    return error instanceof Fault && wanted.some(it => it === error.code || error.code.startsWith(`${it}/`));
+}
+
+/**
+ * What is returned to be said.
+ * @template {Code} Name
+ * @param {Name} code
+ * @param {Facts[Name]} facts
+ * @returns {import('./facts.js').Remark<Name>}
+ */
+export function remark(code, facts) {
+    return /** @type {import('./facts.js').Remark<Name>} */ ({ code, facts });
 }
 
 /** That a job was ended by its signal. */
 export function cancelled() {
-    return new Fault('cancelled', FAULT.CANCELLED);
+    return new Fault('cancelled', {});
 }
 
 /**
@@ -57,7 +58,7 @@ export function inMemory(make) {
     try {
         return make();
     } catch (error) {
-        if (error instanceof RangeError) throw new Fault('no memory', FAULT.NO_MEMORY);
+        if (error instanceof RangeError) throw new Fault('no-memory', {});
         throw error;
     }
 }

@@ -1,13 +1,12 @@
 // What other programs in JavaScript, in node and in browsers, call of cdpatch: the interface of the package for npm.
 
-import { Fault } from '../core/faults.js';
 import { Calls, RECORD, RECORD_SIZE, STATUS, kindName } from '../core/module/index.js';
 import { auditText, listText } from '../core/sectors/index.js';
+import { Fault, spoken } from './errors.js';
 import { patchLines, patched, reported, surveyed, textOf } from './jobs.js';
 
-export { Fault };
 export { RESULT } from '../core/module/index.js';
-export { ScriptError } from './errors.js';
+export { Fault, ScriptError } from './errors.js';
 
 /** What reads a file: bytes from a place on, as many as were asked for or fewer, and none only at its end. More are refused. */
 /** @typedef {{ size: number, read(at: number, length: number): Promise<Uint8Array> }} Source */
@@ -58,7 +57,7 @@ export class Cdpatch {
      * @returns {Promise<Sector[]>}
      */
     async survey(image, settings = {}) {
-        const { survey: { block, records } } = await surveyed(this.calls, image, settings);
+        const { survey: { block, records } } = await spoken(surveyed(this.calls, image, settings));
         return Array.from({ length: records.length / RECORD_SIZE }, (_, i) => {
             const record = records.subarray(RECORD_SIZE * i);
             const kind = /** @type {Sector['kind']} */ (kindName(record[RECORD.KIND]));
@@ -74,7 +73,7 @@ export class Cdpatch {
      * @returns {Promise<Report>}
      */
     async list(image, settings = {}) {
-        return reported(this.calls, image, settings, listText);
+        return spoken(reported(this.calls, image, settings, listText));
     }
 
     /**
@@ -84,7 +83,7 @@ export class Cdpatch {
      * @returns {Promise<Report>}
      */
     async audit(image, settings = {}) {
-        return reported(this.calls, image, settings, auditText);
+        return spoken(reported(this.calls, image, settings, auditText));
     }
 
     /**
@@ -93,7 +92,7 @@ export class Cdpatch {
      * @returns {Promise<PatchLine[]>}
      */
     async patches(script) {
-        const lines = await patchLines(this.calls, script);
+        const lines = await spoken(patchLines(this.calls, script));
         return lines.map(({ number, block, old, line }) => ({ line: number, block, old, text: textOf(line) }));
     }
 
@@ -105,7 +104,7 @@ export class Cdpatch {
      * @returns {Promise<Patched>}
      */
     async check(image, script, settings = {}) {
-        return patched(this.calls, image, script, settings, null);
+        return spoken(patched(this.calls, image, script, settings, null));
     }
 
     /**
@@ -120,7 +119,7 @@ export class Cdpatch {
      */
     async apply(image, script, write, settings = {}) {
         if (typeof write !== 'function') throw new TypeError('write is a function that takes bytes');
-        return patched(this.calls, image, script, settings, write);
+        return spoken(patched(this.calls, image, script, settings, write));
     }
 }
 

@@ -1,7 +1,26 @@
-// What a call of the package throws for a script that is refused.
+// What the calls of the package throw.
+
+import { Fault as CoreFault, failedBy } from '../core/faults.js';
+import { sentenceOf } from '../sentences/index.js';
 
 /** The program's line for a fault of a script, or what is said of its base. */
 const LINE = /^(?:script )?line (\d+)/;
+
+/** By what callers know failures of the core. */
+const CODES = new Map([['image-ended', 'image ended'], ['no-memory', 'no memory']]);
+
+/** An expected failure. Its `code` is 'image ended' for an image that ends before its size. */
+export class Fault extends Error {
+    /**
+     * @param {string} message
+     * @param {string} [code]
+     */
+    constructor(message, code = 'input') {
+        super(message);
+        this.name = 'Fault';
+        this.code = code;
+    }
+}
 
 /**
  * A script that is refused. Its message is the program's line, or says for which base the script is; `line` is the number of the script's
@@ -15,4 +34,17 @@ export class ScriptError extends Error {
         const [, line] = LINE.exec(message) || [];
         this.line = line === undefined ? null : Number(line);
     }
+}
+
+/**
+ * What a job of the core gives. Its failures become those of the package.
+ * @template Made
+ * @param {Promise<Made>} job
+ * @returns {Promise<Made>}
+ */
+export function spoken(job) {
+    return job.catch(error => {
+        if (failedBy(error, 'script/refused', 'script/other-base')) throw new ScriptError(sentenceOf(error));
+        throw error instanceof CoreFault ? new Fault(sentenceOf(error), CODES.get(error.code)) : error;
+    });
 }

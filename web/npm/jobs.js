@@ -1,7 +1,6 @@
 // The jobs of the package, over the core.
 
 import { READ_SIZE, bytesOfPieces, readBytes } from '../core/bytes.js';
-import { FAULT, failedBy } from '../core/faults.js';
 import { LAST_BASE, RECORD_SIZE, SECTOR_SIZE, STATUS, sectorCount } from '../core/module/index.js';
 import { readLines } from '../core/script/index.js';
 import { LONG_IMAGE, imageTooLong } from '../core/sectors/index.js';
@@ -77,21 +76,12 @@ export async function reported(calls, image, settings, made) {
 }
 
 /**
- * Throws a ScriptError if a script is refused.
- * @param {unknown} error
- * @returns {never}
- */
-function refuse(error) {
-    throw failedBy(error, FAULT.SCRIPT, FAULT.OTHER_BASE) ? new ScriptError(error.message) : error;
-}
-
-/**
  * The lines of a script with patches. Throws ScriptError.
  * @param {Calls} calls
  * @param {ScriptInput} script
  */
 export async function patchLines(calls, script) {
-    const valid = await validScript(calls, piecesOf(scriptSource(script))).catch(refuse);
+    const valid = await validScript(calls, piecesOf(scriptSource(script)));
     const read = readLines(calls, /** @type {{ text: Uint8Array }} */ (valid).text);
     if (read instanceof Uint8Array) throw new ScriptError(textOf(read).trimEnd());
     return read.patches;
@@ -109,7 +99,7 @@ export async function patchLines(calls, script) {
 export async function patched(calls, image, script, { base = 0, carry = false, signal, progress = () => {} }, write) {
     assertBase(base);
     const source = watchedSource(sourceOf(image), signal, at => write || progress(at, source.size));
-    const read = await validScript(calls, piecesOf(scriptSource(script))).catch(refuse);
+    const read = await validScript(calls, piecesOf(scriptSource(script)));
     let done = 0;
     const take = write && (async (/** @type {Piece} */ piece) => {
         for await (const bytes of bytesOfPieces(source, [piece])) {
@@ -119,7 +109,7 @@ export async function patched(calls, image, script, { base = 0, carry = false, s
             progress(done, source.size);
         }
     });
-    const made = await applyScript({ calls }, { reader: source, base }, read, { carry, take }).catch(refuse);
+    const made = await applyScript({ calls }, { reader: source, base }, read, { carry, take });
     if (write === null) progress(source.size, source.size);
     return { ...reportOf(made), outcomes: made.outcomes };
 }

@@ -1,6 +1,6 @@
 // What stands for node:fs/promises where there is no node: bundlers for browsers get the package with it.
 
-import { Fault } from '../core/faults.js';
+import { Fault } from './errors.js';
 
 /** @returns {Promise<never>} */
 export async function stat() {

@@ -1,7 +1,7 @@
 // Jobs over ranges of sectors, shared out to workers.
 
 import { readBytes } from '../bytes.js';
-import { FAULT, Fault, cancelled, newBytes } from '../faults.js';
+import { Fault, cancelled, newBytes } from '../faults.js';
 import { SECTOR_SIZE } from '../module/index.js';
 
 /** @typedef {import('../bytes.js').Reader} Reader */
@@ -38,7 +38,7 @@ const SHARED_STEP = 1024;
 const RANGES_A_HAND = 2;
 
 /** The fault of a reply if the hand can't read what it is lent. */
-export const UNREAD = Object.freeze({ code: FAULT.UNREAD, message: '' });
+export const UNREAD = Object.freeze({ code: /** @type {const} */ ('unread'), facts: {} });
 
 /**
  * What a worker does with the bytes of a range.
@@ -61,10 +61,18 @@ export function serving(calls, table) {
 /**
  * An error as it can be posted.
  * @param {unknown} error
+ * @returns {ReplyFault}
  */
 function errorFault(error) {
-    if (error instanceof Fault) return { code: error.code, message: error.message, facts: error.facts };
-    return { message: String(error) };
+    return error instanceof Fault ? { code: error.code, facts: error.facts } : { message: String(error) };
+}
+
+/**
+ * Whether a hand could not read what it was lent.
+ * @param {ReplyFault | undefined} fault
+ */
+function isUnread(fault) {
+    return fault !== undefined && 'code' in fault && fault.code === UNREAD.code;
 }
 
 /**
@@ -191,7 +199,7 @@ export class Crew {
      */
     async lentReply(range, slices) {
         const reply = await this.reply({ ...range, pieces: slices.map(({ reader, at, length }) => reader.lent?.(at, length)) });
-        if (!reply.fault || reply.fault.code !== FAULT.UNREAD) return reply;
+        if (!isUnread(reply.fault)) return reply;
         this.lends = false;
         try {
             return await this.reply({ ...range, pieces: await readSlices(slices) });
@@ -208,7 +216,7 @@ export class Crew {
     async readLent(lent) {
         if (!this.lends || Math.min(...this.loads.values()) > 0) return null;
         const { answer, fault } = await this.reply({ job: 'read', pieces: [lent], first: 0, args: {} });
-        if (fault && fault.code === FAULT.UNREAD) this.lends = false;
+        if (isUnread(fault)) this.lends = false;
         return fault ? null : /** @type {Uint8Array} */ (answer);
     }
 
@@ -274,7 +282,7 @@ function answerOf(_, { answer, fault }, signal) {
     assertWanted(signal);
     if (!fault) return /** @type {Jobs[Name]['answer']} */ (answer);
     if (fault instanceof Error) throw fault;
-    throw fault.code ? new Fault(fault.message, fault.code, fault.facts) : new Error(fault.message);
+    throw 'code' in fault ? new Fault(fault.code, fault.facts) : new Error(fault.message);
 }
 
 /** @param {{ aborted: boolean }} [signal] */

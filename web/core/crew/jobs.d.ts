@@ -1,6 +1,6 @@
 // The types of jobs over ranges of sectors, and of the messages between a crew and its hands.
 
-import { FaultCode, FaultFacts } from '../faults.js';
+import { Remark } from '../facts.js';
 import { Calls } from '../module/calls.js';
 
 /** What each job is given beside bytes, and its answer, by its name. The room `jobs` adds those that it lists. */
@@ -33,11 +33,7 @@ export interface Message<Name extends JobName = JobName, Piece = unknown> {
 }
 
 /** A failure of a job. Without a code it is a bug. */
-export interface ReplyFault {
-    code?: FaultCode;
-    message: string;
-    facts?: FaultFacts;
-}
+export type ReplyFault = Remark | { message: string };
 
 /** The answer of the job that the message with this number names, or a failure. */
 export type Reply = { number: number; answer: unknown; fault?: undefined } | { number: number; answer?: undefined; fault: ReplyFault };

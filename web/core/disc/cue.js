@@ -29,7 +29,7 @@ const MOST_FILES = 2 * LAST_TRACK;
  * @param {number} line from 1
  */
 function sheetFault(message, line) {
-    return new Fault(`line ${line} of the cue sheet: ${message}`);
+    return new Fault('own', { sentence: `line ${line} of the cue sheet: ${message}` });
 }
 
 /**
@@ -45,7 +45,7 @@ export function sheetOf(text) {
         const read = SHEET_COMMANDS[command.toUpperCase()];
         if (read) read(sheet, rest, i + 1);
     });
-    if (sheet.tracks.length === 0) throw new Fault('the cue sheet has no track');
+    if (sheet.tracks.length === 0) throw new Fault('own', { sentence: 'the cue sheet has no track' });
     for (const track of sheet.tracks) {
         if (!sheet.points.some(it => it.track === track && it.index === 1)) {
             throw sheetFault(`track ${track.number} has no INDEX 01`, track.line);

@@ -51,7 +51,7 @@ function unescaped(text) {
         if (code >= 0 && code <= 0x10FFFF) return String.fromCodePoint(code);
         const character = ENTITIES.get(name);
         if (character !== undefined) return character;
-        throw new Fault(`it has the entity ${whole.slice(0, 20)}, which a DAT does not have`);
+        throw new Fault('own', { sentence: `it has the entity ${whole.slice(0, 20)}, which a DAT does not have` });
     });
 }
 
@@ -88,11 +88,11 @@ class DatReading {
     /** @param {string} tag without its brackets */
     tag(tag) {
         const [name] = /^\/?[\w:.-]*/.exec(tag) || [''];
-        if (!this.isDat && name !== 'datafile') throw new Fault(OTHER_LISTS.get(name) || NOT_A_DAT);
+        if (!this.isDat && name !== 'datafile') throw new Fault('own', { sentence: OTHER_LISTS.get(name) || NOT_A_DAT });
         this.isDat = true;
         if (name.startsWith('/')) this.depth -= 1;
         else if (!tag.endsWith('/')) this.depth += 1;
-        if (this.depth > DEEPEST_ELEMENT) throw new Fault(`its elements are more than ${DEEPEST_ELEMENT} deep`);
+        if (this.depth > DEEPEST_ELEMENT) throw new Fault('own', { sentence: `its elements are more than ${DEEPEST_ELEMENT} deep` });
         if (name === 'rom' || name === 'disk') this.dump(attributesOf(tag));
     }
 
@@ -101,7 +101,7 @@ class DatReading {
         const hash = (/** @type {string} */ key, /** @type {number} */ digits) => hexOf((attributes.get(key) || '').toLowerCase(), digits);
         const [size, status] = [attributes.get('size') || '', attributes.get('status')];
         const name = unescaped(attributes.get('name') || '');
-        if (name.length > LONGEST_NAME) throw new Fault(`it has a name of more than ${LONGEST_NAME} characters`);
+        if (name.length > LONGEST_NAME) throw new Fault('own', { sentence: `it has a name of more than ${LONGEST_NAME} characters` });
         const sha1 = hash('sha1', 40);
         const hashes = sha1 === '' ? { sha1, crc32: hash('crc', 8), md5: hash('md5', 32) } : { sha1, crc32: '', md5: '' };
         if (!/^\d{1,15}$/.test(size) || `${sha1}${hashes.crc32}${hashes.md5}` === '' || status === 'nodump') {
@@ -113,9 +113,9 @@ class DatReading {
     }
 
     end() {
-        if (!this.isDat) throw new Fault(NOT_A_DAT);
-        if (this.tags.isCut() || this.depth !== 0) throw new Fault('it is cut');
-        if (this.found === 0) throw new Fault('it has no dump with a size and a hash');
+        if (!this.isDat) throw new Fault('own', { sentence: NOT_A_DAT });
+        if (this.tags.isCut() || this.depth !== 0) throw new Fault('own', { sentence: 'it is cut' });
+        if (this.found === 0) throw new Fault('own', { sentence: 'it has no dump with a size and a hash' });
     }
 }
 
@@ -196,7 +196,7 @@ export class KnownDumps {
             return;
         }
         if (dump === undefined || dump.names === null || !dump.names.has(name)) this.entries += 1;
-        if (this.entries > MOST_DUMPS) throw new Fault(`there are more than ${MOST_DUMPS} dumps`);
+        if (this.entries > MOST_DUMPS) throw new Fault('own', { sentence: `there are more than ${MOST_DUMPS} dumps` });
         if (dump !== undefined) {
             addName(dump, name, isBad);
             return;

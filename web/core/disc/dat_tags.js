@@ -24,7 +24,7 @@ function endOfTag(text, at) {
     const most = text.slice(at, at + LONGEST_TAG + 1);
     tag.lastIndex = 0;
     if (tag.test(most)) return at + tag.lastIndex;
-    if (most.length > LONGEST_TAG) throw new Fault(`it has a tag of more than ${LONGEST_TAG} characters`);
+    if (most.length > LONGEST_TAG) throw new Fault('own', { sentence: `it has a tag of more than ${LONGEST_TAG} characters` });
     return -1;
 }
 
@@ -81,7 +81,7 @@ export class TagReader {
     }
 
     endDeclarations() {
-        if (this.rest[this.at] !== ']') throw new Fault(DECLARES);
+        if (this.rest[this.at] !== ']') throw new Fault('own', { sentence: DECLARES });
         this.isDeclaring = false;
         this.at += 1;
         return true;
@@ -92,7 +92,7 @@ export class TagReader {
         if (end < 0) return false;
         const tag = this.rest.slice(this.at + 1, end - 1);
         this.at = end;
-        if (tag.includes('<')) throw new Fault(`it is not well-formed: a < is inside of the tag <${tag.slice(0, 40)}`);
+        if (tag.includes('<')) throw new Fault('own', { sentence: `it is not well-formed: a < is inside of the tag <${tag.slice(0, 40)}` });
         if (tag.startsWith('!')) this.declaration(tag, this.rest[end - 1] === '[');
         else this.take(tag);
         return true;
@@ -104,7 +104,7 @@ export class TagReader {
      */
     declaration(tag, opens) {
         if (!this.isDeclaring && /^!DOCTYPE\s/i.test(tag)) this.isDeclaring = opens;
-        else if (!this.isDeclaring || !/^!(?:ELEMENT|ATTLIST)\s/.test(tag)) throw new Fault(DECLARES);
+        else if (!this.isDeclaring || !/^!(?:ELEMENT|ATTLIST)\s/.test(tag)) throw new Fault('own', { sentence: DECLARES });
     }
 
     isCut() {

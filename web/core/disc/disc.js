@@ -2,7 +2,7 @@
 // begins.
 
 import { sliceOf, wholeOf } from '../bytes.js';
-import { FAULT, Fault } from '../faults.js';
+import { Fault } from '../faults.js';
 import { SECTOR_SIZE, sectorCount } from '../module/index.js';
 import { baseByAddresses } from './base.js';
 import { sheetsOf, tracksOf } from './cue.js';
@@ -39,7 +39,7 @@ const RAW_TYPES = ['MODE1/2352', 'MODE2/2352', 'CDI/2352'];
  * @param {string} message
  */
 export function discFault(message) {
-    return new Fault(message, FAULT.DISC);
+    return new Fault('disc', { sentence: message });
 }
 
 /**
@@ -50,7 +50,7 @@ export function discFault(message) {
  */
 function missingFiles(sheet, file, names) {
     const found = `${sheet} names ${file}.`;
-    return new Fault(`${found} Put it beside the cue sheet, or open both together.`, FAULT.MISSING_FILES, { found, names, sheet });
+    return new Fault('missing-files', { sentence: `${found} Put it beside the cue sheet, or open both together.`, found, names, sheet });
 }
 
 /**

@@ -1,7 +1,7 @@
 // Which blocks a volume uses, and whether an image ends before its volume does.
 
 import { sliceOf } from '../bytes.js';
-import { FAULT, failedBy } from '../faults.js';
+import { failedBy } from '../faults.js';
 import { NOT_ALL, SEVERAL_EXTENTS, VolumeReader, descriptorsOf, endOfExtent, filesOf, numberInBoth } from '../iso/index.js';
 import { LAST_BASE, SECTOR_SIZE } from '../module/index.js';
 
@@ -38,7 +38,7 @@ async function ifVolume(asked) {
     try {
         return await asked;
     } catch (error) {
-        if (!failedBy(error, FAULT.VOLUME)) throw error;
+        if (!failedBy(error, 'volume')) throw error;
         return null;
     }
 }

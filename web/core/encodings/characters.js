@@ -1,6 +1,6 @@
 // Tables of characters and their bytes, and what they are filled with.
 
-import { FAULT, Fault } from '../faults.js';
+import { Fault } from '../faults.js';
 import { hexText } from '../hex_digits.js';
 
 const NO_CHARACTER = '\uFFFD';
@@ -14,7 +14,7 @@ const PIECE = 1 << 12;
  * @param {number} [at] where a character stands in the text that has no bytes, if that is why
  */
 export function textFault(message, at = -1) {
-    return new Fault(message, FAULT.TEXT, { at });
+    return new Fault('text', { sentence: message, at });
 }
 
 /**

@@ -1,7 +1,7 @@
 // What an encoding is, and what can be said of each by what it has.
 
 import { joinedBytes } from '../bytes.js';
-import { FAULT, failedBy } from '../faults.js';
+import { failedBy } from '../faults.js';
 import { CharacterTable } from './characters.js';
 
 /**
@@ -106,7 +106,7 @@ function bytesIfAny(encoding, text) {
     try {
         return text === '' ? null : encodeText(encoding, text);
     } catch (error) {
-        if (failedBy(error, FAULT.TEXT)) return null;
+        if (failedBy(error, 'text')) return null;
         throw error;
     }
 }

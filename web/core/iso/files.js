@@ -1,7 +1,7 @@
 // The files of an ISO 9660 volume in a track of raw sectors, with Rock Ridge's or Joliet's names if it has them.
 
 import { readBytes } from '../bytes.js';
-import { FAULT, Fault } from '../faults.js';
+import { Fault } from '../faults.js';
 import { SECTOR_SIZE, USER_SIZE, sectorCount } from '../module/index.js';
 import { joinedUser } from '../sectors/index.js';
 import { FIRST_DESCRIPTOR, ownBlocks, tableBlocks } from './own_blocks.js';
@@ -43,7 +43,7 @@ const MOST_KEPT = 4096;
  * @param {string} message
  */
 function volumeFault(message) {
-    return new Fault(message, FAULT.VOLUME);
+    return new Fault('volume', { sentence: message });
 }
 
 /** The user data of a track, by the block numbers of its volume. */
@@ -143,13 +143,13 @@ export function wholeFile(entries) {
     const [{ path }] = extents;
     let size = 0;
     for (const { fault, before, size: own } of extents) {
-        if (fault !== '' && fault !== SEVERAL_EXTENTS) throw new Fault(`${path}: ${fault}`);
-        if (before !== size) throw new Fault(`${path} has ${extents.length} parts, which are no file`);
+        if (fault !== '' && fault !== SEVERAL_EXTENTS) throw new Fault('own', { sentence: `${path}: ${fault}` });
+        if (before !== size) throw new Fault('own', { sentence: `${path} has ${extents.length} parts, which are no file` });
         size += own;
     }
     const ranges = extents.filter(it => it.size > 0).sort((a, b) => a.block - b.block);
     const isOver = ranges.some((it, i) => i > 0 && it.block < endOfExtent(ranges[i - 1]));
-    if (isOver) throw new Fault(`${path}: its parts lie over each other`);
+    if (isOver) throw new Fault('own', { sentence: `${path}: its parts lie over each other` });
     return { path, size, extents };
 }
 

@@ -51,13 +51,3 @@ export function basesSaid(text) {
     }
     return found;
 }
-
-/**
- * Why a script is not for an image that begins with a block, '' if it does not say another base.
- * @param {BaseSaid[]} bases
- * @param {number} base
- */
-export function baseFault(bases, base) {
-    const other = bases.find(said => said.base !== base);
-    return other ? `line ${other.line} of the script says base ${other.base}, and the image begins with block ${base} here` : '';
-}

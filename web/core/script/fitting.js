@@ -18,5 +18,5 @@ import { Refusal, readScript } from './script.js';
 export async function assertFits(calls, image, script) {
     const read = await readScript(calls, script.pieces, script.long);
     const made = read instanceof Refusal ? null : await passPatched(calls, image.reader, read, { base: image.base });
-    if (made === null || made.status !== STATUS.DONE) throw new Fault('the patches conflict, so no script is written');
+    if (made === null || made.status !== STATUS.DONE) throw new Fault('script/conflict', {});
 }

@@ -1,6 +1,6 @@
 // Scripts: their lines, what they do to an image, and how they are written.
 
-export { baseComment, baseFault, scriptForBase } from './base_said.js';
+export { baseComment, scriptForBase } from './base_said.js';
 export { firstLinesOf } from './block_lines.js';
 export { assertFits } from './fitting.js';
 export { NEWEST_VERSION, VERSIONS, headLine } from './language.js';
@@ -14,4 +14,4 @@ export { applyPatches, passPatched } from './patches.js';
 export { Refusal, readScript } from './script.js';
 export { isMeantAsScript, isScript } from './script_start.js';
 export { ScriptParts, linesMade } from './script_writer.js';
-export { assertLeads, leftText, linesBetween, linesJob } from './sector_lines.js';
+export { assertLeads, linesBetween, linesJob } from './sector_lines.js';

@@ -64,7 +64,7 @@ export class ScriptParts {
         this.version = Math.max(this.version, version);
         this.carry = this.carry || carry;
         for (const run of left) addToRuns(this.left, run);
-        if (this.held > MOST_WRITTEN) throw new Fault(`the script would have more than ${MOST_WRITTEN} bytes: too much differs`);
+        if (this.held > MOST_WRITTEN) throw new Fault('script/too-large', { most: MOST_WRITTEN });
     }
 
     /**

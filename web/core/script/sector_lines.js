@@ -3,8 +3,7 @@
 import { sameBytes } from '../bytes.js';
 import { Fault } from '../faults.js';
 import { CONTENT, LAST_BASE, RECORD, RECORD_SIZE, RESULT, RUN_FLAG, SECTOR_KIND, SECTOR_SIZE, STATUS, STEP } from '../module/index.js';
-import { kindName } from '../module/index.js';
-import { addressIn, blocksText, differingSectors, isDamaged, sectorOf, userOf } from '../sectors/index.js';
+import { addressIn, differingSectors, isDamaged, sectorOf, userOf } from '../sectors/index.js';
 import { NEWEST_VERSION, headLine } from './language.js';
 import { LineList, asWritten } from './line_list.js';
 import { stepsOf } from './patch_run.js';
@@ -39,19 +38,6 @@ let linesRoom = new Uint8Array(1 << 12);
 
 /** What stands in a block that is not looked at. */
 const NO_DATA = new Uint8Array(SECTOR_SIZE);
-
-/**
- * Why sectors are left, all for one reason, as a clause.
- * @param {Left[]} runs
- * @param {string} image the one that has what no script makes
- * @param {number} [most] how many runs are named
- */
-export function leftText(runs, image, most) {
-    const blocks = blocksText(runs, most);
-    if (runs[0].why === 'damaged') return `${image} is damaged in ${blocks}`;
-    if (runs[0].why === 'address') return `no script can name the address of ${blocks} in ${image}`;
-    return `${[...new Set(runs.flatMap(run => run.kinds))].map(kindName).join(' and ')} in ${blocks}, and a script changes only mode1`;
-}
 
 /**
  * Whether an address is one that a script can name, by the module.
@@ -182,5 +168,5 @@ function firstWrong(calls, { version, text }, { blocks, old, fresh }, carry) {
  */
 export function assertLeads(calls, lines, pairs, carry) {
     const wrong = firstWrong(calls, lines, pairs, carry);
-    if (wrong >= 0) throw new Fault(`the script for block ${pairs.blocks[wrong]} would not give the right sector, so it is not written`);
+    if (wrong >= 0) throw new Fault('script/wrong-sector', { block: pairs.blocks[wrong] });
 }

@@ -89,15 +89,3 @@ export function joinedRuns(runs) {
     }
     return joined;
 }
-
-/**
- * The blocks of runs in words, as 'block 3' or 'blocks 3, 5 to 6 and 9'. Of those after the first runs only the number is said.
- * @param {Run[]} runs one at least
- * @param {number} [most] how many runs are named
- */
-export function blocksText(runs, most = runs.length) {
-    const words = runs.slice(0, most).map(({ first, last }) => first === last ? String(first) : `${first} to ${last}`);
-    const more = blocksIn(runs.slice(most));
-    const last = more > 0 ? `${more} more` : words.pop();
-    return `${blocksIn(runs) === 1 ? 'block' : 'blocks'} ${words.length > 0 ? `${words.join(', ')} and ` : ''}${last}`;
-}

@@ -1,7 +1,7 @@
 // Finds a text in a data track, in the order of its files.
 
 import { usualBytes } from '../encodings/index.js';
-import { FAULT, Fault } from '../faults.js';
+import { Fault } from '../faults.js';
 import { bytesAround, encodingsWith, endOfMatch, longestOf, searchText, unitsAlike } from '../texts/index.js';
 import { replaceBytes } from './replace_bytes.js';
 
@@ -22,8 +22,8 @@ import { replaceBytes } from './replace_bytes.js';
  */
 
 /**
- * Finds a text in a track. An encoding that has it only in the middle of characters comes last. Throws a Fault: NO_TEXT if the text is
- * empty, TEXT if no encoding has its characters, CANCELLED.
+ * Finds a text in a track. An encoding that has it only in the middle of characters comes last. Throws a Fault: `find/empty`,
+ * `text` if no encoding has its characters, `cancelled`.
  * @param {Pick<Engine, 'crew'>} engine
  * @param {OpenedTrack} opened
  * @param {WantedText & { limit: number }} options how many hits are kept in each encoding, one at least
@@ -31,7 +31,7 @@ import { replaceBytes } from './replace_bytes.js';
  * @returns {Promise<FoundText>}
  */
 export async function findText({ crew }, opened, { text, loose, limit, ...options }, watch) {
-    if (text === '') throw new Fault('there is nothing to find in a text without characters', FAULT.NO_TEXT);
+    if (text === '') throw new Fault('find/empty', {});
     const { part } = await opened.contents();
     const { encodings, names, faults } = encodingsWith(options.encodings, text, loose);
     const [best = null, ...others] = await searchText(crew, part, { text, encodings, limit, loose }, watch);
@@ -57,5 +57,5 @@ export async function findTextAt({ calls }, opened, { text, loose, place, ...opt
     }
     const usual = usualBytes(unitsAlike(encodings[0], text));
     await replaceBytes(calls, image, place, usual, usual); // says which byte differs
-    throw new Fault('the text is not found');
+    throw new Fault('find/nothing', {});
 }

@@ -6,13 +6,12 @@ export { FIELD_COUNT, SECOND_STATE, compareTrack, diffRange, differRange, findDi
 export { extractFile, passUser, userRange } from './convert.js';
 export { findText, findTextAt } from './find.js';
 export { findingsIn, foundInSurvey, surveyedTrack, surveyedTracks, tailOf, unsurveyedTracks } from './inform.js';
-export { leftRowText } from './list.js';
 export { mergeRange } from './merge.js';
 export { OpenedTrack, openTrack, trackBeside } from './opened.js';
 export { repairTrack } from './repair.js';
-export { assertHasRoom, leftHitText, replaceHits } from './replace.js';
+export { assertHasRoom, replaceHits } from './replace.js';
 export { filledUp, replaceBytes, replaceRange, sectorsOfRange, untriedLines } from './replace_bytes.js';
-export { placesOfFile, replaceFile, sharingText } from './replace_file.js';
+export { placesOfFile, replaceFile } from './replace_file.js';
 export { assertBase, validScript } from './script_for.js';
 export { exportTable, importTable } from './table.js';
 export { undoScript } from './undo.js';

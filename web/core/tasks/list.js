@@ -1,7 +1,7 @@
 // A list of texts with the new ones, as translators keep it, and the lines that replace them.
 
 import { encodingOf, fillerOf, fillingAfter, usualBytes } from '../encodings/index.js';
-import { FAULT, Fault, failedBy } from '../faults.js';
+import { Fault, failedBy, remark } from '../faults.js';
 import { ReadAhead } from '../read_ahead.js';
 import { LONGEST_TEXT, MARKS, Table, assertMeant, bytesAround, bytesBefore, endOfMatch, longTextOf, unitsOfCell } from '../texts/index.js';
 import { isTurnDue, letOthersIn, sortedInTurns } from '../turns.js';
@@ -16,12 +16,16 @@ import { filledUp, replaceBytes } from './replace_bytes.js';
 /** @typedef {import('../encodings/encoding.js').Filler} Filler */
 /** @typedef {import('./engine.js').Watch} Watch */
 /**
- * A row with a new text: its number, where the old one stands, the room there that it names, or -1, and the encoding, or ''; and why the
- * row is not read as it is meant, '' if it is.
- * @typedef {{ number: number, block: number, offset: number, room: number, encoding: string, text: string, fresh: string, fault: string }}
- *     ListRow
+ * @template {import('../facts.js').Code} [Name=import('../facts.js').Code]
+ * @typedef {import('../facts.js').Remark<Name>} Remark
  */
-/** @typedef {{ text: ListRow, why: string }} LeftRow a row that does not fit, and why */
+/**
+ * A row with a new text: its number, where the old one stands, the room there that it names, or -1, and the encoding, or ''; and why the
+ * row is not read as it is meant, null if it is.
+ * @typedef {{ number: number, block: number, offset: number, room: number, encoding: string, text: string, fresh: string,
+ *     fault: Remark<'list/cell-runs-on'> | null }} ListRow
+ */
+/** @typedef {{ text: ListRow, why: Remark }} LeftRow a row that does not fit, and why */
 
 const LIST_COLUMNS = ['block', 'offset', 'text', 'new', 'room', 'encoding'];
 const NEEDED = LIST_COLUMNS.slice(0, 4);
@@ -43,10 +47,10 @@ const MOST_LISTED = 1 << 28;
  * @param {Signal} [signal]
  */
 export async function rowsOfList(reader, name, isAlso, signal) {
-    if (reader.size > MOST_LISTED) throw new Fault(`${name} has ${reader.size} bytes, and a list at most ${MOST_LISTED}`);
+    if (reader.size > MOST_LISTED) throw new Fault('list/too-large', { name, size: reader.size, most: MOST_LISTED });
     const rows = [];
     for await (const row of listRows(await longTextOf(reader, signal), isAlso, signal)) rows.push(row);
-    if (rows.length === 0) throw new Fault('no row of the list has a new text');
+    if (rows.length === 0) throw new Fault('list/no-new-text', {});
     return rows;
 }
 
@@ -76,13 +80,13 @@ function headOf(list) {
             const names = cells.map(name => name.trim().replace(/^"(.*)"$/, '$1').toLowerCase());
             const missing = NEEDED.filter(name => !names.includes(name));
             const twice = LIST_COLUMNS.find(name => names.indexOf(name) !== names.lastIndexOf(name));
-            if (missing.length === 0 && twice) throw new Fault(`row ${number} of the list names two columns ${twice}`);
+            if (missing.length === 0 && twice) throw new Fault('list/column-twice', { row: number, column: twice });
             if (missing.length === 0) return { mark, number, names, isQuoted };
             if (nearest === null || missing.length < nearest.missing.length) nearest = { number, missing };
         }
     }
     if (nearest === null) return null;
-    throw new Fault(`row ${nearest.number} of the list names no column ${nearest.missing.join(', ')}`);
+    throw new Fault('list/no-column', { row: nearest.number, columns: nearest.missing });
 }
 
 /** @param {string | undefined} cell */
@@ -112,11 +116,11 @@ export async function* listRows(list, isAlso = () => false, signal) {
         const row = {
             number, block: wholeIn(cells[block]), offset: wholeIn(cells[offset]), room: wholeIn(cells[room]),
             encoding: cells[encoding] || '', text: cells[text] || '', fresh: cells[fresh] || '',
-            fault: overrun === 0 ? '' : `a cell in quotes runs on to row ${number + overrun}, which has a place of its own`,
+            fault: overrun === 0 ? null : remark('list/cell-runs-on', { row: number + overrun }),
         };
-        if (row.fresh === '' && row.fault === '' && !isAlso(row)) continue;
+        if (row.fresh === '' && row.fault === null && !isAlso(row)) continue;
         count += Number(row.fresh !== '');
-        if (count > MOST_ROWS) throw new Fault(`more than ${MOST_ROWS} rows of the list have a new text`);
+        if (count > MOST_ROWS) throw new Fault('list/too-many-rows', { most: MOST_ROWS });
         yield row;
     }
 }
@@ -138,21 +142,13 @@ export async function replaceList(calls, image, rows, encodingsFor, fill, watch 
     const near = { ...image, reader: { size: reader.size, read } };
     const inOrder = await sortedInTurns(rows, row => bytesBefore(image, row), watch.signal);
     const { parts, left } = await replacedEach(image, inOrder, watch, async (row, met) => {
-        if (row.fault) throw new Fault(row.fault);
-        if (row.block < 0 || row.offset < 0) throw new Fault('block and offset are no numbers');
-        if (met !== null) throw new Fault(`it overlaps the text of row ${met.number}`);
+        if (row.fault) throw new Fault(row.fault.code, row.fault.facts);
+        if (row.block < 0 || row.offset < 0) throw new Fault('list/no-place', {});
+        if (met !== null) throw new Fault('list/overlaps', { row: met.number });
         const { old, fresh } = await fittedRow(near, row, encodingsFor(row.encoding), fill);
         return { lines: await replaceBytes(calls, near, row, old, fresh, true), size: old.length };
     });
     return { parts, left: await sortedInTurns(left, ({ text }) => text.number, watch.signal) };
-}
-
-/**
- * What is said of a row that is left.
- * @param {LeftRow} left
- */
-export function leftRowText({ text: { number }, why }) {
-    return `row ${number}: ${why}`;
 }
 
 /**
@@ -164,9 +160,9 @@ export function leftRowText({ text: { number }, why }) {
  * @param {Filler} fill
  */
 async function fittedRow(image, row, encodings, fill) {
-    const first = row.block - image.base;
-    if (Math.max(row.text.length, row.fresh.length) > LONGEST_TEXT) throw new Fault(`a text has more than ${LONGEST_TEXT} characters`);
-    if (first < 0 || first >= image.sectors) throw new Fault(`the image has the blocks ${image.base} to ${image.base + image.sectors - 1}`);
+    const [first, last] = [image.base, image.base + image.sectors - 1];
+    if (Math.max(row.text.length, row.fresh.length) > LONGEST_TEXT) throw new Fault('list/long-text', { most: LONGEST_TEXT });
+    if (row.block < first || row.block > last) throw new Fault('replace/no-block', { first, last });
     const longest = 4 * Math.max(row.text.length, row.fresh.length) + Math.max(row.room, 0) + 4;
     const { bytes, at } = await bytesAround(image, row, 0, Math.min(longest, LONGEST_TEXT));
     const { encoding, size: known } = encodingAt(encodings, row, bytes, at);
@@ -177,7 +173,7 @@ async function fittedRow(image, row, encodings, fill) {
     const room = Math.max(Math.min(known + fillingAfter(encoding, bytes, at + known), row.room), size);
     assertHasRoom(encoding, fresh, room);
     const filler = fillerOf(encoding, fill);
-    if (fresh.length < size && filler === null) throw new Fault(`${encoding.name} has no space to fill up with`);
+    if (fresh.length < size && filler === null) throw new Fault('list/no-space', { name: encoding.name });
     const old = bytes.slice(at, at + Math.max(size, fresh.length));
     return { old, fresh: filledUp(fresh, old.length, filler) };
 }
@@ -195,7 +191,7 @@ function encodingAt(encodings, { text, fresh }, bytes, at) {
     if (found !== null) return found;
     if (lacking.length > 0 && lacking.length === encodings.length) throw lacking[0];
     const isOther = standing(encodings, fresh, bytes, at).found === null;
-    throw new Fault(isOther ? 'the old text does not stand there' : 'the new text stands there already');
+    throw new Fault(isOther ? 'list/other-text' : 'list/new-text-there', {});
 }
 
 /**
@@ -212,7 +208,7 @@ function standing(encodings, text, bytes, at) {
             const end = endOfMatch(unitsOfCell(encoding, text), bytes, at);
             if (end > at) return { found: { encoding, size: end - at }, lacking };
         } catch (error) {
-            if (!failedBy(error, FAULT.TEXT)) throw error;
+            if (!failedBy(error, 'text')) throw error;
             lacking.push(error);
         }
     }

@@ -1,7 +1,7 @@
 // A data track that was opened, with its files and the order in which they have its sectors.
 
 import { dataTrack } from '../disc/index.js';
-import { FAULT, failedBy } from '../faults.js';
+import { failedBy } from '../faults.js';
 import { fileOrder, filesOf, wholeFile } from '../iso/index.js';
 
 /** @typedef {import('../disc/disc.js').Disc} Disc */
@@ -113,7 +113,7 @@ async function volumeOf({ reader, base }) {
     try {
         return { volume: await filesOf(reader, base), fault: null };
     } catch (error) {
-        if (!failedBy(error, FAULT.VOLUME)) throw error;
+        if (!failedBy(error, 'volume')) throw error;
         return { volume: null, fault: error };
     }
 }

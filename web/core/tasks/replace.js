@@ -1,6 +1,6 @@
 // A text replaced by another one at the places at which it stands.
 
-import { Fault } from '../faults.js';
+import { Fault, remark } from '../faults.js';
 import { ScriptParts } from '../script/index.js';
 import { bytesBefore, contextOf } from '../texts/index.js';
 import { letOthersIn } from '../turns.js';
@@ -10,7 +10,6 @@ import { fittingScript } from './script_for.js';
 /** @typedef {import('../disc/disc.js').OrderedImage} OrderedImage */
 /** @typedef {import('../script/sector_lines.js').Lines} Lines */
 /** @typedef {import('../encodings/encoding.js').Encoding} Encoding */
-/** @typedef {import('../texts/find.js').Hit} Hit */
 /** @typedef {import('./engine.js').Engine} Engine */
 /** @typedef {import('./engine.js').Watch} Watch */
 /** @typedef {import('./find.js').Places} Places */
@@ -23,16 +22,7 @@ import { fittingScript } from './script_for.js';
  * @param {number} room
  */
 export function assertHasRoom({ name }, fresh, room) {
-    const more = fresh.length - room;
-    if (more > 0) throw new Fault(`the new text has ${fresh.length} bytes in ${name}, and there is room for ${room}: ${more} too many`);
-}
-
-/**
- * What is said of a hit, as why it is not replaced.
- * @param {{ text: Hit, why: string }} left
- */
-export function leftHitText({ text: { block, offset }, why }) {
-    return `block ${block} offset ${offset}: ${why}`;
+    if (fresh.length > room) throw new Fault('replace/no-room', { name, size: fresh.length, room });
 }
 
 /**
@@ -46,7 +36,7 @@ export function leftHitText({ text: { block, offset }, why }) {
  */
 export async function replacedEach(image, texts, { signal, progress }, replace) {
     const parts = new ScriptParts();
-    /** @type {{ text: T, why: string }[]} */
+    /** @type {{ text: T, why: import('../facts.js').Remark }[]} */
     const left = [];
     let [last, end] = [/** @type {T | null} */ (null), 0];
     for (const [i, text] of texts.entries()) {
@@ -59,7 +49,7 @@ export async function replacedEach(image, texts, { signal, progress }, replace) 
             [last, end] = [text, at + size];
         } catch (error) {
             if (!(error instanceof Fault)) throw error;
-            left.push({ text, why: error.message });
+            left.push({ text, why: remark(error.code, error.facts) });
         }
     }
     return { parts, left };
@@ -78,8 +68,8 @@ export async function replacedEach(image, texts, { signal, progress }, replace) 
 export async function replaceHits({ calls }, opened, { image, encoding, hits, freshFor, inside = false }, watch = {}) {
     const { parts, left } = await replacedEach(image, hits, watch, async (hit, met) => {
         const { bytes, doubt } = await contextOf(image, encoding, hit, 0);
-        if (met !== null) throw new Fault('it overlaps the one before it');
-        if (doubt !== '' && !inside) throw new Fault(doubt);
+        if (met !== null) throw new Fault('replace/overlaps', {});
+        if (doubt !== null && !inside) throw new Fault(doubt.code, doubt.facts);
         return { lines: await replaceBytes(calls, image, hit, bytes, freshFor(hit.size)), size: hit.size };
     });
     return { script: await fittingScript(calls, opened.image, parts), left };

@@ -2,7 +2,6 @@
 
 import { joinedBytes, readBytes, sameBytes } from '../bytes.js';
 import { Fault, newBytes } from '../faults.js';
-import { hexText } from '../hex_digits.js';
 import { PATCH_SIZE, RECORD, RECORD_SIZE, SECTOR_KIND, SECTOR_SIZE, USER_SIZE, sectorCount } from '../module/index.js';
 import { LineList, assertLeads, linesBetween } from '../script/index.js';
 import { addToRuns, addressIn, isSound, joinedUser, runOf, sectorsAt, userOf } from '../sectors/index.js';
@@ -24,11 +23,8 @@ import { addToRuns, addressIn, isSound, joinedUser, runOf, sectorsAt, userOf } f
 export function filledUp(bytes, size, fill) {
     const missing = size - bytes.length;
     if (missing === 0) return bytes;
-    if (missing < 0 || fill === null) throw new Fault(`the new bytes are ${bytes.length}, the old ones ${size}`);
-    if (missing % fill.length !== 0) {
-        const filler = `${fill.length}-byte filler ${hexText(fill, ' ')}`;
-        throw new Fault(`cannot pad ${missing} ${missing === 1 ? 'byte' : 'bytes'} with the ${filler}; use --fill with one byte`);
-    }
+    if (missing < 0 || fill === null) throw new Fault('replace/other-size', { fresh: bytes.length, old: size });
+    if (missing % fill.length !== 0) throw new Fault('replace/filler', { missing, filler: fill });
     const filled = new Uint8Array(size);
     filled.set(bytes);
     for (let at = bytes.length; at < size; at += fill.length) filled.set(fill, at);
@@ -96,7 +92,7 @@ async function addChange(calls, image, lines, { place, old, fresh }, isTriedLate
     assertSound(calls.survey(sectors, 0), blocks);
     const other = old.findIndex((byte, i) => byte !== user[place.offset + i]);
     const { block, offset } = placeAfter(place, Math.max(other, 0));
-    if (other >= 0) throw new Fault(`old bytes differ at block ${block} offset ${offset}`);
+    if (other >= 0) throw new Fault('replace/other-bytes', { block, offset });
     user.set(filledUp(fresh, old.length, null), place.offset);
     const { size } = lines;
     setLines(lines, place, old, fresh);
@@ -122,9 +118,9 @@ export function sectorsOfRange({ reader, base }, { block, offset }, size) {
     const first = block - base;
     const count = Math.ceil((offset + size) / USER_SIZE);
     const end = base + sectorCount(reader.size);
-    if (size === 0) throw new Fault('there are no old bytes');
-    if (offset < 0 || offset >= USER_SIZE) throw new Fault(`an offset is 0 to ${USER_SIZE - 1}`);
-    if (first < 0 || block + count > end) throw new Fault(`the image has the blocks ${base} to ${end - 1}`);
+    if (size === 0) throw new Fault('replace/no-bytes', {});
+    if (offset < 0 || offset >= USER_SIZE) throw new Fault('replace/no-offset', { last: USER_SIZE - 1 });
+    if (first < 0 || block + count > end) throw new Fault('replace/no-block', { first: base, last: end - 1 });
     return readBytes(reader, first * SECTOR_SIZE, count * SECTOR_SIZE);
 }
 
@@ -151,7 +147,7 @@ function assertSound(records, blocks) {
     const other = blocks.findIndex((_, i) => !isSound(records, RECORD_SIZE * i));
     if (other < 0) return;
     const isMode1 = records[RECORD_SIZE * other + RECORD.KIND] === SECTOR_KIND.MODE1;
-    throw new Fault(`block ${blocks[other]} ${isMode1 ? 'is damaged: repair it first' : 'is not Mode 1'}`);
+    throw new Fault(isMode1 ? 'replace/damaged' : 'replace/not-mode1', { block: blocks[other] });
 }
 
 /**

@@ -73,24 +73,13 @@ function meetingOf(extents) {
 function sharingWith({ path, extents }, { udf, own, tables, entries, files }, keeps) {
     const meets = meetingOf(extents);
     const mine = [...own.keys(), ...tables].find(block => meets(block, block + 1));
-    if (mine !== undefined) {
-        throw new Fault(`${path} has block ${mine}, which has a ${own.get(mine) || 'path table'} of the volume: that is not replaced`);
-    }
-    if (!keeps && udf) throw new Fault(`${path} would have its old length in the UDF that the disc has too: --fill keeps the length`);
+    if (mine !== undefined) throw new Fault('replace/own-block', { path, block: mine, kind: own.get(mine) || 'path table' });
+    if (!keeps && udf) throw new Fault('replace/udf', { path });
     const same = new Set(extents.map(extentKey));
     const isIn = (/** @type {FileEntry} */ it) => it.size > 0 && meets(it.block, endOfExtent(it));
     const other = keeps ? undefined : entries.find(it => !same.has(extentKey(it)) && isIn(it));
-    if (other) throw new Fault(`${path} can have no other length: ${other.path} has some of its blocks`);
+    if (other) throw new Fault('replace/shared-length', { path, other: other.path });
     return [...new Set(files.filter(it => it.path !== path && isIn(it)).map(it => it.path))];
-}
-
-/**
- * What is said of a file that shares blocks with one that is replaced.
- * @param {string} path
- * @param {string} other
- */
-export function sharingText(path, other) {
-    return `${other} has blocks of ${path} too, and changes with it`;
 }
 
 /**
@@ -141,8 +130,7 @@ export async function replaceFile({ calls, crew }, opened, { entries, wanted, fi
     const keeps = fill !== undefined || wanted.size === size;
     const lengths = extents.map(extent => keeps ? extent.size : extentRoom(extent));
     const room = lengths.reduce((sum, length) => sum + length, 0);
-    const had = `${size} bytes${keeps ? '' : ` and room for ${room}`}`;
-    if (wanted.size > room) throw new Fault(`${path} has ${had}, the new file ${wanted.size}`);
+    if (wanted.size > room) throw new Fault('replace/long-file', { path, size, room: keeps ? null : room, wanted: wanted.size });
     const sharing = sharingWith(file, names, keeps);
     const records = recordsByKey(names.entries, extents);
     const parts = new ScriptParts();

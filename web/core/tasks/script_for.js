@@ -1,7 +1,7 @@
 // A script for an image: one that is read, without faults and for no other base; and one that is made, which fits.
 
-import { FAULT, Fault } from '../faults.js';
-import { Refusal, assertFits, baseFault, readScript, scriptForBase } from '../script/index.js';
+import { Fault } from '../faults.js';
+import { Refusal, assertFits, readScript, scriptForBase } from '../script/index.js';
 
 /** @typedef {import('../module/calls.js').Calls} Calls */
 /** @typedef {import('../script/script.js').Pieces} Pieces */
@@ -11,7 +11,7 @@ import { Refusal, assertFits, baseFault, readScript, scriptForBase } from '../sc
 /** @typedef {import('../disc/disc.js').DiscImage} DiscImage */
 
 /**
- * A script without faults. Throws a Fault, SCRIPT, whose message is the program's line, and what the script's reader throws.
+ * A script without faults. Throws a Fault, `script/refused`, with the program's line, and what the script's reader throws.
  * @param {Calls} calls
  * @param {Pieces} pieces
  * @param {boolean} [long] whether the script may have more bytes and patches than the program takes
@@ -20,17 +20,17 @@ import { Refusal, assertFits, baseFault, readScript, scriptForBase } from '../sc
 export async function validScript(calls, pieces, long) {
     const read = await readScript(calls, pieces, long);
     if (!(read instanceof Refusal)) return read;
-    throw new Fault(new TextDecoder().decode(read.text).trimEnd(), FAULT.SCRIPT, { tooLong: read.tooLong });
+    throw new Fault('script/refused', { line: new TextDecoder().decode(read.text).trimEnd(), tooLong: read.tooLong });
 }
 
 /**
- * Throws a Fault, OTHER_BASE, if a script says another base than its image has.
+ * Throws a Fault, `script/other-base`, if a script says another base than its image has.
  * @param {ReadScript} script
  * @param {number} base
  */
 export function assertBase({ bases }, base) {
     const other = bases.find(said => said.base !== base);
-    if (other) throw new Fault(baseFault(bases, base), FAULT.OTHER_BASE, { other });
+    if (other) throw new Fault('script/other-base', { ...other, begins: base });
 }
 
 /**

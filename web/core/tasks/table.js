@@ -1,6 +1,6 @@
 // The table of the texts of a track: exported for translators, and imported with their new texts.
 
-import { FAULT, Fault } from '../faults.js';
+import { Fault } from '../faults.js';
 import { codesLeftOut, stretchesOf, tableOfTexts } from '../texts/index.js';
 import { encodingsOfRows, replaceList, rowsOfList } from './list.js';
 import { fittingScript } from './script_for.js';
@@ -30,7 +30,7 @@ import { fittingScript } from './script_for.js';
  */
 
 /**
- * The stretches that are looked at. Throws a Fault, NO_FILE, if a path names none.
+ * The stretches that are looked at. Throws a Fault, `no-file`, if a path names none.
  * @param {Stretch[]} stretches
  * @param {string[]} paths of files or directories; without any all are
  */
@@ -39,12 +39,12 @@ function stretchesIn(stretches, paths) {
     const isIn = (/** @type {Stretch} */ { path }, /** @type {string} */ below) =>
         path !== '' && `${rooted(path)}/`.startsWith(`${rooted(below)}/`);
     const missing = paths.find(path => !stretches.some(it => isIn(it, path)));
-    if (missing !== undefined) throw new Fault(`there is no file ${missing}`, FAULT.NO_FILE);
+    if (missing !== undefined) throw new Fault('no-file', { path: missing });
     return stretches.filter(it => paths.length === 0 || paths.some(path => isIn(it, path)));
 }
 
 /**
- * Exports the texts of a track as a table, in pieces, each with its number of texts. Throws a Fault, NO_FILE or CANCELLED.
+ * Exports the texts of a track as a table, in pieces, each with its number of texts. Throws a Fault, `no-file` or `cancelled`.
  * @param {Pick<Engine, 'crew'>} engine
  * @param {OpenedTrack} opened
  * @param {AskedTexts & { paths?: string[], csv?: boolean, least?: number }} options `paths` of files or directories, all if there are none;
@@ -61,7 +61,7 @@ export async function* exportTable({ crew }, opened, { paths = [], csv = false, 
 
 /**
  * Makes the script of a table with new texts, which fits the image. Throws a Fault if the table has no row with a new text or cannot be
- * read, or CANCELLED.
+ * read, or `cancelled`.
  * @param {Pick<Engine, 'calls'>} engine
  * @param {OpenedTrack} opened
  * @param {ImportOptions} options

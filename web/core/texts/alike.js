@@ -4,7 +4,7 @@
 
 import { joinedBytes } from '../bytes.js';
 import { lacks, numbersOf } from '../encodings/index.js';
-import { FAULT, failedBy } from '../faults.js';
+import { failedBy } from '../faults.js';
 
 /** @typedef {import('../encodings/encoding.js').Encoding} Encoding */
 
@@ -58,7 +58,7 @@ function spellingsOf(encoding, form) {
         const units = encoding.units(form);
         return units.length === 1 ? units[0] : [joinedBytes(units.map(([usual]) => usual))].filter(({ length }) => length > 0);
     } catch (error) {
-        if (!failedBy(error, FAULT.TEXT)) throw error;
+        if (!failedBy(error, 'text')) throw error;
         return [];
     }
 }
@@ -91,7 +91,7 @@ export function unitsAlike(encoding, text, loose = false) {
         try {
             for (const unit of encoding.units(whole.slice(from, at))) units.push(unit);
         } catch (error) {
-            const lacking = failedBy(error, FAULT.TEXT) ? error.facts.at ?? -1 : -1;
+            const lacking = failedBy(error, 'text') ? error.facts.at ?? -1 : -1;
             throw lacking < 0 ? error : lacks(encoding.name, whole, from + lacking);
         }
     };

@@ -119,7 +119,7 @@ export class Table {
      */
     readCell(at, row) {
         const { text } = this;
-        if (row.cells.length === MOST_CELLS) throw new Fault(`row ${row.number} of the table has more than ${MOST_CELLS} cells`);
+        if (row.cells.length === MOST_CELLS) throw new Fault('list/too-many-cells', { row: row.number, most: MOST_CELLS });
         const quoted = text[at] === '"' ? this.endOfQuoted(at) : -1;
         const overrun = quoted < 0 || this.isQuoted ? 0 : this.overrunOf(at, quoted);
         if (overrun > 0 && row.overrun === 0) row.overrun = overrun;

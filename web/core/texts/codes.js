@@ -1,7 +1,7 @@
 // Texts in the cells of a table, in which bytes that are no plain character stand as codes, as {00}.
 
 import { usualBytes } from '../encodings/index.js';
-import { FAULT, Fault, failedBy } from '../faults.js';
+import { Fault, failedBy } from '../faults.js';
 import { bytesOfHex, hexText } from '../hex_digits.js';
 import { isTurnDue, letOthersIn } from '../turns.js';
 import { unitsAlike } from './alike.js';
@@ -58,10 +58,10 @@ export function unitsOfCell(encoding, cell) {
  * @param {string} cell
  */
 export function assertMeant(encoding, cell) {
-    if (FORMULA_ERROR.test(cell)) throw new Fault(`a spreadsheet wrote ${cell} in place of a formula: write the text, with {3D} for =`);
+    if (FORMULA_ERROR.test(cell)) throw new Fault('list/formula', { cell });
     for (const [code] of cell.matchAll(LIKE_CODE)) {
         if (CODE.test(code) || bytesOfSign(encoding, code, 1) !== null) continue;
-        throw new Fault(`${code} is not a code, which is two digits 0 to F for each byte; a brace is {7B}`);
+        throw new Fault('list/no-code', { code });
     }
 }
 
@@ -76,7 +76,7 @@ function bytesOfSign(encoding, sign, most) {
         const units = encoding.units(sign);
         return units.length > most ? null : usualBytes(units);
     } catch (error) {
-        if (!failedBy(error, FAULT.TEXT)) throw error;
+        if (!failedBy(error, 'text')) throw error;
         return null;
     }
 }
@@ -116,7 +116,7 @@ function codesMissing(encodings, { text, fresh }) {
 
 /**
  * The codes that the new texts of rows leave out, each once, in the order in which they are met. Call it with the rows that `replaceList`
- * was given, and show `leftCodeText` of each: so the page and cdscript say the same.
+ * was given.
  * @param {CodedRow[]} rows
  * @param {(name: string) => Encoding[]} encodingsFor the encodings that a row may be in, by the name that it has, or ''
  * @param {import('../turns.js').Signal} [signal]
@@ -137,16 +137,6 @@ export async function codesLeftOut(rows, encodingsFor, signal) {
         }
     }
     return [...left.values()];
-}
-
-/**
- * What is said of a code that new texts leave out.
- * @param {LeftCode} left
- */
-export function leftCodeText({ code, count, rows, first }) {
-    const often = count === 1 ? 'once' : `${count} times`;
-    const named = [...first, ...rows > first.length ? [`and ${rows - first.length} more`] : []];
-    return `new texts leave out {${code}} ${often}: ${rows === 1 ? 'row' : 'rows'} ${named.join(', ')}`;
 }
 
 /**

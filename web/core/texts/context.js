@@ -1,7 +1,7 @@
 // User bytes at a place of a data track and around it, and the text there.
 
 import { readBytes } from '../bytes.js';
-import { hexText } from '../hex_digits.js';
+import { remark } from '../faults.js';
 import { filesAt } from '../iso/index.js';
 import { SECTOR_SIZE, USER_SIZE } from '../module/index.js';
 import { joinedUser } from '../sectors/index.js';
@@ -13,9 +13,9 @@ import { LONGEST_CHARACTER, LOOKED_BACK, bytesInside, charactersFrom } from './b
 /** @typedef {import('../encodings/encoding.js').Encoding} Encoding */
 /** @typedef {import('./find.js').Hit} Hit */
 /**
- * A hit's bytes; `doubt`, which says what is known of it if it may begin in the middle of a character, else ''; and the characters before
- * it, of it and after it.
- * @typedef {{ bytes: Uint8Array, doubt: string, before: string[], hit: string, after: string[] }} Context
+ * A hit's bytes; `doubt`, if it may begin in the middle of a character; and the characters before it, of it and after it.
+ * @typedef {{ bytes: Uint8Array, doubt: import('../facts.js').Remark<'find/inside'> | null, before: string[], hit: string,
+ *     after: string[] }} Context
  */
 
 /** Bytes that are read as text before a hit, and after it. */
@@ -77,8 +77,7 @@ function contextIn(encoding, bytes, at, size, around) {
         if (it.at >= end + around) break;
         after.push(it.text);
     }
-    const inside = bytesInside(encoding, bytes, at) > 0;
-    const doubt = inside ? `perhaps in the middle of a character (byte before: ${hexText(bytes.subarray(at - 1, at))})` : '';
+    const doubt = bytesInside(encoding, bytes, at) > 0 ? remark('find/inside', { before: bytes[at - 1] }) : null;
     return { bytes: bytes.slice(at, end), doubt, before, hit: encoding.text(bytes.subarray(at, end)), after };
 }
 
@@ -137,7 +136,7 @@ function* contextsIn(image, encoding, { start, bytes }, hits) {
 export async function anyBegins(image, encoding, hits) {
     for await (const near of contextsOf(image, encoding, hits)) {
         for (const { context } of near) {
-            if (context.doubt === '') return true;
+            if (context.doubt === null) return true;
         }
     }
     return false;

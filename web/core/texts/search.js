@@ -1,6 +1,6 @@
 // A text searched in the user data of a data track, in one encoding or in several.
 
-import { FAULT, failedBy } from '../faults.js';
+import { failedBy } from '../faults.js';
 import { unitsAlike } from './alike.js';
 import { anyBegins } from './context.js';
 import { joinFound, sectorsBeyond } from './find.js';
@@ -30,7 +30,7 @@ export function encodingsWith(encodings, text, loose) {
             names.push(encoding.name);
             if (!spelled.has(bytes)) spelled.set(bytes, encoding);
         } catch (error) {
-            if (!failedBy(error, FAULT.TEXT)) throw error;
+            if (!failedBy(error, 'text')) throw error;
             faults.push(error);
         }
     }

@@ -1,7 +1,8 @@
 // The workers of the page. Each is started when it is first given something to do.
 
 import { Crew } from '../../core/crew/index.js';
-import { Fault, cancelled } from '../../core/faults.js';
+import { ownFault } from '../../sentences/index.js';
+import { cancelled } from '../../core/faults.js';
 import * as texts from '../texts/index.js';
 import { told } from '../texts/index.js';
 
@@ -67,8 +68,8 @@ export function startedWorker({ module, newWorker }, heard, failed) {
     const worker = newWorker();
     worker.onmessage = heard;
     worker.onerror = ({ message }) =>
-        failed(new Fault(message ? told(texts.workerStoppedFor, { why: message }) : texts.workerStopped));
-    worker.onmessageerror = () => failed(new Fault(texts.workerStopped));
+        failed(ownFault(message ? told(texts.workerStoppedFor, { why: message }) : texts.workerStopped));
+    worker.onmessageerror = () => failed(ownFault(texts.workerStopped));
     worker.postMessage({ module });
     return worker;
 }

@@ -2,15 +2,16 @@
 
 import { Fault } from '../../core/faults.js';
 import { filesLines } from '../../core/iso/index.js';
-import { leftText, linesMade } from '../../core/script/index.js';
+import { linesMade } from '../../core/script/index.js';
 import { blocksIn } from '../../core/sectors/index.js';
-import { extractFile, placesOfFile, replaceFile, sharingText } from '../../core/tasks/index.js';
+import { extractFile, placesOfFile, replaceFile } from '../../core/tasks/index.js';
 import { visible } from '../../core/texts/index.js';
+import { ownFault } from '../../sentences/index.js';
 import { ReplacedFiles, linesIn, linesReplacing } from '../app/index.js';
 import { fileReader } from '../open/index.js';
 import { downloadBytes } from '../save/index.js';
 import * as texts from '../texts/index.js';
-import { counted, say, told } from '../texts/index.js';
+import { counted, remarkText, say, told } from '../texts/index.js';
 import { announce, button, element, fill, isCancelled, jobBar, keyed, messageParts, nameOf, notice, runAt, seen } from '../ui/index.js';
 import { stemOf, term } from '../ui/index.js';
 
@@ -223,8 +224,8 @@ export class FilesList {
         await this.work(texts.makingLines, texts.nothingAdded, async (image, watch) => {
             const { app, app: { script } } = this;
             const made = await replaceFile(app, image.opened, { entries: chosen.entries, wanted: fileReader(fresh) }, watch);
-            if (made.script === null) throw new Fault(leftText(made.left, image.part.name, MOST_RUNS));
-            if (made.script.long) throw new Fault(texts.scriptTooLongToReplace);
+            if (made.script === null) throw new Fault('script/left', { runs: made.left, image: image.part.name, most: MOST_RUNS });
+            if (made.script.long) throw ownFault(texts.scriptTooLongToReplace);
             const places = placesOfFile(files, chosen.entries);
             const earlier = await linesReplacing(script, image, places, watch.signal);
             const come = linesMade(made.script);
@@ -247,7 +248,7 @@ export class FilesList {
         const others = linesIn(app.script, places).filter(({ text }) => !fresh.has(text));
         const words = [gone > 0 && told(texts.earlierLinesGone, { n: gone }), others.length > 0 && told(texts.otherLinesWrite,
             { n: others.length, line: String(others[0].number) }),
-        ...sharing.slice(0, MOST_RUNS).map(other => `${sharingText(seen(path), seen(other))}.`)].flatMap(it => it || []);
+        ...sharing.slice(0, MOST_RUNS).map(other => sharingWords(path, other))].flatMap(it => it || []);
         const rest = words.map(text => element('p', {}, text));
         if (come.length === 0) return notice('plain', texts.newFileIsSame, ...gone > 0 ? rest : [texts.nothingAdded, ...rest]);
         const head = told(texts.linesAdded, { n: come.length });
@@ -258,4 +259,12 @@ export class FilesList {
         return notice(others.length + sharing.length > 0 ? 'warn' : 'good', head, ...length, ...rest,
             element('div', { class: 'row' }, go, button('slim', () => app.showPanel('script'), texts.openScriptPanel)));
     }
+}
+
+/**
+ * @param {string} path of a file that is replaced
+ * @param {string} other a file that has some of its blocks
+ */
+function sharingWords(path, other) {
+    return `${remarkText({ code: 'replace/shared-blocks', facts: { path: seen(path), other: seen(other) } })}.`;
 }

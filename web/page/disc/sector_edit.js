@@ -1,11 +1,11 @@
 // What keys, copy and paste do with the bytes of a sector.
 
 import { encodeText } from '../../core/encodings/index.js';
-import { Fault } from '../../core/faults.js';
 import { bytesOfHex } from '../../core/hex_digits.js';
 import { SECTOR_SIZE } from '../../core/module/index.js';
 import { USER_OFFSET } from '../../core/sectors/index.js';
 import { charactersFrom } from '../../core/texts/index.js';
+import { ownFault } from '../../sentences/index.js';
 import { chosenEncoding, signOf } from '../text/index.js';
 import * as texts from '../texts/index.js';
 import { told } from '../texts/index.js';
@@ -192,6 +192,6 @@ export class SectorEdit {
  */
 function pastedBytes(text) {
     const digits = text.replace(/\s+/g, '');
-    if (!/^(?:[0-9a-fA-F]{2})+$/.test(digits)) throw new Fault(texts.noHexDigits);
+    if (!/^(?:[0-9a-fA-F]{2})+$/.test(digits)) throw ownFault(texts.noHexDigits);
     return bytesOfHex(digits);
 }

@@ -1,9 +1,10 @@
 // Reading the files that were opened.
 
-import { Fault, cancelled } from '../../core/faults.js';
+import { cancelled } from '../../core/faults.js';
 import * as texts from '../texts/index.js';
 import { told } from '../texts/index.js';
 import { isCancelled, shownName } from '../ui/index.js';
+import { ownFault } from '../../sentences/index.js';
 
 /** @typedef {import('../../core/bytes.js').Reader} Reader */
 /** @typedef {import('../../core/crew/crew.js').Crew} Crew */
@@ -20,7 +21,7 @@ const PASSED_OVER = 1 << 20;
  * @param {string} name
  */
 function fileGone(name) {
-    return new Fault(told(texts.fileIsGone, { name: shownName(name) }));
+    return ownFault(told(texts.fileIsGone, { name: shownName(name) }));
 }
 
 /**

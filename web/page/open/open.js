@@ -3,7 +3,7 @@
 import { readBytes } from '../../core/bytes.js';
 import { discFault, natureOf, openDisc } from '../../core/disc/index.js';
 import { encodingOf, textOfFile } from '../../core/encodings/index.js';
-import { FAULT, failedBy } from '../../core/faults.js';
+import { failedBy } from '../../core/faults.js';
 import { MOST_SCRIPT_BYTES, MOST_SECTORS, SECTOR_KIND, SECTOR_SIZE, sectorCount } from '../../core/module/index.js';
 import { isMeantAsScript, isScript, modelInParts } from '../../core/script/index.js';
 import { imageTooLong } from '../../core/sectors/index.js';
@@ -252,12 +252,12 @@ function audioTrack({ files, tracks }) {
  */
 async function showOpeningFailure(app, files, error) {
     const kinds = files.map(file => natureOf(app.calls, fileReader(file)).then(({ kind }) => kind, () => 'unknown'));
-    const packed = files[failedBy(error, FAULT.DISC, FAULT.MISSING_FILES) ? (await Promise.all(kinds)).indexOf('chd') : -1];
+    const packed = files[failedBy(error, 'disc', 'missing-files') ? (await Promise.all(kinds)).indexOf('chd') : -1];
     if (packed) {
         return showNotice('bad', say(texts.compressedImage, { name: nameOf(packed.name) }), texts.makeRawImage,
             ...commandFor(packed.name));
     }
-    if (failedBy(error, FAULT.MISSING_FILES)) return showFailure(error);
+    if (failedBy(error, 'missing-files')) return showFailure(error);
     const names = [...files.map(file => file.name), app.image ? app.image.name : ''];
     return showNotice('bad', texts.notOpenedYet, ...messageParts(error, names));
 }

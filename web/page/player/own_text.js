@@ -1,9 +1,9 @@
 // The page's own text, of the parts that its document has: each is known by what it has, wherever it stands.
 
-import { Fault } from '../../core/faults.js';
 import { OWN } from '../app/index.js';
 import * as texts from '../texts/index.js';
 import { checksum } from './patcher.js';
+import { ownFault } from '../../sentences/index.js';
 
 /** @typedef {import('../../core/module/calls.js').Calls} Calls */
 
@@ -32,7 +32,7 @@ function ownParts(calls) {
     const styles = [...document.querySelectorAll('style')].map(it => it.textContent || '');
     const policies = [...document.querySelectorAll('meta[http-equiv]')].map(it => it.getAttribute('content') || '');
     const [style, policy] = [styles.findIndex(it => isOwnStyle(calls, it)), policies.findIndex(isOwnPolicy)];
-    if (style < 0 || policy < 0) throw new Fault(texts.pageWasChanged);
+    if (style < 0 || policy < 0) throw ownFault(texts.pageWasChanged);
     return { style: styles[style], policy: policies[policy], first: style === 0 && policy === 0 };
 }
 
@@ -51,6 +51,6 @@ export function pageSource(calls) {
  * @param {Calls} calls
  */
 export function publishedSource(calls) {
-    if (!ownParts(calls).first) throw new Fault(texts.pageWasChanged);
+    if (!ownParts(calls).first) throw ownFault(texts.pageWasChanged);
     return pageSource(calls);
 }

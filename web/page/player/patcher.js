@@ -2,7 +2,7 @@
 // bytes: a line of JSON, and the script.
 
 import { ByteList } from '../../core/bytes.js';
-import { FAULT, Fault, failedBy } from '../../core/faults.js';
+import { Fault, failedBy } from '../../core/faults.js';
 import { MOST_SCRIPT_BYTES } from '../../core/module/index.js';
 import { Sha1, bytesOfBase64 } from '../app/index.js';
 import * as texts from '../texts/index.js';
@@ -30,7 +30,7 @@ const FORM = /^\ncdpatch-data 1 (\d{1,9}) ([0-9a-f]{40})\n([A-Za-z0-9+/]+={0,2})
  * @param {string} message
  */
 function patcherFault(message) {
-    return new Fault(message, FAULT.PATCHER);
+    return new Fault('patcher', { sentence: message });
 }
 
 /**
@@ -113,7 +113,7 @@ export async function readPatcherText(calls, text) {
     if (checksum(calls, packed) !== found[2]) throw patcherFault(texts.dataChanged);
     const inflating = inSmallPieces(packed).pipeThrough(new DecompressionStream('deflate'));
     const bytes = await streamBytes(inflating, MOST_SCRIPT_BYTES + LARGEST_HEAD).catch(error => {
-        throw failedBy(error, FAULT.PATCHER) ? error : patcherFault(texts.dataNotUnpacked);
+        throw failedBy(error, 'patcher') ? error : patcherFault(texts.dataNotUnpacked);
     });
     const end = bytes.indexOf(10);
     if (end < 0 || end > LARGEST_HEAD) throw patcherFault(texts.dataWithoutHead);

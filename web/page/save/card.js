@@ -1,7 +1,7 @@
 // Saving the patched image, as its card says it: progress, what was saved, and what is left after a cancel or a failure.
 
 import { isOneTrack, sheetOfOneTrack } from '../../core/disc/index.js';
-import { FAULT, failedBy } from '../../core/faults.js';
+import { failedBy } from '../../core/faults.js';
 import { RESULT } from '../../core/module/index.js';
 import { sha1Of, sumsOf } from '../app/index.js';
 import { fileReader, readImage } from '../open/index.js';
@@ -231,7 +231,7 @@ function sheetWords({ sheet: own, renamed }, name, sheet) {
  */
 export function failureOfSaving(error, size) {
     if (isCancelled(error)) return notice('plain', texts.jobCancelled, texts.noImageKept);
-    if (failedBy(error, FAULT.UNWRITTEN)) {
+    if (failedBy(error, 'unwritten')) {
         const { full, done = 0 } = error.facts;
         const percent = size === 0 ? 0 : Math.floor(100 * done / size);
         return notice('bad', full ? told(texts.diskIsFull, { percent }) : told(texts.writingFailed, { percent, why: messageOf(error) }),

@@ -1,8 +1,8 @@
 // Giving files to the user: as a stream to a file that he chooses, if the browser can, else as a download.
 
-import { Fault } from '../../core/faults.js';
 import * as texts from '../texts/index.js';
 import { element } from '../ui/index.js';
+import { ownFault } from '../../sentences/index.js';
 
 /** @typedef {import('./save.js').Sink} Sink */
 /** A file that was chosen to be written, as browsers of the Chromium kind have it. */
@@ -42,7 +42,7 @@ export async function chosenFile(name) {
     } catch (error) {
         const kind = error instanceof DOMException ? error.name : '';
         if (kind === 'AbortError') return null;
-        throw kind === 'SecurityError' ? new Fault(texts.asksAfterClick) : error;
+        throw kind === 'SecurityError' ? ownFault(texts.asksAfterClick) : error;
     }
 }
 

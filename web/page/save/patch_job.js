@@ -1,17 +1,18 @@
 // What is done with a script and an image: checking, and saving the patched image.
 
 import { readBytes } from '../../core/bytes.js';
-import { FAULT, Fault, failedBy } from '../../core/faults.js';
+import { failedBy } from '../../core/faults.js';
 import { MOST_SCRIPT_BYTES, MOST_SECTORS, SECTOR_SIZE, STATUS } from '../../core/module/index.js';
 import { pieceReader } from '../../core/piece_reader.js';
 import { readerForTwo } from '../../core/read_ahead.js';
 import { NEAR_HELD, NEAR_WRITTEN } from '../../core/script/index.js';
 import { imageTooLong } from '../../core/sectors/index.js';
 import { applyInMemory, applyScript, validScript } from '../../core/tasks/index.js';
+import { ownFault } from '../../sentences/index.js';
 import { RunningHash } from '../app/index.js';
 import { readByHands } from '../open/index.js';
 import * as texts from '../texts/index.js';
-import { told } from '../texts/index.js';
+import { remarkText, told } from '../texts/index.js';
 import { capital, nextTurn } from '../ui/index.js';
 import { canStream } from './files_out.js';
 import { saveImage } from './pieces.js';
@@ -50,9 +51,9 @@ async function readWork({ calls }, script) {
  * @returns {never}
  */
 function refuse(error) {
-    if (failedBy(error, FAULT.OTHER_BASE)) throw workRefused(`${capital(error.message)}.`, texts.setSaidBase);
-    if (!failedBy(error, FAULT.SCRIPT)) throw error;
-    if (!error.facts.tooLong) throw workRefused(error.message, texts.correctLineFirst);
+    if (failedBy(error, 'script/other-base')) throw workRefused(`${capital(remarkText(error))}.`, texts.setSaidBase);
+    if (!failedBy(error, 'script/refused')) throw error;
+    if (!error.facts.tooLong) throw workRefused(remarkText(error), texts.correctLineFirst);
     throw workRefused(texts.scriptTooLong, told(texts.mostScriptBytes, { most: MOST_SCRIPT_BYTES }));
 }
 
@@ -156,7 +157,7 @@ function comparing(hash, wanted) {
         seen: (/** @type {Uint8Array} */ bytes) => hash.add(bytes.slice()),
         async accept() {
             if (await hash.end() === wanted) return;
-            throw new Fault(texts.notTheAuthorsImage);
+            throw ownFault(texts.notTheAuthorsImage);
         },
     };
 }

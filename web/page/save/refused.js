@@ -1,6 +1,7 @@
 // What is refused before any work is done.
 
-import { Fault, FAULT } from '../../core/faults.js';
+import { Fault } from '../../core/faults.js';
+import { ownFault } from '../../sentences/index.js';
 
 /**
  * Why a script or an image can't be worked on.
@@ -8,7 +9,7 @@ import { Fault, FAULT } from '../../core/faults.js';
  * @param {string} advice what to do
  */
 export function workRefused(text, advice) {
-    return new Fault(text, FAULT.INPUT, { advice });
+    return ownFault(text, { advice });
 }
 
 /**

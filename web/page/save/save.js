@@ -1,7 +1,7 @@
 // Saving: a patched image as a stream to a file, or as a Blob of slices of the old file with the patched sectors between them.
 
 import { forwardOf, readBytes } from '../../core/bytes.js';
-import { FAULT, Fault, cancelled } from '../../core/faults.js';
+import { Fault, cancelled } from '../../core/faults.js';
 import { fileOf } from '../open/index.js';
 import * as texts from '../texts/index.js';
 import { nextTurn } from '../ui/index.js';
@@ -29,7 +29,7 @@ import { RegionCutter, bytesOfRegion, dataOfRegion } from './regions.js';
  */
 function unwritten(done, cause) {
     const full = cause instanceof Error && cause.name === 'QuotaExceededError';
-    return new Fault(cause instanceof Error ? cause.message : String(cause), FAULT.UNWRITTEN, { done, full });
+    return new Fault('unwritten', { sentence: cause instanceof Error ? cause.message : String(cause), done, full });
 }
 
 /** Regions that go to a sink one after the other, of which the next is made while the last is written. */

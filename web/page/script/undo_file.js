@@ -1,8 +1,8 @@
 // The script that takes the open one back, as a file.
 
-import { FAULT, failedBy } from '../../core/faults.js';
-import { blocksText } from '../../core/sectors/index.js';
+import { failedBy } from '../../core/faults.js';
 import { undoScript } from '../../core/tasks/index.js';
+import { blocksText } from '../../sentences/index.js';
 import { downloadBytes } from '../save/index.js';
 import * as texts from '../texts/index.js';
 import { say, told } from '../texts/index.js';
@@ -49,7 +49,7 @@ async function makeUndoAt(app, image, { bar: place, said }, lines, carry) {
         sayAt(said, made.script === null ? noUndoWords(made) : savedWords(made, name, carry));
     } catch (error) {
         sayAt(said, isCancelled(error) ? notice('plain', texts.jobCancelled, texts.noUndoMade)
-            : notice('bad', failedBy(error, FAULT.SCRIPT) ? texts.scriptHasFault : sentence(error), texts.noUndoMade));
+            : notice('bad', failedBy(error, 'script/refused') ? texts.scriptHasFault : sentence(error), texts.noUndoMade));
     } finally {
         fill(place);
     }

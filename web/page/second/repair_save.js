@@ -1,6 +1,7 @@
 // Saves a repaired image, and shows its hash if the page can read the file.
 
-import { blocksIn, blocksText } from '../../core/sectors/index.js';
+import { blocksIn } from '../../core/sectors/index.js';
+import { blocksText } from '../../sentences/index.js';
 import { sha1Of } from '../app/index.js';
 import { fileReader, readImage } from '../open/index.js';
 import { failureOfSaving, givingAll, patchedName, saveImage } from '../save/index.js';

@@ -1,6 +1,7 @@
 // What is said of a repair: what it takes and what it leaves, or why it is refused.
 
-import { blocksIn, blocksText } from '../../core/sectors/index.js';
+import { blocksIn } from '../../core/sectors/index.js';
+import { blocksText } from '../../sentences/index.js';
 import * as texts from '../texts/index.js';
 import { say, told } from '../texts/index.js';
 import { element, nameOf, notice, tallyOf } from '../ui/index.js';

@@ -1,11 +1,11 @@
 // The script that leads from the open image to another one: it was applied by the proved calls before it is shown.
 
-import { leftText } from '../../core/script/index.js';
-import { blocksIn, blocksText } from '../../core/sectors/index.js';
+import { blocksIn } from '../../core/sectors/index.js';
+import { blocksText } from '../../sentences/index.js';
 import { compareTrack } from '../../core/tasks/index.js';
 import { download } from '../save/index.js';
 import * as texts from '../texts/index.js';
-import { say, told } from '../texts/index.js';
+import { remarkText, say, told } from '../texts/index.js';
 import { button, element, fill, isCancelled, jobBar, nameOf, notice, runAt, sentence } from '../ui/index.js';
 
 /** @typedef {import('../app/state.js').App} App */
@@ -113,6 +113,14 @@ function written({ size, patches, long }, left, { image, goal }, { open, save },
 }
 
 /**
+ * Why sectors are left, all for one reason.
+ * @param {Left[]} runs
+ */
+function leftText(runs) {
+    return remarkText({ code: 'script/left', facts: { runs, image: texts.theSecondImage, most: MOST_LEFT_NAMED } });
+}
+
+/**
  * @param {Comparison} compared
  * @param {() => void} again without the damaged ones
  */
@@ -121,10 +129,10 @@ function refusedScript({ left, tail }, again) {
     const others = left.filter(it => it.why !== 'damaged');
     if (others.length === 0 && !tail) {
         const count = blocksIn(damaged);
-        return notice('bad', told(texts.scriptNotWritten, { why: leftText(damaged, texts.theSecondImage, MOST_LEFT_NAMED) }),
+        return notice('bad', told(texts.scriptNotWritten, { why: leftText(damaged) }),
             texts.damageHidden, element('div', { class: 'row' }, button('', again, told(texts.leaveOut, { n: count }))));
     }
     const first = others.filter(it => it.why === others[0].why);
-    const why = tail ? texts.becauseTailsDiffer : leftText(first, texts.theSecondImage, MOST_LEFT_NAMED);
+    const why = tail ? texts.becauseTailsDiffer : leftText(first);
     return notice('bad', told(texts.scriptNotWritten, { why }), texts.useSecondItself);
 }

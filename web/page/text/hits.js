@@ -2,7 +2,8 @@
 
 import { MOST_PATCHES } from '../../core/module/index.js';
 import { linesMade } from '../../core/script/index.js';
-import { leftHitText, replaceHits } from '../../core/tasks/index.js';
+import { replaceHits } from '../../core/tasks/index.js';
+import { remarkText } from '../texts/index.js';
 
 /** @typedef {import('../../core/script/sector_lines.js').Lines} Lines */
 /** @typedef {import('../../core/tasks/engine.js').Engine} Engine */
@@ -28,5 +29,5 @@ export function textLines({ text }) {
  */
 export async function linesForAll(engine, opened, places, freshFor, watch) {
     const { script, left } = await replaceHits(engine, opened, { ...places, freshFor }, watch);
-    return { lines: script === null ? [] : linesMade(script), left: left.map(leftHitText) };
+    return { lines: script === null ? [] : linesMade(script), left: left.map(facts => remarkText({ code: 'replace/hit-left', facts })) };
 }

@@ -3,7 +3,7 @@
 import { USER_SIZE } from '../../core/module/index.js';
 import { contextOf, contextsOf, filesWith, shownCell } from '../../core/texts/index.js';
 import * as texts from '../texts/index.js';
-import { told } from '../texts/index.js';
+import { remarkText, told } from '../texts/index.js';
 import { button, copyButton, element, fill, keyed, oneStop, seen, shownPaths, term } from '../ui/index.js';
 import { chosenEncoding, signOf } from './encodings.js';
 
@@ -124,7 +124,7 @@ export class HitsCard {
         const { before, hit, after, doubt } = context;
         const parts = [element('em', {}, shownCharacters(before.slice(-CHARACTERS_BEFORE))), element('mark', {}, shownCharacters([...hit])),
             element('em', {}, shownCharacters(after.slice(0, CHARACTERS_AFTER)))];
-        return [element('span', { class: 'ctx' }, ...parts), doubt !== '' && element('span', { class: 'tag warn' }, doubt)];
+        return [element('span', { class: 'ctx' }, ...parts), doubt !== null && element('span', { class: 'tag warn' }, remarkText(doubt))];
     }
 
     /**

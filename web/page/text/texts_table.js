@@ -1,15 +1,14 @@
 // All texts of the disc as a table: it is saved for a translator, and from one with new texts lines of the script are made.
 
 import { SEARCHED, encodingOf, usualBytes } from '../../core/encodings/index.js';
-import { Fault } from '../../core/faults.js';
 import { linesMade } from '../../core/script/index.js';
-import { exportTable, importTable, leftRowText } from '../../core/tasks/index.js';
-import { leftCodeText } from '../../core/texts/index.js';
+import { exportTable, importTable } from '../../core/tasks/index.js';
+import { ownFault } from '../../sentences/index.js';
 import { mergeOf } from '../app/index.js';
 import { fileReader } from '../open/index.js';
 import { downloadBytes } from '../save/index.js';
 import * as texts from '../texts/index.js';
-import { say, told } from '../texts/index.js';
+import { remarkText, say, told } from '../texts/index.js';
 import { announce, button, capital, element, fill, isCancelled, jobBar, messageParts, nameOf, notice, runAt } from '../ui/index.js';
 import { showFailure, shownText, tableCard } from '../ui/index.js';
 import { AroundCard, readAround } from './around_card.js';
@@ -30,7 +29,7 @@ const MOST_CODES = 20;
 
 /** @param {LeftCode} code that new texts leave out */
 function codeWords(code) {
-    return `${capital(leftCodeText(code))}.`;
+    return `${capital(remarkText({ code: 'list/code-left', facts: code }))}.`;
 }
 
 /**
@@ -153,7 +152,7 @@ export class TextsTable {
             const options = { list: { name: file.name, reader: fileReader(file) }, encodings, isAsked, partial: true,
                 isAlso: (/** @type {ListRow} */ row) => isWritten(app, row) };
             const made = await importTable(app, image.opened, options, { signal, progress: bar.things });
-            if (made.script !== null && made.script.long) throw new Fault(texts.scriptLongerThanTaken);
+            if (made.script !== null && made.script.long) throw ownFault(texts.scriptLongerThanTaken);
             const come = made.script === null ? [] : linesMade(made.script);
             const merge = made.script === null ? null : await mergeOf(app.script, come, signal);
             if (app.image !== image) return null;
@@ -207,25 +206,24 @@ export class TextsTable {
         if (left.length === 0) return;
         const names = [texts.columnRow, texts.columnPlace, texts.columnText, texts.columnWhyNot];
         const head = element('tr', {}, ...names.map(name => element('th', { scope: 'col' }, name)));
-        const shown = left.slice(0, MOST_ROWS).map(it => this.leftRow(image, it.text, it.why));
+        const shown = left.slice(0, MOST_ROWS).map(it => this.leftRow(image, it));
         const more = left.length > MOST_ROWS ? `${told(texts.moreRowsCopied, { n: left.length - MOST_ROWS })} ` : '';
         fill(this.left, tableCard(told(texts.rowsDoNotFit, { n: left.length }), head, shown,
-            left.map(it => `${leftRowText(it)}\n`).join(''), more + texts.pressRow));
+            left.map(facts => `${remarkText({ code: 'list/row-left', facts })}\n`).join(''), more + texts.pressRow));
     }
 
     /**
      * @param {Image} image
-     * @param {ListRow} row
-     * @param {string} why
+     * @param {LeftRow} left
      */
-    leftRow(image, row, why) {
+    leftRow(image, { text: row, why }) {
         const { number, block, offset, text, fresh } = row;
         const open = element('button', { type: 'button', class: 'fold' }, number);
         const place = element('td', { class: 'nowrap', 'data-l': texts.placeLabel }, block < 0 ? '–' : `${block}, ${offset}`);
         // A press on the button comes up to the row.
         return element('tr', { click: () => void this.showPlace(image, row) }, element('td', {}, open), place,
             element('td', { class: 'mono small wide' }, shownText(text), ' → ', shownText(fresh)),
-            element('td', { class: 'wide' }, shownText(why)));
+            element('td', { class: 'wide' }, shownText(remarkText(why))));
     }
 
     /**

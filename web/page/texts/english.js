@@ -4,6 +4,9 @@
 
 export const LANGUAGE = 'en-GB';
 
+/** Of failures and remarks of the core. */
+export { ENGLISH as sentences } from '../../sentences/index.js';
+
 // ---- everywhere
 
 // buttons

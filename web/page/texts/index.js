@@ -1,4 +1,4 @@
 // The texts of the page, in the language that it speaks, and how names and numbers get into them.
 
 export * from './english.js';
-export { counted, say, told } from './say.js';
+export { counted, remarkText, say, told } from './say.js';

@@ -1,6 +1,7 @@
 // Putting names, numbers and parts of the page into the texts of the page.
 
-import { LANGUAGE } from './english.js';
+import { sentenceOf } from '../../sentences/index.js';
+import { LANGUAGE, sentences } from './english.js';
 
 /** @typedef {import('../ui/fill.js').Child} Child */
 /**
@@ -72,4 +73,12 @@ export function say(text, ...given) {
  */
 export function told(text, ...given) {
     return say(text, .../** @type {any} */ (given)).join('');
+}
+
+/**
+ * What is said of a failure or a remark of the core.
+ * @param {import('../../core/facts.js').Remark} remark
+ */
+export function remarkText(remark) {
+    return sentenceOf(remark, sentences);
 }

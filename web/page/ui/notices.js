@@ -1,8 +1,8 @@
 // What the page says of files and failures: first what it is, then what to do.
 
-import { FAULT, failedBy } from '../../core/faults.js';
+import { Fault, failedBy } from '../../core/faults.js';
 import * as texts from '../texts/index.js';
-import { say, told } from '../texts/index.js';
+import { remarkText, say, told } from '../texts/index.js';
 import { copyButton } from './copying.js';
 import { button, byId, element } from './dom.js';
 import { fill } from './fill.js';
@@ -123,7 +123,7 @@ export function endMessages() {
  * @param {string} [rest]
  */
 export function showFailure(error, rest = '') {
-    if (failedBy(error, FAULT.MISSING_FILES)) {
+    if (failedBy(error, 'missing-files')) {
         const { sheet = '', names = [] } = error.facts;
         return showNotice('bad', say(texts.alsoNeeds, { sheet: nameOf(sheet), names: namesOf(names) }), texts.openAllTogether);
     }
@@ -137,13 +137,13 @@ const MOST_MESSAGE = 1000;
 
 /** @param {unknown} error */
 function errorWords(error) {
-    const message = error instanceof Error ? error.message : String(error);
-    if (failedBy(error, FAULT.MISSING_FILES)) {
+    if (failedBy(error, 'missing-files')) {
         const { sheet = '', names = [] } = error.facts;
         return `${told(texts.alsoNeeds, { sheet, names: names.join(', ') })} ${texts.openAllTogether}`;
     }
-    if (failedBy(error, FAULT.IMAGE_ENDED)) return texts.fileIsShorter;
-    if (failedBy(error, FAULT.NO_MEMORY)) return texts.noMemoryLeft;
+    if (failedBy(error, 'image-ended')) return texts.fileIsShorter;
+    if (failedBy(error, 'no-memory')) return texts.noMemoryLeft;
+    const message = error instanceof Fault ? remarkText(error) : error instanceof Error ? error.message : String(error);
     return message.length > MOST_MESSAGE ? `${message.slice(0, MOST_MESSAGE)}…` : message;
 }
 
@@ -176,7 +176,7 @@ export function sentence(error) {
 
 /** @param {unknown} error */
 export function isCancelled(error) {
-    return failedBy(error, FAULT.CANCELLED);
+    return failedBy(error, 'cancelled');
 }
 
 /**

@@ -1,0 +1,27 @@
+// What is said of failures and remarks of the core, where it is more than a text with facts in it.
+
+import assert from 'node:assert/strict';
+import { test } from 'node:test';
+import { page } from './page.mjs';
+
+const { blocksText, sentenceOf } = await page('../sentences/index.js');
+
+test('blocks of runs in words', () => {
+    const runs = [{ first: 3, last: 3 }, { first: 5, last: 6 }, { first: 9, last: 20 }];
+    assert.deepEqual([1, 2, 3].map(count => blocksText(runs.slice(0, count))), ['block 3', 'blocks 3 and 5 to 6', 'blocks 3, 5 to 6 and 9 to 20']);
+    assert.equal(blocksText(runs.slice(1, 2)), 'blocks 5 to 6');
+    assert.deepEqual([1, 2, 3].map(most => blocksText(runs, most)), ['blocks 3 and 14 more', 'blocks 3, 5 to 6 and 12 more', 'blocks 3, 5 to 6 and 9 to 20']);
+});
+
+test('a code that new texts leave out is named with the first rows', () => {
+    const said = facts => sentenceOf({ code: 'list/code-left', facts });
+    assert.equal(said({ code: '0D', count: 1, rows: 1, first: [2] }), 'new texts leave out {0D} once: row 2');
+    assert.equal(said({ code: '0A', count: 8, rows: 8, first: [2, 3, 4, 5, 6] }), 'new texts leave out {0A} 8 times: rows 2, 3, 4, 5, 6, and 3 more');
+});
+
+test('a remark among the facts of another is said in the same language', () => {
+    const row = { code: 'list/row-left', facts: { text: { number: 3 }, why: { code: 'list/overlaps', facts: { row: 2 } } } };
+    assert.equal(sentenceOf(row), 'row 3: it overlaps the text of row 2');
+    const others = { 'list/row-left': ({ why }, said) => `<${said(why)}>`, 'list/overlaps': ({ row: number }) => String(number) };
+    assert.equal(sentenceOf(row, others), '<2>');
+});

@@ -1,0 +1,86 @@
+// What is known of each failure and remark of the core, by its code. A failure is thrown, and a remark is returned. Their sentences are in
+// `web/sentences`. Most codes begin with a subject and a slash.
+
+/** Where the fact is a text, it is of the user's files: a name, a path, or a word. */
+export interface Facts {
+    cancelled: {};
+    'no-memory': {};
+    /** The image ends at this byte. */
+    'image-ended': { at: number };
+    /** A hand cannot read what it is lent. */
+    unread: {};
+
+    disc: { sentence: string };
+    'missing-files': { sentence: string; found: string; names: string[]; sheet: string };
+    volume: { sentence: string };
+    text: { sentence: string; at: number };
+
+    // Scripts. `line` of `refused` is the program's own.
+    'script/refused': { line: string; tooLong: boolean };
+    'script/other-base': { line: number; base: number; begins: number };
+    'script/conflict': {};
+    'script/too-large': { most: number };
+    'script/wrong-sector': { block: number };
+    /** Sectors of an image that no script makes, all for one reason; and how many runs of them are named. */
+    'script/left': { runs: LeftRun[]; image: string; most?: number };
+
+    // Texts that are looked for, and where they stand.
+    'find/empty': {};
+    'find/nothing': {};
+    /** The byte before a text that may begin in the middle of a character. */
+    'find/inside': { before: number };
+    'no-file': { path: string };
+
+    // Bytes that others replace. An old size is in bytes, and so is a room.
+    'replace/other-size': { fresh: number; old: number };
+    'replace/filler': { missing: number; filler: Uint8Array };
+    'replace/no-room': { name: string; size: number; room: number };
+    'replace/no-bytes': {};
+    'replace/no-offset': { last: number };
+    'replace/no-block': { first: number; last: number };
+    'replace/other-bytes': { block: number; offset: number };
+    'replace/damaged': { block: number };
+    'replace/not-mode1': { block: number };
+    'replace/overlaps': {};
+    'replace/hit-left': { text: { block: number; offset: number }; why: Remark };
+
+    // Files that others replace.
+    'replace/own-block': { path: string; block: number; kind: 'descriptor' | 'directory' | 'path table' };
+    'replace/udf': { path: string };
+    'replace/shared-length': { path: string; other: string };
+    'replace/shared-blocks': { path: string; other: string };
+    /** The room is null if the file keeps its length. */
+    'replace/long-file': { path: string; size: number; room: number | null; wanted: number };
+
+    // Lists of texts.
+    'list/too-large': { name: string; size: number; most: number };
+    'list/too-many-cells': { row: number; most: number };
+    'list/too-many-rows': { most: number };
+    'list/no-column': { row: number; columns: string[] };
+    'list/column-twice': { row: number; column: string };
+    'list/no-new-text': {};
+    'list/no-place': {};
+    /** The row to which a cell in quotes runs on. */
+    'list/cell-runs-on': { row: number };
+    'list/overlaps': { row: number };
+    'list/long-text': { most: number };
+    'list/no-space': { name: string };
+    'list/other-text': {};
+    'list/new-text-there': {};
+    'list/formula': { cell: string };
+    'list/no-code': { code: string };
+    'list/row-left': { text: { number: number }; why: Remark };
+    /** How often new texts leave out a code, in how many rows, and the numbers of the first of them. */
+    'list/code-left': { code: string; count: number; rows: number; first: number[] };
+}
+
+/** Blocks from the first to the last, why no script makes them, and their kinds if that is why. */
+export type LeftRun = { first: number; last: number; why: 'damaged' | 'kind' | 'address'; kinds: number[] };
+
+export type Code = keyof Facts;
+/** What codes begin with. */
+export type Subject = Code extends infer Name ? (Name extends `${infer First}/${string}` ? First : never) : never;
+/** The codes that are named, and those of subjects that are named. */
+export type CodesOf<Wanted extends Code | Subject> = Extract<Code, Wanted | `${Wanted}/${string}`>;
+
+export type Remark<Name extends Code = Code> = { [Each in Name]: { code: Each; facts: Facts[Each] } }[Name];

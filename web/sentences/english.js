@@ -1,0 +1,87 @@
+// What is said in English of the failures and remarks of the core, by their codes. A translation is another such table.
+
+import { hexText } from '../core/hex_digits.js';
+import { kindName } from '../core/module/index.js';
+import { blocksText } from './blocks.js';
+
+/** @typedef {import('../core/facts.js').Facts} Facts */
+
+/** @param {Facts['script/left']} left */
+function leftClause({ runs, image, most }) {
+    const blocks = blocksText(runs, most);
+    if (runs[0].why === 'damaged') return `${image} is damaged in ${blocks}`;
+    if (runs[0].why === 'address') return `no script can name the address of ${blocks} in ${image}`;
+    return `${[...new Set(runs.flatMap(run => run.kinds))].map(kindName).join(' and ')} in ${blocks}, and a script changes only mode1`;
+}
+
+/** @param {Facts['list/code-left']} left */
+function leftCode({ code, count, rows, first }) {
+    const often = count === 1 ? 'once' : `${count} times`;
+    const named = [...first, ...rows > first.length ? [`and ${rows - first.length} more`] : []];
+    return `new texts leave out {${code}} ${often}: ${rows === 1 ? 'row' : 'rows'} ${named.join(', ')}`;
+}
+
+/** @param {Facts['replace/filler']} facts */
+function wrongFiller({ missing, filler }) {
+    const bytes = missing === 1 ? 'byte' : 'bytes';
+    return `cannot pad ${missing} ${bytes} with the ${filler.length}-byte filler ${hexText(filler, ' ')}; use --fill with one byte`;
+}
+
+/** @type {import('./door_facts.js').Sentences} */
+export const ENGLISH = {
+    cancelled: () => 'cancelled',
+    'no-memory': () => 'no memory',
+    'image-ended': ({ at }) => `the image ends at byte ${at}`,
+    unread: () => 'a worker cannot read the file',
+
+    'script/refused': ({ line }) => line,
+    'script/other-base': ({ line, base, begins }) =>
+        `line ${line} of the script says base ${base}, and the image begins with block ${begins} here`,
+    'script/conflict': () => 'the patches conflict, so no script is written',
+    'script/too-large': ({ most }) => `the script would have more than ${most} bytes: too much differs`,
+    'script/wrong-sector': ({ block }) => `the script for block ${block} would not give the right sector, so it is not written`,
+    'script/left': leftClause,
+
+    'find/empty': () => 'there is nothing to find in a text without characters',
+    'find/nothing': () => 'the text is not found',
+    'find/inside': ({ before }) => `perhaps in the middle of a character (byte before: ${hexText(Uint8Array.of(before))})`,
+    'no-file': ({ path }) => `there is no file ${path}`,
+
+    'replace/other-size': ({ fresh, old }) => `the new bytes are ${fresh}, the old ones ${old}`,
+    'replace/filler': wrongFiller,
+    'replace/no-room': ({ name, size, room }) =>
+        `the new text has ${size} bytes in ${name}, and there is room for ${room}: ${size - room} too many`,
+    'replace/no-bytes': () => 'there are no old bytes',
+    'replace/no-offset': ({ last }) => `an offset is 0 to ${last}`,
+    'replace/no-block': ({ first, last }) => `the image has the blocks ${first} to ${last}`,
+    'replace/other-bytes': ({ block, offset }) => `old bytes differ at block ${block} offset ${offset}`,
+    'replace/damaged': ({ block }) => `block ${block} is damaged: repair it first`,
+    'replace/not-mode1': ({ block }) => `block ${block} is not Mode 1`,
+    'replace/overlaps': () => 'it overlaps the one before it',
+    'replace/hit-left': ({ text: { block, offset }, why }, said) => `block ${block} offset ${offset}: ${said(why)}`,
+
+    'replace/own-block': ({ path, block, kind }) => `${path} has block ${block}, which has a ${kind} of the volume: that is not replaced`,
+    'replace/udf': ({ path }) => `${path} would have its old length in the UDF that the disc has too: --fill keeps the length`,
+    'replace/shared-length': ({ path, other }) => `${path} can have no other length: ${other} has some of its blocks`,
+    'replace/shared-blocks': ({ path, other }) => `${other} has blocks of ${path} too, and changes with it`,
+    'replace/long-file': ({ path, size, room, wanted }) =>
+        `${path} has ${size} bytes${room === null ? '' : ` and room for ${room}`}, the new file ${wanted}`,
+
+    'list/too-large': ({ name, size, most }) => `${name} has ${size} bytes, and a list at most ${most}`,
+    'list/too-many-cells': ({ row, most }) => `row ${row} of the table has more than ${most} cells`,
+    'list/too-many-rows': ({ most }) => `more than ${most} rows of the list have a new text`,
+    'list/no-column': ({ row, columns }) => `row ${row} of the list names no column ${columns.join(', ')}`,
+    'list/column-twice': ({ row, column }) => `row ${row} of the list names two columns ${column}`,
+    'list/no-new-text': () => 'no row of the list has a new text',
+    'list/no-place': () => 'block and offset are no numbers',
+    'list/cell-runs-on': ({ row }) => `a cell in quotes runs on to row ${row}, which has a place of its own`,
+    'list/overlaps': ({ row }) => `it overlaps the text of row ${row}`,
+    'list/long-text': ({ most }) => `a text has more than ${most} characters`,
+    'list/no-space': ({ name }) => `${name} has no space to fill up with`,
+    'list/other-text': () => 'the old text does not stand there',
+    'list/new-text-there': () => 'the new text stands there already',
+    'list/formula': ({ cell }) => `a spreadsheet wrote ${cell} in place of a formula: write the text, with {3D} for =`,
+    'list/no-code': ({ code }) => `${code} is not a code, which is two digits 0 to F for each byte; a brace is {7B}`,
+    'list/row-left': ({ text: { number }, why }, said) => `row ${number}: ${said(why)}`,
+    'list/code-left': leftCode,
+};

@@ -1,0 +1,29 @@
+// What is said of failures and remarks.
+
+import { Fault } from '../core/faults.js';
+import { ENGLISH } from './english.js';
+
+/** @typedef {import('../core/facts.js').Facts} Facts */
+/** @typedef {import('../core/facts.js').Remark} Remark */
+/** @typedef {import('./door_facts.js').Sentences} Sentences */
+
+/**
+ * A failure with a sentence of the door's own.
+ * @param {string} sentence
+ * @param {Omit<Facts['own'], 'sentence'>} [facts]
+ */
+export function ownFault(sentence, facts = {}) {
+    return new Fault('own', { ...facts, sentence });
+}
+
+/**
+ * What is said of a failure or a remark.
+ * @param {Remark | Fault} remark
+ * @param {Sentences} [sentences] those of another language
+ * @returns {string}
+ */
+export function sentenceOf({ code, facts }, sentences = ENGLISH) {
+    if ('sentence' in facts) return facts.sentence;
+    const said = (/** @type {Remark} */ other) => sentenceOf(other, sentences);
+    return /** @type {Record<string, (facts: any, said: (remark: Remark) => string) => string>} */ (sentences)[code](facts, said);
+}
