@@ -4,31 +4,14 @@ import assert from 'node:assert/strict';
 import { test } from 'node:test';
 import { localCrew } from '../core/crews.mjs';
 import { TEXT, openedDisc } from '../core/opened.mjs';
+import { withDocument } from './document.mjs';
 import { calls, core, page } from './page.mjs';
 
 const { findText } = await core('tasks/find.js');
 const { encodingOf } = await core('encodings/encodings.js');
 
-/** As much of a document as the bar of a job draws on. */
-class Part {
-    constructor() {
-        this.childNodes = [];
-        this.style = {};
-    }
-
-    get firstChild() { return this.childNodes[0] ?? null; }
-    append(...parts) { this.childNodes.push(...parts); }
-    insertBefore(part) { this.childNodes.push(part); }
-    removeChild(part) { this.childNodes = this.childNodes.filter(it => it !== part); }
-    addEventListener() {}
-    removeAttribute() {}
-    setAttribute() {}
-}
-
 test('the page finds what the task finds, in the order of the files', async t => {
-    const document = { createElement: () => new Part(), createTextNode: () => new Part(), activeElement: null };
-    Object.assign(globalThis, { Node: Part, document });
-    t.after(() => ['Node', 'document'].forEach(name => delete globalThis[name]));
+    withDocument(t);
     const { SearchJob } = await page('text/search_job.js');
     const { opened } = await openedDisc();
     const app = { calls, crew: localCrew(), runOnImage: job => job({ aborted: false }, () => {}) };
