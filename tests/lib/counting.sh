@@ -1,4 +1,4 @@
-# How tests that run as processes are counted: by their last lines, 'N passed, M failed'.
+# Adds up the counts of test scripts, whose last lines are 'N passed, M failed'.
 
 passed=0
 failed=0
@@ -6,8 +6,8 @@ skipped=()
 left_out=()
 unsteady=()
 
-# count FILE STATUS: adds the count in the last line of what a command has printed. One that ended without a count, or with a
-# status that its count belies, is one more failure. `counted` is then what was counted.
+# count FILE STATUS: adds the count in the last line of a command's output. A command without a count, or with a status other than 0 and no
+# failure, counts as a failure. `counted` is the count, for messages.
 count() {
     local line wrong=1
     counted='no count'
@@ -33,7 +33,7 @@ count() {
     [ "$wrong" = 0 ]
 }
 
-# What was skipped, with its number, and the counts; whether nothing failed.
+# Prints what was skipped, and the counts. Fails if a test failed.
 finish_counts() {
     local separator=': ' name
     printf '%d skipped' "${#skipped[@]}"
@@ -46,7 +46,7 @@ finish_counts() {
     [ "$failed" = 0 ]
 }
 
-# spent FILE: the processor seconds of all that a shell has waited for, of what its `times` printed.
+# spent FILE: prints the processor seconds of all children of a shell, from the output of its `times`.
 spent() {
     awk 'NR == 2 { for (i = 1; i <= NF; i++) { split($i, part, /[ms]/); sum += part[1] * 60 + part[2] } } END { print int(sum) }' "$1"
 }

@@ -1,6 +1,6 @@
 #!/usr/bin/env bash
-# What the tests of the program as a process share. They source it with the program as the argument, and end with `finish`,
-# whose last line is 'N passed, M failed'. Each runs in a directory of its own, which is gone afterwards.
+# Functions for test scripts. A script sources this file with the program as the argument, and ends with `finish`, whose last line is
+# 'N passed, M failed'. It runs in a directory of its own, which is removed at the end.
 set -u
 tests=$(cd "$(dirname "${BASH_SOURCE[0]}")/.." && pwd)
 top=$(dirname "$tests")
@@ -9,36 +9,36 @@ vectors=$top/crates/cd_low_tests/data/cdrkit-8.bin
 . "$tests/lib/judging.sh"
 cd "$scratch" || exit 1
 
-# The numbers for JavaScript and Python, of the header, if it has changed since `make`.
+# Generates the numbers of the header for JavaScript and Python again, since the header may have changed since `make`.
 fresh_numbers() { ! command -v python3 > /dev/null || python3 -B "$top/tools/header_numbers.py"; }
 
-# without_module WHAT: whether there is no WebAssembly module; then what it was wanted for is skipped.
+# without_module WHAT: whether there is no WebAssembly module. If so, records that WHAT is skipped.
 without_module() {
     [ ! -f "$top/library/cdpatch.wasm" ] && skip "$1, whose module tools/wasm.sh makes with wasm-opt (Debian's package binaryen)"
 }
 
-# holds COMMAND.., refuses COMMAND..: whether a command succeeds, and says why if not; whether it fails.
+# holds COMMAND..: whether a command succeeds; prints the end of its output if not. refuses COMMAND..: whether a command fails.
 holds() { { "$@" > log; } 2>> log || { tail -n 5 log; false; }; }
 refuses() { ! { "$@" > log; } 2> errors; }
 
-# some_fail COMMAND..: whether some of its cases fail, and others pass.
+# some_fail COMMAND..: whether some cases of a command fail and others pass.
 some_fail() { refuses "$@" && tail -n 1 log | grep -qE '^[1-9][0-9]* passed, [1-9][0-9]* failed$'; }
 
-# by_cases WORD.., by_random WORD..: the worked cases by clients that these words name, and random ones by one (tests/cases/clients.py): as
-# many as RANDOM_CASES says, or 100, and in the gate 300, of the seed SEED.
+# by_cases WORD..: runs the worked cases on clients, which these words name (tests/cases/clients.py). by_random WORD..: runs random cases on
+# one client: RANDOM_CASES of them, by default 100, or 300 in the gate, from the seed SEED.
 random_cases=${RANDOM_CASES:-${WRONG_VERSIONS:+300}}
 random_cases=${random_cases:-100}
 by_cases() { bash "$tests/cases/run" model --without-model "$@"; }
 by_random() { TMPDIR=$PWD bash "$tests/model/run" --cases "$random_cases" --seed "${SEED:-1}" "$@"; }
 
-# compiled NAME PURPOSE: whether a library of the C source of this name could be made, as NAME.so; else its purpose is skipped.
+# compiled NAME PURPOSE: compiles tests/process/NAME.c to NAME.so. If there is no compiler, records that PURPOSE is skipped, and fails.
 compiled() {
     gcc -shared -fPIC -O2 -o "$1.so" "$tests/process/$1.c" -ldl 2> compiler_errors ||
         skip "$2, which wants gcc and the C library's headers (Debian's packages gcc and libc6-dev)"
     [ -e "$1.so" ]
 }
 
-# judge_tap NAME: judges each test of which node wrote a line to `tap`, and says how many were skipped, and for want of what.
+# judge_tap NAME: counts each test that node reported in `tap`, and records how many were skipped, and which command they need.
 judge_tap() {
     local line count lacking
     while IFS= read -r line; do
@@ -56,7 +56,7 @@ judge_tap() {
     done < <(sed -nE 's/^ *ok .* # SKIP no (.*)/\1/p' tap | sort | uniq -c)
 }
 
-# test_by_name WHAT WORD..: runs node's tests with these words, and judges each by its name.
+# test_by_name WHAT WORD..: runs node's tests with these words, and counts each of them.
 test_by_name() {
     judge "all tests of $1" tests_in_node "${@:2}"
     judge_tap "$1"
@@ -65,8 +65,9 @@ test_by_name() {
 
 tests_in_node() { node --test-reporter=tap "$@" > tap 2>&1; }
 
-# refuse_wrong SUITE WHAT EXPRESSION: tries the wrong versions of a suite, all with WRONG_VERSIONS=all, and else those that are new or
-# changed and a fifth of the others. sed's expression makes the names of the tests that pass on the right version from the names of what held.
+# refuse_wrong SUITE WHAT EXPRESSION: tries the wrong versions of a suite: all of them with WRONG_VERSIONS=all, otherwise those that are new
+# or changed, and a fifth of the others. EXPRESSION is a sed command that converts the lines of `held` to the names of the tests that pass on
+# the right version.
 refuse_wrong() {
     local verdict name why has_ended=false which=()
     wrong_versions "wrong versions of the $2" || return
@@ -90,41 +91,41 @@ refuse_wrong() {
     judge "the wrong ${2}s were tried to the end" "$has_ended"
 }
 
-# run WORD..: the program with these words, its text in `log`.
+# run WORD..: runs the program with these arguments. Its output is in `log` and `errors`, its status in `status`.
 run() {
     "$program" "$@" > log 2> errors < /dev/null
     status=$?
 }
 
-# ended STATUS TEXT: whether the last run had this status, wrote just this text, said nothing on standard error, and left the
-# image and the script as they were.
+# ended STATUS TEXT: whether the last run had this status, printed exactly this text, nothing on standard error, and did not change the image
+# or the script.
 ended() {
     printf '%b' "$2" > wanted
     [ "$status" = "$1" ] && cmp -s wanted log && [ ! -s errors ] && cmp -s image image.kept && cmp -s script script.kept
 }
 
-# A run ended so, and there is no file `out`.
+# ended_without_output STATUS TEXT: the same, and that there is no file `out`.
 ended_without_output() {
     ended "$1" "$2" && [ ! -e out ] && [ ! -L out ]
 }
 
-# keep: what stands in `image` and `script` is what they have to keep.
+# keep: copies `image` and `script`, with which `ended` compares them.
 keep() {
     cp image image.kept
     cp script script.kept
 }
 
-# cut_vectors: the eight sectors that other software wrote, as `sector.0` to `sector.7`.
+# cut_vectors: writes the eight sectors that other software encoded to `sector.0` to `sector.7`.
 cut_vectors() {
     split -b 2352 -a 1 -d "$vectors" sector.
 }
 
-# joined NUMBER..: these sectors, one after the other.
+# joined NUMBER..: prints these sectors, concatenated.
 joined() {
     cat "${@/#/sector.}"
 }
 
-# The bytes of the standard input as hex digits.
+# hex: prints the bytes of the standard input as hex digits.
 hex() {
     od -An -v -tx1 | tr -d ' \n'
 }
@@ -136,23 +137,23 @@ within() {
 
 # ---- a large image: three buffers of 28 sectors, and a tail
 
-# Its sectors are those that other software wrote, over and over, and ten that are blank. Its patches make each of the others
-# another one of the eight: they give it that one's address and user data. So the right bytes are known without the program.
+# Its sectors are repetitions of the eight that other software encoded, and ten blank ones. Its patches give each sector that is not blank the
+# address and the user data of a different one of the eight, so the right bytes are known without the program.
 blocks=84
 blank_from=40
 blank_to=49
 
-# Which of the eight sectors stands at a block, and which is there afterwards; `blank` for both where it is blank.
+# old_at BLOCK, new_at BLOCK: which of the eight sectors a block has before and after the patches, or `blank`.
 old_at() { if is_blank "$1"; then echo blank; else echo $(($1 % 8)); fi; }
 new_at() { if is_blank "$1"; then echo blank; else echo $(((5 * $1 + 3) % 8)); fi; }
 is_blank() { (($1 >= blank_from && $1 <= blank_to)); }
 
-# list_text TAIL: what a list of the large image says, with a tail of so many bytes.
+# list_text TAIL: prints the list of the large image, with a tail of TAIL bytes.
 list_text() {
     printf '0-39 mode1\n40-49 nosync\n50-83 mode1\nsectors 84 tail %d\n' "$1"
 }
 
-# audit_text TAIL: what an audit says. The sectors have the addresses of the blocks 0 to 7.
+# audit_text TAIL: prints its audit. The sectors have the addresses of the blocks 0 to 7.
 audit_text() {
     local block
     for ((block = 8; block < blocks; block++)); do
@@ -161,8 +162,7 @@ audit_text() {
     printf 'sectors 84 mode1 74 damaged 0 tail %d\n' "$1"
 }
 
-# Two patches for each block that is not blank, from the last block down, so that they are taken in another order than they
-# stand in.
+# Prints two patches for each block that is not blank, from the last block down, so that they are applied in a different order.
 large_script() {
     local block new
     echo 'cdpatch 2'
@@ -174,7 +174,7 @@ large_script() {
     done
 }
 
-# What is printed for these patches.
+# Prints the log of these patches.
 large_log() {
     local block line=$((2 * 74))
     for ((block = 0; block < blocks; block++)); do
@@ -185,7 +185,7 @@ large_log() {
     echo 'applied 148 refused 0'
 }
 
-# Makes the files that the large image is joined from, its script and its texts: `large.script`, `large.log`.
+# Writes the sectors of the large image, its script `large.script`, and its log `large.log`.
 prepare_large() {
     local number block
     cut_vectors
@@ -205,7 +205,7 @@ prepare_large() {
     large_log > large.log
 }
 
-# make_large TAIL: makes `image`, `patched`, `list.log` and `audit.log` of the large image with a tail of so many bytes.
+# make_large TAIL: writes `image`, `patched`, `list.log`, and `audit.log` for the large image with a tail of TAIL bytes.
 make_large() {
     head -c "$1" sector.tail > sector.end
     joined "${old[@]}" end > image

@@ -1,4 +1,4 @@
-# What all tests that run as processes share: a scratch directory, which is gone afterwards, and the counts.
+# Gives a test script a scratch directory, which is removed at the end, and counts its tests.
 
 scratch=$(mktemp -d)
 trap 'rm -rf "$scratch"' EXIT
@@ -6,14 +6,14 @@ passed=0
 failed=0
 skipped=()
 
-# limit NAME: the number that ends a row of the man page's table of limits.
+# limit NAME: prints the number of a row in the man page's table of limits.
 limit() {
     sed -n "/^\.Sh LIMITS/,/^\.El/{/^\.It $1\$/{n;s/.* //;p}}" "$top/man/cdpatch.1"
 }
 
 . "$top/tests/lib/messages.sh"
 
-# judge NAME CONDITION..: counts whether a condition holds. `held` has the names of those that do.
+# judge NAME CONDITION..: counts a test that passes if a command succeeds. `held` lists the names of those that passed.
 judge() {
     local name=$1
     shift
@@ -33,7 +33,7 @@ await_processor() {
     done
 }
 
-# Counts what could not be tested here, and says so; it fails if WHOLE is set.
+# skip WHAT: records that WHAT could not be tested here, or counts a failure if WHOLE is set.
 skip() {
     if [ -n "${WHOLE-}" ]; then
         judge "$1" false
@@ -43,19 +43,19 @@ skip() {
     fi
 }
 
-# missing COMMAND PACKAGE [NAME]: whether there is no such command; then what it was wanted for is skipped.
+# missing COMMAND PACKAGE [WHAT]: whether a command is missing. If so, records that WHAT is skipped.
 missing() {
     command -v "$1" > /dev/null && return 1
     skip "${3-a part}, which wants $1 (Debian's package $2)"
 }
 
-# wrong_versions WHICH: whether the wrong versions of what is tested are to be tried, which test the tests: only if WRONG_VERSIONS is
-# set. Else it says that these are left out.
+# wrong_versions WHICH: whether wrong versions are to be tried, that is, whether WRONG_VERSIONS is set. If not, records that they are left
+# out.
 wrong_versions() {
     [ -n "${WRONG_VERSIONS-}" ] || ! echo "left out: $1"
 }
 
-# Prints the counts, and returns whether nothing failed.
+# Prints the counts, and fails if a test failed.
 finish() {
     [ ${#skipped[@]} = 0 ] || echo "${#skipped[@]} skipped"
     echo "$passed passed, $failed failed"

@@ -1,8 +1,8 @@
-"""Tries small changes that nobody wrote: `mutants.py [--count N] [--seed S] [SUITE..]` takes so many at random, of web/core by core, of
-web/command by cdscript, and of python/cdpatch by python, and runs the tests that reach the changed place, the shortest first; for what no
-test of the core reaches those of the page in node and of cdscript. It prints 'survived FILE:LINE: OLD -> NEW' if none fails, and
-'unreached ..' if none comes there; the last line counts. It is run by hand before a release: each survivor gets a test, or makes the same
-program. `page` takes changes of web/page, and only counts those that no test in node reaches, which want a browser."""
+"""Tries random small changes: `mutants.py [--count N] [--seed S] [SUITE..]` selects N changes of web/core (suite core), web/command (cdscript),
+and python/cdpatch (python), and runs the tests that reach each change, the fastest first. A change of web/core that no test of the core
+reaches is tried by the page's tests in node, then by those of cdscript. It prints 'survived FILE:LINE: OLD -> NEW' if no test fails, and
+'unreached ..' if no test reaches the change. The last line has the counts. Run it before a release: each survivor needs a test, unless the
+program does the same. `page` selects changes of web/page. Those that no test in node reaches are only counted, since they need a browser."""
 
 import argparse
 import ast
@@ -27,18 +27,18 @@ from versions import MODULE, NOTICES, TESTS, copied, in_cases, spent
 
 SOURCES = {'core': 'web/core', 'page': 'web/page', 'cdscript': 'web/command', 'python': 'python/cdpatch'}
 USUAL = ['core', 'cdscript', 'python']
-# Whose tests are run next of what is in the core, if none of a suite's reaches it.
+# The suite that tries a change of the core next, if no test of this suite reaches it.
 NEXT = {'core': 'page', 'page': 'cdscript'}
-# Seconds of a processor after which a file of tests has failed, and so many times what it takes of the right version.
+# A test file has failed after LONGEST processor seconds, plus TIMES what the right version takes.
 LONGEST = 10
 TIMES = 3
-# What is said of tests that were not measured.
+# The assumed processor seconds of tests that were not measured.
 UNKNOWN = 30
-# Seconds after which tests have failed that wait for what does not come.
+# Seconds after which tests that wait have failed.
 LONGEST_WAIT = 600
-# What tools make, of the header and of other programs: a change there is no mistake that somebody writes.
+# Generated files, which nobody edits.
 MADE = ('numbers.js', '_numbers.py', 'pairs.js', 'frequencies.js')
-# What tells the tests of a suite where the version is that they try; and where that is, but for cdscript, which is joined.
+# The environment variable that names the version under test, and where a suite's version is; that of cdscript is packed.
 TOLD = {'core': 'CORE', 'cdscript': 'COMMAND', 'page': 'WEB'}
 PLACES = {'core': 'web/core', 'page': 'web'}
 PYTHON = '/usr/bin/python3'
@@ -67,7 +67,7 @@ def of_javascript(suite: str) -> Iterator[Mutant]:
 
 
 def changes_at(node: ast.AST, text: str) -> Iterator[tuple[ast.expr, str]]:
-    """What may stand for an expression of Python instead."""
+    """Replacements for an expression in Python."""
     def source(it: ast.expr) -> str:
         return ast.get_source_segment(text, it) or ''
     if isinstance(node, ast.Compare) and len(node.ops) == 1:
@@ -97,7 +97,7 @@ def of_python(suite: str) -> Iterator[Mutant]:
 
 
 def run_test(words: list[str], room: Path, seconds: float, **more: str) -> bool:
-    """Whether tests pass, in a time that is long enough, if the right version takes so many seconds of a processor."""
+    """Whether tests pass in time. `seconds` is the processor time of the right version."""
     def limit() -> None:
         most = LONGEST + math.ceil(TIMES * seconds)
         resource.setrlimit(resource.RLIMIT_CPU, (most, most + 5))
@@ -119,7 +119,7 @@ def run_file(file: Path, room: Path, seconds: float, **more: str) -> bool:
 
 @dataclass
 class Reached:
-    """A file of tests, its seconds of a processor, and of each source which of its units of UTF-16 run, a byte each."""
+    """A test file, its processor seconds, and for each source a byte for each UTF-16 unit: whether it runs."""
     file: Path
     seconds: float
     sources: dict[str, bytes]
@@ -129,7 +129,7 @@ class Reached:
 
 
 def ran_in(functions: list[dict[str, Any]]) -> bytes:
-    """Which units of a source a process has run. Of the ranges that have a unit the narrowest says it."""
+    """Which units of a source a process has run. The narrowest range that contains a unit decides."""
     ranges: list[tuple[int, int, int]] = [(it['startOffset'], it['endOffset'], min(it['count'], 1))
                                           for function in functions for it in function['ranges']]
     ran = bytearray(max(end for _, end, _ in ranges))
@@ -139,7 +139,7 @@ def ran_in(functions: list[dict[str, Any]]) -> bytes:
 
 
 def measured(given: tuple[Path, str, Path]) -> Reached:
-    """What a file of tests runs of a version, in all its processes and threads."""
+    """Measures which code a test file runs, in all its processes and threads."""
     file, suite, path = given
     with tempfile.TemporaryDirectory(prefix='mutant-') as room:
         before = spent()
@@ -157,7 +157,7 @@ def measured(given: tuple[Path, str, Path]) -> Reached:
 
 
 TESTED: dict[str, list[Reached]] = {}
-# The right version, as its tests load it.
+# The right version, which the tests load.
 RIGHT = Path()
 PROCESSES = len(os.sched_getaffinity(0))
 
@@ -170,7 +170,7 @@ def changed(mutant: Mutant, root: Path) -> None:
 
 
 def joined(web: Path, command: Path) -> Path:
-    """cdscript, joined of a web."""
+    """Packs cdscript from a copy of web/."""
     import pack
     command.write_text(str(pack.packed_door('command', web, MODULE, NOTICES)))
     command.chmod(0o755)
@@ -178,12 +178,12 @@ def joined(web: Path, command: Path) -> Path:
 
 
 def first_other(right: Path, wrong: Path) -> int:
-    """How many units of UTF-16 two joined files have in common."""
+    """The length in UTF-16 units of the common prefix of two packed files."""
     return len(os.path.commonprefix([right.read_text(), wrong.read_text()]).encode('utf-16-le')) // 2
 
 
 def outcome(mutant: Mutant, room: Path) -> str:
-    """What becomes of a mutant: whether a test fails, and if none does, whether one comes to the changed place."""
+    """Tries a mutant: 'killed' if a test fails, 'survived' if tests reach the change and pass, or 'unreached'."""
     if mutant.suite == 'python':
         changed(mutant, copied(TOP / 'python', None, room / 'python'))
         return 'survived' if python_passes(room) else 'killed'
@@ -197,7 +197,7 @@ def outcome(mutant: Mutant, room: Path) -> str:
     reached = [it for it in TESTED[mutant.suite] if it.reaches(str(source), at)]
     if mutant.suite in PLACES and not reached:
         return 'unreached'
-    # What a process of cdscript runs that ends by a signal is not known.
+    # A process of cdscript that a signal ends reports no coverage, so all tests run if none reaches the change.
     if not passes(reached or TESTED[mutant.suite], room, mutant.suite, path):
         return 'killed'
     return 'survived' if reached else 'unreached'
@@ -210,7 +210,7 @@ def python_passes(room: Path) -> bool:
 
 
 def passes(tests: list[Reached], room: Path, client: str, path: Path) -> bool:
-    """Whether these files of tests pass, and random cases by a client that answers them."""
+    """Whether these test files and random cases pass. The page has no client for random cases."""
     return all(run_file(it.file, room, it.seconds, **{TOLD[client]: str(path)}) for it in tests) \
         and (client == 'page' or not in_cases('random cases', client, path, room))
 
@@ -226,7 +226,7 @@ def shown(mutant: Mutant) -> str:
 
 
 def right_passes(suite: str, place: Path) -> bool:
-    """Whether the right version passes what is tried of each mutant. What its files of tests run is kept."""
+    """Whether the right version passes. Keeps what each test file runs."""
     global RIGHT
     if suite == 'python':
         copied(TOP / 'python', None, place / 'python')
@@ -248,7 +248,7 @@ def tried_all(suite: str, mutants: list[Mutant]) -> Iterator[tuple[Mutant, str]]
 
 
 def main() -> int:
-    words = argparse.ArgumentParser(description='Tries small changes that nobody wrote.')
+    words = argparse.ArgumentParser(description='Tries random small changes.')
     words.add_argument('suites', nargs='*', metavar='SUITE', default=USUAL)
     words.add_argument('--count', type=int, default=300, metavar='N')
     words.add_argument('--seed', default='1', metavar='S')

@@ -1,5 +1,5 @@
-"""Tables of wrong versions and wrong bodies. A table is a file of blocks, each of which begins with a line `[NAME]`. refused.txt records which of
-them were refused, by the sum of what each depends on."""
+"""Reads tables of wrong versions and wrong bodies. A table consists of blocks, each of which begins with a line `[NAME]`. refused.txt records
+which blocks were refused, by a checksum of the block and of all that it depends on."""
 
 from __future__ import annotations
 
@@ -43,7 +43,7 @@ def blocks(table: Path) -> list[Block]:
 
 
 def sum_of(*parts: str | bytes) -> str:
-    """A short sum of some texts."""
+    """A short checksum of texts."""
     made = hashlib.sha256()
     for part in parts:
         data = part.encode() if isinstance(part, str) else part
@@ -52,29 +52,29 @@ def sum_of(*parts: str | bytes) -> str:
 
 
 def named(table: Path) -> str:
-    """A table's path below the top."""
+    """The path of a table relative to the top directory."""
     return str(table.relative_to(TOP))
 
 
 def is_in_fifth(seed: str, block: Block) -> bool:
-    """Whether a block is in the fifth that a seed selects."""
+    """Whether a block belongs to the fifth that a seed selects."""
     return int(sum_of(seed, named(block.table), block.name), 16) % 5 == 0
 
 
 def recorded() -> dict[str, set[str]]:
-    """The sums of each table in refused.txt."""
+    """The checksums of each table in refused.txt."""
     lines = RECORD.read_text(encoding='utf-8').splitlines() if RECORD.exists() else []
     return {words[0]: set(words[1:]) for words in (line.split() for line in lines) if words and words[0] != '#'}
 
 
 def needed(found: Iterable[tuple[Block, str]], seed: str) -> list[Block]:
-    """Of some blocks and their sums, those that refused.txt lacks and a fifth of the others."""
+    """The blocks that refused.txt lacks, and a fifth of the others. Each block comes with its checksum."""
     known = recorded()
     return [block for block, total in found if is_in_fifth(seed, block) or total not in known.get(named(block.table), ())]
 
 
 def record(refused: Iterable[tuple[Block, str]], tables: Iterable[Path]) -> None:
-    """Replaces what refused.txt says of some tables. Several suites may do so at once."""
+    """Replaces the rows of these tables in refused.txt. Several processes may do this at the same time."""
     lock = os.open(WRONG, os.O_RDONLY)
     fcntl.flock(lock, fcntl.LOCK_EX)
     sums = {name: known for name, known in recorded().items() if (TOP / name).exists()}
@@ -87,7 +87,8 @@ def record(refused: Iterable[tuple[Block, str]], tables: Iterable[Path]) -> None
 
 
 def main() -> None:
-    """`tables.py TABLE` prints the names of its blocks, `tables.py TABLE NAME` the text of one, and `tables.py TABLE --fifth SEED` a fifth."""
+    """`tables.py TABLE` prints the names of its blocks, `tables.py TABLE NAME` prints one block, and `tables.py TABLE --fifth SEED` prints the
+    names of the fifth that a seed selects."""
     found = blocks(Path(sys.argv[1]).resolve())
     if sys.argv[2:3] == ['--fifth']:
         found = [it for it in found if is_in_fifth(sys.argv[3], it)]

@@ -1,11 +1,11 @@
-"""Tries wrong versions: `versions.py SUITE [NAME..]` makes each wrong version of a suite, or those with these names, as many at a time as there
-are processors, and runs the one test that it names. It prints a line for each: 'refused NAME', 'skipped NAME: WHY', or 'wrong NAME: WHY'.
-`--passed FILE` lists the tests that pass on the right version, one a line; without it each test is first run on that.
+"""Tries wrong versions: `versions.py SUITE [NAME..]` builds the wrong versions of a suite, or those with these names, one for each processor at
+a time, and runs the test that each names. It prints a line for each: 'refused NAME', 'skipped NAME: WHY', or 'wrong NAME: WHY'. `--passed
+FILE` lists the tests that pass on the right version, one a line. Without it, each test first runs on the right version.
 
-The wrong versions of a file of tests are in the table beside it: `find.wrong` has those of `find.test.mjs`. Those that worked or random cases
-refuse are in `cases.wrong`. A block has the rows `test:`, the test that has to fail; `file:`, below the suite's sources; `old:`, a text that
-occurs there once; `new:`, its replacement; and, in `tools`, `in:`, the part of pack.sh that has the test. A text of several lines is as many
-rows. The tests find everything else that they need in the environment, as their suite's `run` gives it."""
+The wrong versions for `find.test.mjs` are in the table `find.wrong` in the same directory. Those that worked or random cases refuse are in
+`cases.wrong`. A block has these rows: `test:` is the test that must fail; `file:` is relative to the suite's sources; `old:` is a text that
+occurs there once; `new:` is its replacement; and, in `tools`, `in:` is the part of pack.sh that has the test. A text of several lines has a
+row for each. Tests get everything else from the environment, as their suite's `run` sets it."""
 
 import argparse
 import multiprocessing
@@ -31,23 +31,23 @@ sys.path[:0] = [str(TOP / 'tools'), str(TESTS / 'page')]
 for name, file in ('PROGRAM', 'cdpatch'), ('CDPATCH_PROGRAM', 'cdpatch'), ('CDPATCH_LIBRARY', 'library/libcdpatch.so.1'):
     os.environ.setdefault(name, str(TOP / file))
 
-# Seconds of a processor after which a test in node has failed: the right version has to take less.
+# After this many processor seconds, a test in node has failed. The right version must take less.
 LONGEST = 10
-# A test that fails in a browser waits most of the time.
+# Twice the processors, since a test that fails in a browser mostly waits.
 WINDOWS = 2 * (os.cpu_count() or 1)
-# Worked and random cases are tests of each client; these refuse a wrong one soon.
+# Worked and random cases are tests of each client. These words stop at the first case that fails.
 CASES = {'worked cases': ['cases/judge.py', 'model', '--without-model', '--first'],
          'random cases': ['model/compare.py', '--cases', '100', '--jobs', '1']}
-# A test that has to pass in each window after all wrong pages.
+# The test that must pass in each window after all wrong pages.
 LAST = 'text: no hit says what was searched'
 
 
 class Unfit(Exception):
-    """A wrong version that shows nothing: it can't be made, or its test does not run, or passes."""
+    """A wrong version that proves nothing: it cannot be built, or its test does not run, or passes."""
 
 
 class Skipped(Exception):
-    """A test wants what is not here."""
+    """A test needs a command that is missing."""
 
 
 @dataclass
@@ -79,7 +79,7 @@ def read_edit(block: Block) -> Edit:
 
 
 def change(root: Path, edit: Edit) -> None:
-    """Changes a copy of the sources. Its files may be links to the right ones, which stay as they are."""
+    """Applies an edit to a copy of the sources. Files of the copy may be hard links to the originals, which do not change."""
     file = root / edit.file
     if not file.is_file():
         raise Unfit(f'there is no {edit.file}')
@@ -98,7 +98,7 @@ def linked(source: str, copy: str) -> None:
 
 
 def copied(source: Path, edit: Edit | None, copy: Path) -> Path:
-    """A copy of a directory of sources, as an edit changes it."""
+    """Copies a directory of sources, and applies an edit to the copy."""
     shutil.copytree(source, copy, copy_function=linked)
     if edit:
         change(copy, edit)
@@ -106,7 +106,7 @@ def copied(source: Path, edit: Edit | None, copy: Path) -> Path:
 
 
 def in_node(file: Path, test: str, room: Path, **more: str) -> bool | None:
-    """Whether one test of a file of node's fails, or None if it takes too long."""
+    """Whether one test of a test file in node fails, or None if it takes too long."""
     pattern = re.sub(r'[\\.*+?^${}()|\[\]/]', r'\\\g<0>', test)
     done = subprocess.run(['node', '--test-reporter=tap', f'--test-name-pattern=^{pattern}$', str(file)], cwd=room, env={**os.environ, **more},
                           stdout=subprocess.PIPE, stderr=subprocess.STDOUT, stdin=subprocess.DEVNULL, check=False, preexec_fn=limit)
@@ -127,7 +127,7 @@ def limit() -> None:
 
 
 def tests_beside(table: Path) -> Path | None:
-    """The file of tests that a table is beside."""
+    """The test file that belongs to a table."""
     return next((file for file in map(table.with_suffix, ('.test.mjs', '.py', '.sh')) if file.exists()), None)
 
 
@@ -139,7 +139,7 @@ def tests_of(edit: Edit) -> Path:
 
 
 def in_cases(test: str, client: str, path: Path, room: Path) -> bool:
-    """Whether worked or random cases by a client of tests/cases/clients.py fail."""
+    """Whether worked or random cases fail on a client of tests/cases/clients.py."""
     words = CASES[test] + [f'--{client}', str(path)]
     return subprocess.run([sys.executable, '-B', str(TESTS / words[0]), *words[1:]], stdout=subprocess.DEVNULL, check=False,
                           env={**os.environ, 'TMPDIR': str(room)}).returncode != 0
@@ -176,12 +176,12 @@ def page(edit: Edit, wrong: Edit | None, room: Path) -> bool | None:
 
 
 def is_browsed(table: Path) -> bool:
-    """Whether the tests beside a table run in a browser."""
+    """Whether the tests that belong to a table run in a browser."""
     return table.match('page/test_*')
 
 
 def in_browser(test: str, made: Path) -> bool:
-    """Whether a test fails on a page, in the window of this process."""
+    """Whether a test fails on a page, in this process's browser window."""
     import single
     if test not in single.all_tests():
         raise Unfit(f'there is no test {test}')
@@ -192,7 +192,7 @@ def in_browser(test: str, made: Path) -> bool:
 
 
 class Seen:
-    """Sees which tests of pytest fail."""
+    """A plugin for pytest that records which tests fail."""
 
     def __init__(self) -> None:
         self.failed: dict[str, bool] = {}
@@ -203,7 +203,7 @@ class Seen:
 
 
 def python(edit: Edit, wrong: Edit | None, room: Path) -> bool | None:
-    """In a process of its own, which has loaded pytest. What it has loaded for the right package is loaded anew."""
+    """Runs in a separate process that has loaded pytest. Modules of the right package are loaded again."""
     import pytest
     for name, module in list(sys.modules.items()):
         if name.partition('.')[0] == 'cdpatch' or (getattr(module, '__file__', None) or '').startswith(str(TESTS / 'python')):
@@ -247,7 +247,7 @@ def judged(script: str, test: str, **more: str) -> bool:
 
 
 def targets(edit: Edit, wrong: Edit | None, room: Path) -> bool | None:
-    """Those of memory.c are compiled for Windows."""
+    """Wrong versions of memory.c are compiled for Windows."""
     system = 'arm64' if edit.file == 'linux.c' else 'windows'
     directory = copied(TOP / 'targets', wrong, room / 'targets')
     ran = subprocess.run(['python3', '-B', str(TESTS / 'targets/shims.py'), system, str(directory), edit.test], stdout=subprocess.PIPE, check=False)
@@ -258,7 +258,7 @@ def targets(edit: Edit, wrong: Edit | None, room: Path) -> bool | None:
 
 SUITES: dict[str, Callable[[Edit, Edit | None, Path], bool | None]] = {
     'core': core, 'cdscript': cdscript, 'page': page, 'python': python, 'targets': targets, 'tools': tools}
-# The directories of tests with a suite's tables, and its sources.
+# The directories with the tables of a suite, if they are not tests/SUITE, and its sources.
 TABLES = {'page': ('page', 'hostile')}
 SOURCES = {'core': 'web/core', 'cdscript': 'web', 'page': 'web', 'python': 'python/cdpatch', 'targets': 'targets', 'tools': '.'}
 
@@ -269,7 +269,7 @@ def failed(suite: str, edit: Edit, wrong: Edit | None) -> bool | None:
 
 
 def outcome(suite: str, block: Block, passed: set[str] | None) -> str:
-    """The line of a wrong version."""
+    """Tries a wrong version, and returns its line of output."""
     try:
         edit = read_edit(block)
         if passed is not None and edit.test not in passed:
@@ -279,20 +279,20 @@ def outcome(suite: str, block: Block, passed: set[str] | None) -> str:
         refused = failed(suite, edit, edit)
         if refused is None and failed(suite, edit, None) is None:
             raise Unfit(f'its test takes longer than {LONGEST} s on the right version too: {edit.test}')
-        # A busy browser may show a wrong page as if it were right, and be too slow for the right one.
+        # In a busy browser a wrong page can pass by chance, so it is tried once more.
         at_once = refused is not False
         if not at_once and not (is_browsed(edit.table) and failed(suite, edit, edit)):
             raise Unfit(f'its test passes: {edit.test}')
     except Skipped as why:
         return f'skipped {block.name}: {why}'
-    except (Exception, SystemExit) as why:  # what a process of a pool raises may make the pool wait for ever
+    except (Exception, SystemExit) as why:  # an exception in a process of a pool could make the pool wait forever
         name = '' if isinstance(why, Unfit) else f'{type(why).__name__}: '
         return ' '.join(f'wrong {block.name}: {name}{why}'.split())
     return f'refused {block.name}{"" if at_once else ": when it was tried once more"}'
 
 
 def spent() -> float:
-    """The seconds of a processor of this process and of those that it has waited for."""
+    """The processor seconds of this process and of its children that have ended."""
     return sum(it.ru_utime + it.ru_stime for it in map(resource.getrusage, (resource.RUSAGE_SELF, resource.RUSAGE_CHILDREN)))
 
 
@@ -302,7 +302,8 @@ def tried(given: tuple[str, Block, set[str] | None]) -> str:
 
 
 def tried_in_window(given: tuple[int, list[Block], set[str] | None]) -> str:
-    """The lines of wrong pages, one after the other in one window, in which the right page still has to pass after them."""
+    """Tries wrong pages one after the other in one window, and prints their lines. Returns the line of the window, in which the right page must
+    still pass at the end."""
     import chromium
     number, wrong, passed = given
     right = Edit('', '', '', '', LAST, '', TESTS / 'page/test_text.wrong')
@@ -322,9 +323,9 @@ TIMES = False
 
 
 def lines_of(suite: str, wrong: list[Block], passed: set[str] | None) -> Iterator[str]:
-    """The lines of all wrong versions, as they come."""
+    """The lines of all wrong versions, in the order in which they finish."""
     if suite == 'python':
-        # Once for all processes that are forked.
+        # Imported once, before the processes are forked.
         import hypothesis  # noqa: F401
         import pytest  # noqa: F401
     browsed = [block for block in wrong if is_browsed(block.table)]
@@ -350,14 +351,14 @@ def all_of(suite: str) -> list[Block]:
 
 
 def total(suite: str, block: Block) -> str:
-    """The sum of what a wrong version depends on: its block, the file that it changes, and the file of its test."""
+    """The checksum of a wrong version: of its block, the file that it changes, and its test file."""
     source = TOP / SOURCES[suite] / next((line[6:] for line in block.text.splitlines() if line.startswith('file: ')), '')
     tests = tests_beside(block.table)
     return sum_of(block.text, *(file.read_bytes() for file in (source, tests) if file and file.is_file()))
 
 
 def selected(suite: str, given: argparse.Namespace) -> list[Block]:
-    """The wrong versions that are to be tried."""
+    """The wrong versions to try."""
     wrong = all_of(suite)
     if missing := {*given.names} - {block.name for block in wrong}:
         sys.exit(f'versions.py: no wrong version has the name {min(missing)}')
