@@ -131,11 +131,15 @@ if [ -e "$tree/cdscript" ] && has 'the package for npm is' tsc node-typescript e
     name=$(bash tools/npm.sh library cdscript "$version" "$scratch")
     take "$scratch/$name"
 fi
-if [ -e windows/cdpatch.exe ] && has 'the archive and the wheel for Windows are' python3 python3; then
+if [ ! -e windows/cdpatch.exe ]; then
+    echo 'Nothing was built for Windows (make windows), so nothing is packed for it.' >&2
+elif has 'the archive and the wheel for Windows are' python3 python3; then
     windows_archive
     python_packages windows/cdpatch.dll wheel
 fi
-if [ -e arm64/cdpatch ]; then
+if [ ! -e arm64/cdpatch ]; then
+    echo 'Nothing was built for aarch64 (make arm64), so nothing is packed for it.' >&2
+else
     arm64=$scratch/cdpatch-$version-aarch64-linux
     arm64_tree
     archive "$arm64" "$arm64.tar.gz"

@@ -247,6 +247,8 @@ test_release() {
     mkdir -p made
     wanted 'make release makes what make dist makes' eval 'release release && [ -s made/cdpatch.html ] && (cd made && sha256sum --status -c ./*.sha256)'
     wanted 'what is not signed is said' grep -q '^Nothing was signed' log
+    wanted 'systems for which nothing was built are said' eval \
+        '{ [ -e made/cdpatch.html ] || release release; } && [ "$(grep "^Nothing was built" log | grep -o "(.*)" | paste -sd " ")" = "(make windows) (make arm64)" ]'
     wanted 'what is fit to be released has no warning' eval '! grep "^warning" log'
     wanted 'the address of the owner is in the package of the sources' eval \
         '{ [ -e made/cdpatch.html ] || release release; } && grep -q "^Maintainer: .* <a@localhost>$" made/cdpatch_*.dsc'
