@@ -45,7 +45,7 @@ in_stack() {
 
 test_stack_of_program() {
     local stated command
-    stated=$(sed -n 's/^The program takes at most \([0-9]*\) bytes of stack.*/\1/p' "$top/man/cdpatch.1")
+    stated=$(sed -n 's/^The program needs at most \([0-9]*\) bytes of stack.*/\1/p' "$top/man/cdpatch.1")
     judge 'cdpatch(1) states the stack of the program' test -n "$stated"
     cp "$vectors" damaged
     printf '\001' | dd of=damaged bs=1 seek=$((2352 + 2351)) conv=notrunc status=none
