@@ -318,11 +318,6 @@ class ForWindows(Program):
     name = 'the program for Windows'
     before = ('/usr/lib/wine/wine64',)
 
-    def ended(self, *given):
-        """A busy machine at times lets wine end with status 1 before it starts the program, which says something with that status."""
-        said = super().ended(*given)
-        return super().ended(*given) if said[:2] == (1, b'') else said
-
 
 class ForArm(Program):
     """The program for aarch64, under qemu."""
@@ -330,8 +325,8 @@ class ForArm(Program):
     before = ('qemu-aarch64', '-L', '/usr/aarch64-linux-gnu')
 
 
-CLIENTS = {'program': Program, 'windows': ForWindows, 'arm64': ForArm, 'library': Library, 'by-lines': ByLines, 'python': Python, 'module': Module, 'core': Core,
-           'cdscript': Command, 'cdscript-process': CommandProcess}
+CLIENTS = {'program': Program, 'windows': ForWindows, 'arm64': ForArm, 'library': Library, 'by-lines': ByLines, 'python': Python,
+           'module': Module, 'core': Core, 'cdscript': Command, 'cdscript-process': CommandProcess}
 
 
 def add_clients(words):
