@@ -1,5 +1,5 @@
-/* Lets a call of the shim for Windows fail, in the whole program: FAIL is its name, a space, and the number of the call. If it was made, there
-   is the file FAILED afterwards. */
+/* Lets a call of the shim for Windows fail, in the whole program: FAIL is its name, a space, and the number of the call, or 0 for each. If it
+   was made, there is the file FAILED afterwards. */
 #define WIN32_LEAN_AND_MEAN
 #include <stdio.h>
 #include <stdlib.h>
@@ -14,7 +14,7 @@ int fails(const char *call)
     char name[64];
     int number;
     const char *text = getenv("FAIL");
-    if (!text || sscanf(text, "%63s %d", name, &number) != 2 || strcmp(name, call) != 0 || ++calls != number)
+    if (!text || sscanf(text, "%63s %d", name, &number) != 2 || strcmp(name, call) != 0 || (number != 0 && ++calls != number))
         return 0;
     FILE *file = fopen("FAILED", "w");
     if (file)

@@ -7,6 +7,9 @@
 /* Whether the call of this name is to fail now, with what error. */
 int fails(const char *call);
 
+/* How many of these bytes a read or a write moves: one if it is to be short now. */
+#define MOVED(call, size) ((size) > 1 && fails(call) ? 1 : (size))
+
 /* A file is closed although that fails. */
 static BOOL closed(HANDLE file)
 {
@@ -22,7 +25,8 @@ static BOOL closed(HANDLE file)
 #define GetStdHandle(stream) (fails("GetStdHandle") ? INVALID_HANDLE_VALUE : GetStdHandle(stream))
 #define MultiByteToWideChar(...) (fails("MultiByteToWideChar") ? 0 : MultiByteToWideChar(__VA_ARGS__))
 #define ReadFile(file, bytes, size, count, more) \
-    (!fails("ReadFile") && (fails("a read of bytes") ? (*(count) = 0, TRUE) : ReadFile(file, bytes, size, count, more)))
+    (!fails("ReadFile") && (fails("a read of bytes") ? (*(count) = 0, TRUE) : ReadFile(file, bytes, MOVED("ShortRead", size), count, more)))
 #define WideCharToMultiByte(...) (fails("WideCharToMultiByte") ? 0 : WideCharToMultiByte(__VA_ARGS__))
-#define WriteFile(...) (!fails("WriteFile") && WriteFile(__VA_ARGS__))
+#define WriteFile(file, bytes, size, count, more) \
+    (!fails("WriteFile") && WriteFile(file, bytes, MOVED("ShortWrite", size), count, more))
 #endif

@@ -111,6 +111,7 @@ int64_t shim_write(int32_t descriptor, const void *bytes, int64_t size);
 int64_t __write(int32_t descriptor, const void *bytes, int64_t size);
 int32_t fdatasync(int32_t descriptor);
 int32_t shim_isatty(int32_t descriptor);
+int64_t __sysv_signal(int32_t signal, int64_t handler);
 const uint32_t *__x86_get_cpuid_feature_leaf(int32_t number);
 int fails(const char *call);
 int main(void);
@@ -270,6 +271,18 @@ static bool reads_pipes(void)
     return shim_read(0, buffer, 16) == 1 && buffer[0] == 'c' && shim_read(0, buffer, 16) == 0;
 }
 
+/* A read and a write return how many bytes were moved, which may be fewer than asked for. */
+static bool reports_short_calls(void)
+{
+    char bytes[2];
+    int32_t from = made("short") ? shim_open("short", READ) : -1, to = shim_open("shorter", NEW, 0666);
+    failing = "ShortRead";
+    if (shim_read(from, bytes, 2) != 1 || shim_read(from, bytes + 1, 1) != 1 || memcmp(bytes, BYTES, 2) != 0)
+        return false;
+    failing = "ShortWrite";
+    return shim_write(to, "ab", 2) == 1 && shim_write(to, "bc", 2) == 2;
+}
+
 enum { READS, WRITES, SYNCS, OPENS, DUPLICATES, CLOSES, CALLS };
 
 /* What a call answers, of which the call of Windows fails. */
@@ -305,11 +318,11 @@ static bool reports_failures(void)
     return true;
 }
 
-/* The standard output is a terminal here. */
+/* The standard output is a terminal here, which shows UTF-8. */
 static bool knows_consoles(void)
 {
     int32_t file = made("no_console") ? shim_open("no_console", READ) : -1;
-    return shim_isatty(1) == 1 && file >= 0 && !shim_isatty(file) && !shim_isatty(9);
+    return GetConsoleOutputCP() == CP_UTF8 && shim_isatty(1) == 1 && file >= 0 && !shim_isatty(file) && !shim_isatty(9);
 }
 
 static bool knows_the_processor(void)
@@ -325,7 +338,13 @@ static bool knows_the_processor(void)
 /* The text goes to the standard output, of which the test sees the bytes. */
 static bool writes_at_the_start(void)
 {
-    return __write(1, "12\n34", 5) == 5;
+    return __sysv_signal(13, 1) == 0 && __write(1, "12\n34", 5) == 5;
+}
+
+static bool ends_without_arguments(void)
+{
+    failing = "CommandLineToArgvW";
+    return main() == 2;
 }
 
 /* An argument that is not Unicode, which this gives to a process of the same program. */
@@ -362,8 +381,9 @@ static const struct { const char *name; bool (*holds)(void); } TESTS[] = {
 #ifdef _WIN32
     {"bytes", reads_and_writes}, {"existing_files", keeps_files}, {"flags", opens_only_what_it_says}, {"devices", refuses_devices},
     {"long_names", opens_long_names}, {"directories", opens_directories}, {"numbers", numbers_files}, {"duplicates", duplicates},
-    {"pipes", reads_pipes}, {"failures", reports_failures}, {"consoles", knows_consoles}, {"processor", knows_the_processor},
-    {"start", writes_at_the_start}, {"unpaired", marks_other_arguments}, {"closed_streams", has_no_closed_stream},
+    {"pipes", reads_pipes}, {"short", reports_short_calls}, {"failures", reports_failures}, {"consoles", knows_consoles},
+    {"processor", knows_the_processor}, {"start", writes_at_the_start}, {"unpaired", marks_other_arguments},
+    {"closed_streams", has_no_closed_stream}, {"no_arguments", ends_without_arguments},
 #endif
 };
 
