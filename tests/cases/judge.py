@@ -10,6 +10,7 @@ from clients import Model, Program, add_clients, clients_of
 from forms import SIZE, Answer, worked_lines
 
 SHOWN = 300  # so many characters of a text
+SOME = 16  # about so many questions of a line with --some
 
 
 def short(text):
@@ -66,6 +67,11 @@ def failures(judge, lines, only_first=False):
     return count, wrong
 
 
+def some(line):
+    """A line with some of its questions. The step is odd, since `check` and `apply` may alternate."""
+    return line._replace(questions=line.questions[::len(line.questions) // SOME | 1])
+
+
 def size(line):
     """How much a line gives to those whom it asks, about: 10,000 bytes for each call."""
     return sum(10_000 + sum(len(given) for given in question.given if isinstance(given, bytes)) for question in line.questions)
@@ -77,6 +83,7 @@ def judges_named():
     words.add_argument('asked', help="the program, or 'model' for only the model and the clients that options name")
     words.add_argument('files', nargs='*', help='files of cases; all if there are none')
     words.add_argument('--without-model', action='store_true', help='does not ask the model')
+    words.add_argument('--some', action='store_true', help=f'asks about {SOME} questions of a line that stands for more')
     words.add_argument('--first', action='store_true', help='ends at the first failure, the shortest lines first')
     add_clients(words)
     given = words.parse_intermixed_args()
@@ -88,7 +95,7 @@ def judges_named():
 def main():
     """The judges one after the other, and the counts."""
     judges, given = judges_named()
-    lines = list(worked_lines(given.files or None))
+    lines = [some(line) if given.some else line for line in worked_lines(given.files or None)]
     if given.first:
         lines.sort(key=size)
     passed, failed = 0, 0
