@@ -250,9 +250,10 @@ def targets(edit: Edit, wrong: Edit | None, room: Path) -> bool | None:
     """Wrong versions of memory.c are compiled for Windows."""
     system = 'arm64' if edit.file == 'linux.c' else 'windows'
     directory = copied(TOP / 'targets', wrong, room / 'targets')
-    ran = subprocess.run(['python3', '-B', str(TESTS / 'targets/shims.py'), system, str(directory), edit.test], stdout=subprocess.PIPE, check=False)
+    ran = subprocess.run(['python3', '-B', str(TESTS / 'targets/shims.py'), system, str(directory), edit.test], stdout=subprocess.PIPE,
+                         stderr=subprocess.PIPE, check=False)
     if ran.stdout.decode().split()[1:] != [edit.test]:
-        raise Unfit('its test did not run')
+        raise Unfit(f'its test did not run: {ran.stderr.decode(errors="replace")[-300:]}')
     return ran.returncode != 0
 
 
