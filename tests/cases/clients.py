@@ -1,4 +1,4 @@
-"""Who answers worked and random cases: the model, and clients of the calls, each in a coat of the same form."""
+"""The model and the clients that answer worked and random cases, each behind the same interface, called a coat."""
 
 import ctypes
 import importlib

@@ -1,5 +1,5 @@
-/* Rounds of one call of libcdpatch, for a count of instructions: `bench ROW ROUNDS`; without arguments it names the rows. `bench stack`
- * prints of each row its call, and how many bytes of stack one round takes. */
+/* Makes one call of libcdpatch many times, to count instructions: `bench ROW ROUNDS`. Without arguments it lists the rows. `bench stack`
+ * prints for each row its call, and how many bytes of stack one round needs. */
 #define _DEFAULT_SOURCE
 /* It measures calls, and does not look at their results. */
 #define CDPATCH_NODISCARD

@@ -1,5 +1,5 @@
-"""The commands of the program as a client makes them that has neither calls on whole images nor memory for one: by the calls of a
-shared library of libcdpatch on lines, patches, sectors and lines of the log."""
+"""The commands of the program, by a client that does not use the calls for whole images: it calls a shared libcdpatch for lines, patches,
+sectors, and lines of the log."""
 
 import ctypes
 from functools import lru_cache

@@ -1,5 +1,5 @@
-/* The calls of libcdpatch from C: `check SAMPLES`, a file of consistent sectors of other encoders. Prints what fails, and returns
- * whether nothing does. Each call is made on memory that ends, and on memory that begins, where no byte may be read or written. */
+/* Tests the calls of libcdpatch for sectors: `check SAMPLES`, where SAMPLES has consistent sectors of other encoders. Prints each failure.
+ * The status is 0 if there is none. Each call gets memory directly before, and directly after, pages that cannot be accessed. */
 #define _DEFAULT_SOURCE
 #include "fenced.h"
 

@@ -1,5 +1,5 @@
-/* SHA-1 as libcdpatch gives it: the examples of FIPS 180, in pieces of each size, on memory that ends, and on memory that begins,
- * where no byte may be read or written. Prints what fails, and returns whether nothing does. */
+/* Tests SHA-1 of libcdpatch with the examples of FIPS 180, in pieces of each size, in memory directly before, and directly after, pages that
+ * cannot be accessed. Prints each failure. The status is 0 if there is none. */
 #define _DEFAULT_SOURCE
 #include "fenced.h"
 

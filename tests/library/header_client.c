@@ -1,5 +1,5 @@
-/* The client that cdpatch.h prints, as tests/library/clients.sh puts it into client.inc: `header_client SCRIPT < IMAGE > OUT` is a program
- * of it, and `header_client` tries it on files that fail at each of many bytes. */
+/* Compiles the client that is printed in cdpatch.h, which tests/library/clients.sh copies to client.inc. `header_client SCRIPT < IMAGE > OUT`
+ * runs it. `header_client` tests it on files that fail at each of many bytes. */
 #ifndef _GNU_SOURCE
 #define _GNU_SOURCE
 #endif

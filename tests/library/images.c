@@ -1,7 +1,7 @@
-/* The calls of libcdpatch on images, from C: `images SAMPLES [long]`, a file of consistent sectors of the blocks from 0; with
- * `long` also on an image and a script that are too long. Prints what fails, and returns whether nothing does. What a call reads
- * and writes lies in memory that ends, and in memory that begins, where no byte may be read or written. Compiled with REFUSES, and linked
- * so that the library's calls of malloc, realloc and free go to `__wrap_malloc` and so on, it refuses memory too. */
+/* Tests the calls of libcdpatch for images: `images SAMPLES [long]`, where SAMPLES has consistent sectors of the blocks from 0 on; with
+ * `long` also with an image and a script that are too long. Prints each failure. The status is 0 if there is none. Arguments are in memory
+ * directly before, and directly after, pages that cannot be accessed. Compiled with REFUSES, and linked so that the library's calls of
+ * malloc, realloc, and free go to `__wrap_malloc` and so on, it also tests refused memory. */
 #define _DEFAULT_SOURCE
 #include "fenced.h"
 

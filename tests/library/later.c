@@ -1,5 +1,5 @@
-/* A later libcdpatch: a script may also begin with `cdpatch 9`, a language with the verbs of version 2. It calls this library's
- * cdpatch_read_line as right_read_line. */
+/* Imitates a later libcdpatch, in which a script may also begin with `cdpatch 9`, a language with the verbs of version 2. It calls this
+ * library's cdpatch_read_line as right_read_line. */
 #include <cdpatch.h>
 #include <string.h>
 

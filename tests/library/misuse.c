@@ -1,5 +1,5 @@
-/* Wrong calls of libcdpatch, of which a compiler can warn: each is compiled with its name defined. Without a name only right calls are
- * left, of which it must not warn. */
+/* Wrong calls of libcdpatch that a compiler must warn about: each is compiled with its name defined. Without a name only right calls are left,
+ * about which it must not warn. */
 #include <cdpatch.h>
 
 uint8_t sector[CDPATCH_SECTOR_SIZE], user[CDPATCH_USER_SIZE], address[3], columns[86], diagonals[52], text[CDPATCH_LINE_SIZE];

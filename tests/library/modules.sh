@@ -1,5 +1,5 @@
-# The calls of the builds and of the WebAssembly modules against each other, null pointers in the modules, and their page. tests/library/run
-# has what these functions use.
+# Compares the calls of the builds and of the WebAssembly modules, passes null pointers to the modules, and tests their page. tests/library/run
+# sources this file.
 
 random_calls=20000
 

@@ -1,5 +1,5 @@
-// A null pointer for no bytes, in each call of a module that takes bytes and their size: `node nulls.mjs MODULE`. Prints what differs
-// from the same call with a pointer to no bytes.
+// Passes a null pointer and size 0 to each call of a module that accepts bytes and their size: `node nulls.mjs MODULE`. Prints differences
+// from the same call with a valid pointer and size 0.
 
 import { Calls, Room, Size } from '../modules/calls.mjs';
 

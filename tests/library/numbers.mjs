@@ -1,4 +1,4 @@
-// `numbers.mjs NUMBERS` prints a program in C that compiles if cdpatch.h has the numbers and the structs of a module of numbers in JavaScript.
+// `numbers.mjs NUMBERS` prints a C program that compiles only if cdpatch.h has the numbers and structs of the JavaScript module NUMBERS.
 
 import { pathToFileURL } from 'node:url';
 

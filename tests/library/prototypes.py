@@ -1,5 +1,5 @@
-"""The header against the exports of the source: `prototypes.py HEADER SOURCE..`. Prints what differs, and which declaration has no
-comment that Doxygen reads."""
+"""Compares the header with the exports of the sources: `prototypes.py HEADER SOURCE..`. Prints differences, and declarations without a comment
+for Doxygen."""
 
 import re
 import sys

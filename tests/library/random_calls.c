@@ -1,6 +1,6 @@
-/* Random calls of libcdpatch: `random_calls SEED COUNT` writes each as a record: what it was given, what it returned and what it left. The
- * same seed makes the same calls, so two builds give the same bytes, and replay.mjs makes the calls again by a module. A null pointer
- * stands for no bytes in half of the cases.
+/* Makes random calls of libcdpatch: `random_calls SEED COUNT` writes a record for each, with the arguments, the result, and the bytes that it
+ * left. The same seed makes the same calls, so two builds must give the same bytes, and replay.mjs repeats the calls on a module. An
+ * argument without bytes is a null pointer in half of the cases.
  *
  * A record is the name of the call and a zero; the number of its arguments in a byte; each of them, one letter first: `n` and a number, `s`
  * and a size, of 8 bytes; `z` for a null pointer; `i` and a size of 4 bytes and bytes that are only read; `r`, a size, the bytes before

@@ -1,5 +1,5 @@
-// Makes the calls that random_calls.c has recorded again by a module: `replay.mjs MODULE < RECORDS`. Prints the first that differ, and how
-// many of each call were made; those that the module has not are passed over.
+// Repeats the calls that random_calls.c has recorded on a module: `replay.mjs MODULE < RECORDS`. Prints the first differences, and how often
+// each call was made. Calls that the module does not export are skipped.
 
 import { Calls, Room, Size } from '../modules/calls.mjs';
 import { Input } from '../lib/input.mjs';

@@ -1,8 +1,7 @@
-/* Cases for runs of the WebAssembly modules: `run_cases COUNT LONG SEED PROGRAM`, of which so many have images of about 1000000 sectors.
- * Of each it prints a line of JSON, and then image, script, log and new image. The log and the status are the program's, the new image is that of
- * cdpatch_apply, and it fails if the two differ. Of a long image, which is blank but for some sectors, only these are printed, and
- * the new ones are those of a run of this library. One case in four is run without old bytes: the program then has a script that names
- * none. */
+/* Prints COUNT random cases for the WebAssembly modules: `run_cases COUNT LONG SEED PROGRAM`. LONG of them have images of about 1000000
+ * sectors. A case is a line of JSON, followed by image, script, log, and new image. Log and status are those of PROGRAM, and the new image is
+ * that of cdpatch_apply; if they disagree, run_cases fails. A long image is blank except for some sectors: only these are printed, and the
+ * new ones are those of a run of this library. One case in four runs without old bytes: the script for PROGRAM then has none. */
 #include "some_cases.h"
 #include <fcntl.h>
 #include <sys/wait.h>

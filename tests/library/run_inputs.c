@@ -1,6 +1,6 @@
-/* What the two calls of a run do with any bytes: `run_inputs COUNT [SEED]`. Each byte of a state changed in turn, entries in any order
- * and with any bytes, hands of 0 to 3 sectors, any sizes, a script that changes between the calls, any `done`, and eight threads. A run
- * ends, with a status of at most 2, and nothing is written outside what was lent: memory ends where no byte may be written. */
+/* Tests the two calls of a run with arbitrary bytes: `run_inputs COUNT [SEED]`. It changes each byte of a state, the order and the bytes of the
+ * entries, the size of the hand (0 to 3 sectors), other sizes, the script between calls, and `done`, also in eight threads. Each run must
+ * end with a status of at most 2, and write nothing outside its arguments, which are directly before pages that cannot be accessed. */
 #include "runs.h"
 #include <pthread.h>
 

@@ -1,5 +1,5 @@
-/* Runs of patches by the two calls, against cdpatch_apply: `runs COUNT [SEED]`. Random scripts and images, by a client of a pipe and by
- * one that knows the size; the state is copied between calls, and what the client may write in the hand and the rooms is. */
+/* Compares runs of patches by the two calls with cdpatch_apply: `runs COUNT [SEED]`. Random scripts and images, with a client that reads a pipe
+ * and one that knows the size. Between calls the state is copied, and all bytes of the hand and the rooms that a client may write change. */
 #include "runs.h"
 
 /* Other bytes where a run does not look: in the rooms, the step, and in the hand after the bytes in use. */

@@ -1,7 +1,7 @@
-/* The calls of libcdpatch on lines, patches and sectors in hand, from C: `scripts SAMPLES [long]`, a file of consistent sectors of
- * the blocks from 0; with `long` also on a line as long as a script. Prints what fails, and returns whether nothing does. What a
- * call reads and writes lies in memory that ends, and in memory that begins, where no byte may be read or written. What it must not write
- * is filled before, and compared after. */
+/* Tests the calls of libcdpatch for lines, patches, and sectors in the hand: `scripts SAMPLES [long]`, where SAMPLES has consistent sectors of
+ * the blocks from 0 on; with `long` also with a line that is as long as the longest script. Prints each failure. The status is 0 if there is
+ * none. Arguments are in memory directly before, and directly after, pages that cannot be accessed. Bytes that a call must not write are
+ * filled before, and compared after. */
 #define _DEFAULT_SOURCE
 #include "fenced.h"
 

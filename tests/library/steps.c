@@ -1,5 +1,6 @@
-/* The steps of 10,400 random runs, as 1.3.0 made them: a client of that release meets no other step, line, status or byte. Their digest was
- * made by its library. Who changes the cases of some_cases.h first sees that this passes, and then takes the digest that it prints. */
+/* Compares the steps of 10,400 random runs with those of 1.3.0: a client of that release gets the same steps, lines, statuses, and bytes. The
+ * digest below was made with its library. Before you change the cases of some_cases.h, see that this passes. Then copy the digest that it
+ * prints. */
 #include "some_cases.h"
 
 static const uint64_t DIGEST_OF_1_3_0 = 0xB6C42191505C165D;

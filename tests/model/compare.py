@@ -1,5 +1,5 @@
-"""Random cases by the model and by one client, byte for byte: `run PROGRAM [--cases N] [--seed S]`, or `run --library FILE` or another of
-the clients, which are those of worked cases."""
+"""Compares the model with one client on random cases, byte for byte: `run PROGRAM [--cases N] [--seed S]`, or `run --library FILE`, or another
+client of the worked cases."""
 
 import argparse
 import fcntl

@@ -1,4 +1,4 @@
-// What a client makes of the calls that take no memory: the four commands on an image.
+// A client that builds the four commands on an image from the calls that allocate no memory.
 
 import { KEPT, Lent, Room, Size, UNWRITTEN, same } from './calls.mjs';
 import { sameByRuns } from './run.mjs';

@@ -1,5 +1,5 @@
-// What a client makes of a script and an image by the two calls of a run. What these are lent stands in the module's memory from the
-// first call to the last.
+// A client that applies a script to an image by the two calls of a run. Their arguments stay in the module's memory from the first call to the
+// last.
 
 import { Lent, same } from './calls.mjs';
 

@@ -1,5 +1,5 @@
-// Runs of a module on the cases that tests/library/run_cases.c prints: `node runs.mjs MODULE < CASES`. Prints the first that differ, and
-// how many cases there were.
+// Runs a module on the cases that tests/library/run_cases.c prints: `node runs.mjs MODULE < CASES`. Prints the first differences, and the number
+// of cases.
 
 import { Calls } from './calls.mjs';
 import { Input } from '../lib/input.mjs';

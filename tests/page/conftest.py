@@ -1,5 +1,5 @@
-"""How pytest runs the tests of the page: it chooses them by the names that people read, gives a rerun a new window, and ends with a line for
-each test, which tests/page/run counts: 'ok NAME', 'not ok NAME', 'skipped NAME, which REASON', and 'unsteady NAME' if only a rerun passed."""
+"""Configures pytest for the tests of the page: selects them by their readable names, opens a new window for a rerun, and at the end prints a line
+for each test, which tests/page/run counts: 'ok NAME', 'not ok NAME', 'skipped NAME, which REASON', or 'unsteady NAME' if only a rerun passed."""
 
 from collections.abc import Iterator
 from typing import Any

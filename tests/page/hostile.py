@@ -1,5 +1,5 @@
-"""Hostile patchers and pages, made anew each time: their heads, their containers, their scripts, what stands after them, and pages that are
-no patchers. `python3 hostile.py chromium|firefox|webkit` opens each of them, gives each of them to the genuine page, and prints figures."""
+"""Generates hostile patchers and pages: heads, containers, scripts, text after the end, and pages that are not patchers. `python3 hostile.py
+chromium|firefox|webkit` opens each of them, gives each of them to the genuine page, and prints figures."""
 
 import base64
 import gzip
