@@ -1,4 +1,4 @@
-"""The calls, contracts and definitions of the crates, as they stand in the sources."""
+"""Reads the calls, contracts, and definitions of the crates from the sources."""
 
 import re
 from collections.abc import Iterator

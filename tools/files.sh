@@ -1,7 +1,7 @@
 #!/bin/sh
-# `tools/files.sh install`, `uninstall`, or `copy DIRECTORY` does this with the files of dist.list, in the directory that has it. The rest
-# comes from the environment, as install.mk sets it: the places, DESTDIR, VERSION, and LEAVE_OUT, the parts of pages that are left out.
-# PACKAGE limits it to a package of Debian.
+# `tools/files.sh install`, `uninstall`, or `copy DIRECTORY` installs, removes, or copies the files of dist.list, relative to its directory.
+# install.mk sets the environment: the directories, DESTDIR, VERSION, and LEAVE_OUT, the parts of pages to leave out. PACKAGE limits the
+# command to the files of one Debian package.
 set -eu
 umask 022
 room=$(mktemp -d)

@@ -1,6 +1,6 @@
 #!/usr/bin/env bash
-# `tools/fit.sh VERSION` prints why what `make` left is unfit to be released as a version, a reason in each line, and has status 1 if there
-# is one. A page or a cdscript is fit if these sources make just its bytes, by the tools of tools/versions.txt.
+# `tools/fit.sh VERSION` prints each reason why the files that `make` built cannot be released as VERSION, and has status 1 if there is one. For
+# example, the page and cdscript must be byte for byte what these sources give with the tools of tools/versions.txt.
 set -u
 version=$1
 cd "$(dirname "$0")/.." || exit 1

@@ -1,4 +1,4 @@
-"""Makes web/core/texts/frequencies.js, of how often characters stand in Japanese man pages: `frequencies.py DIRECTORY..`.
+"""Generates web/core/texts/frequencies.js, which says how often characters occur in Japanese man pages: `frequencies.py DIRECTORY..`.
 
 It was made of those of Debian 12, of the packages manpages-ja, dpkg, apt, man-db, passwd, login and vim-common, whose licences are free. It has counts,
 and none of their words: of each character log2(65536 * its share), from 0 bits up; and of kinds of characters, in quarter bits,

@@ -1,6 +1,6 @@
 #!/usr/bin/env python3
-"""Makes what man pages repeat of include/cdpatch.h: `header_pages.py make` makes it anew, and `check` prints which pages differ. With a
-DIRECTORY as the next word it does so in that tree.
+"""Copies parts of include/cdpatch.h to the man pages: `header_pages.py make` updates them, and `check` prints which pages differ. A DIRECTORY
+as the next argument names another tree.
 
 In a page a part is between marks, such as `made: declarations` and `end of declarations`, which has the defines, enums, and structs of
 the header. `made: prototypes` has its calls, `made: calls` their comments, and `made: rules` the header's own comment without its first

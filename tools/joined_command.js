@@ -1,4 +1,4 @@
-// What esbuild gives the command as JOINED. tools/pack.py puts the files where they are found.
+// The object JOINED that esbuild gives the command. tools/pack.py puts the files where these imports find them.
 
 import module from '../module.gz';
 import notices from '../notices.gz';

@@ -1,4 +1,5 @@
-// What esbuild gives the page as JOINED. tools/pack.py puts the files where they are found. A worker has no script to start others with.
+// The object JOINED that esbuild gives the page. tools/pack.py puts the files where these imports find them. In a worker `script` is empty,
+// since it starts no others.
 
 import module from '../module.gz';
 import notices from '../notices.gz';

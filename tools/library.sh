@@ -1,7 +1,7 @@
 #!/usr/bin/env bash
-# `tools/library.sh DIRECTORY` makes libcdpatch from what tools/prove.py has built of the crates of tools/library_crates.sh: in DIRECTORY
-# libcdpatch.a, libcdpatch.so.1 and NOTICES, and in x86-64-v3/ there the shared library for that processor. It uses the toolchain's
-# own archiver, linker and C library.
+# `tools/library.sh DIRECTORY` links libcdpatch from the static libraries that tools/prove.py has built: it writes libcdpatch.a,
+# libcdpatch.so.1, and NOTICES to DIRECTORY, and the shared library for x86-64-v3 to a directory of that name in it. It uses the toolchain's
+# own archiver, linker, and C library.
 set -euo pipefail
 mkdir -p "$1/x86-64-v3"
 directory=$(realpath "$1")

@@ -1,6 +1,6 @@
 #!/usr/bin/env bash
-# Says what `make` has made, and a first command to try: `bash tools/made.sh [wasm [web]]`, with `wasm` if the modules were made too, and
-# with `web` if cdscript and the page were. Else they are named with the package of Debian that they want.
+# Prints what `make` has built, and a first command to try: `bash tools/made.sh [wasm [web]]`, with `wasm` if the modules were built, and with
+# `web` if cdscript and the page were. For what was not built, it prints the Debian package that is missing.
 set -u
 made=(cdpatch library/libcdpatch.a library/libcdpatch.so.1)
 missing=()

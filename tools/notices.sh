@@ -1,6 +1,6 @@
 #!/usr/bin/env bash
-# `tools/notices.sh OUT` writes the notices of the crates of the toolchain that the program, the library and the modules contain,
-# whose licences ask for them in each copy. It reads crates.txt, and the licences beside the crates' sources.
+# `tools/notices.sh OUT` writes the licence notices of the toolchain's crates that the program, the library, and the modules contain. Their
+# licences require them in each copy. It reads crates.txt, and the licences in the directories of the crates.
 set -euo pipefail
 crates=$(dirname "$(rt doc)")/rattle
 cd "$(dirname "$0")/.."

@@ -1,7 +1,7 @@
 #!/usr/bin/env bash
-# `tools/npm.sh LIBRARY CDSCRIPT VERSION DIRECTORY` makes the package for npm in DIRECTORY, of web/npm and web/core, the module of LIBRARY
-# and cdscript, with types for TypeScript, and prints its file's name. Bundlers for browsers find browser.js in it, which names nothing of
-# node. The bytes follow from those of these files, and from esbuild and tsc.
+# `tools/npm.sh LIBRARY CDSCRIPT VERSION DIRECTORY` builds the npm package in DIRECTORY from web/npm, web/core, the module of LIBRARY, and
+# cdscript, with types for TypeScript, and prints the name of its file. It contains browser.js, which uses nothing of node, for bundlers for
+# browsers. The package is reproducible: its bytes depend only on these files, esbuild, and tsc.
 set -euo pipefail
 umask 022
 library=$(realpath "$1")

@@ -1,6 +1,6 @@
 #!/usr/bin/env python3
-"""Makes what repeats the help of cdpatch and cdscript: `python3 tools/options.py completions DIRECTORY PROGRAM..` the completions of three
-shells, `pages PROGRAM..` the made parts of the man pages and of the README, and `check PROGRAM..` prints which of these pages differ.
+"""Generates files from the help of cdpatch and cdscript: `python3 tools/options.py completions DIRECTORY PROGRAM..` writes completions for three
+shells, `pages PROGRAM..` updates parts of the man pages and of the README, and `check PROGRAM..` prints which of these pages differ.
 
 In a page a part stands between marks, as `made: synopsis` and `end of synopsis`; tools/header_pages.py makes others. In the lists of commands and options only the heads are
 made: the prose below each is by hand, and a new one begins with what help says.

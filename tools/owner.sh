@@ -1,6 +1,5 @@
 #!/usr/bin/env bash
-# `tools/owner.sh` says in a line what is not filled in in tools/owner.txt, and has status 1 if there is any; `tools/owner.sh NAME` prints
-# what is.
+# `tools/owner.sh` prints which entries of tools/owner.txt are empty, and has status 1 if there are any. `tools/owner.sh NAME` prints an entry.
 set -euo pipefail
 facts=$(dirname "$0")/owner.txt
 if [ $# = 1 ]; then

@@ -1,7 +1,7 @@
-"""Packs a door into one file, by esbuild: `pack.py command MODULE OUT` makes cdscript of web/command, and `pack.py page MODULE OUT` makes
-cdpatch.html of web/page. The notices that go along are the file NOTICES beside the module, or that of `--notices`; what made the module
-stands in `MODULE.txt`. `--web DIRECTORY` names another `web`. What the modules see as JOINED stands in joined_command.js and
-joined_page.js. The bytes follow only from these files and from the versions of esbuild and zlib, which `pack.py --versions` prints.
+"""Packs a door into one file by esbuild: `pack.py command MODULE OUT` builds cdscript from web/command, and `pack.py page MODULE OUT` builds
+cdpatch.html from web/page. The licence notices are the file NOTICES in the directory of MODULE, or the file that `--notices` names.
+MODULE.txt says which tools built the module. `--web DIRECTORY` names another `web`. joined_command.js and joined_page.js define the object
+JOINED of the packed modules. The bytes depend only on these files and on the versions of esbuild and zlib, which `pack.py --versions` prints.
 
 `page.html` has these lines, each once; the policy comes after the first of them, and the last two are its end:
     <meta charset="utf-8">

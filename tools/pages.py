@@ -1,6 +1,6 @@
 #!/usr/bin/env python3
-"""Prints what the sources say of themselves, as Markdown: `python3 tools/pages.py map` prints what each file has, `contracts` what each
-crate promises, and `audit` what to read to know what is promised, with figures.
+"""Prints facts about the sources as Markdown: `python3 tools/pages.py map` prints the subject of each file, `contracts` the promises of each
+crate, and `audit` what to read in order to know what is promised, with figures.
 
 What a file has is the first sentence of its first comment; what a definition says is the comment above it; what a call does is the first
 sentence of its rustdoc. A file, a definition or a call that does not say it is refused.

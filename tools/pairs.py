@@ -1,4 +1,4 @@
-"""Makes web/core/encodings/pairs.js, of what engines read in pairs of bytes: `pairs.py > web/core/encodings/pairs.js`.
+"""Generates web/core/encodings/pairs.js, which says how browsers decode pairs of bytes: `pairs.py > web/core/encodings/pairs.js`.
 
 It asks three decoders that share no code: Python's, that of node (ICU), and Chromium's, which is the Encoding Standard's index. Runs of
 codes that all read alike, engines may read; what the standard has beside them is written out. Characters for private use are left out,

@@ -1,6 +1,6 @@
 #!/usr/bin/env bash
-# `tools/sign.sh KEY FILE..` signs files with a key of ssh, its private one or the public one of an agent, each beside it as FILE.sig, and
-# checks each signature by the key in tools/owner.txt.
+# `tools/sign.sh KEY FILE..` signs files with an ssh key, which is a private key or a public key of the agent, writes each signature to FILE.sig,
+# and verifies it with the key in tools/owner.txt.
 set -euo pipefail
 key=$(realpath "$1")
 shift

@@ -1,6 +1,6 @@
 #!/usr/bin/env bash
-# `tools/web.sh LIBRARY DIRECTORY` joins the core, a door and the module of LIBRARY into one file each in DIRECTORY: the command cdscript,
-# and the page cdpatch.html.
+# `tools/web.sh LIBRARY DIRECTORY` packs the command cdscript and the page cdpatch.html into one file each in DIRECTORY, with the module of
+# LIBRARY.
 set -euo pipefail
 library=$(realpath "$1")
 directory=$(realpath "$2")
