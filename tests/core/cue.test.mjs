@@ -85,23 +85,22 @@ FILE "3.bin" BINARY\nTRACK 03 AUDIO\nINDEX 01 00:00:00`;
 });
 
 test('a sheet that can\'t be used names its line', () => {
-    const refused = (/** @type {string} */ text, /** @type {number} */ place, /** @type {RegExp} */ message) =>
-        assert.throws(() => tracks(text, 100 * RAW), error => message.test(error.message) &&
-            (place === 0 || error.message.startsWith(`line ${place} of the cue sheet: `)));
-    refused('', 0, /^the cue sheet has no track$/);
-    refused('TRACK 01 AUDIO', 1, /^line 1 of the cue sheet: a track before the first FILE$/);
-    refused('FILE x', 1, /FILE needs a name and a format/);
-    refused(sheet('INDEX 01 00:00:00'), 2, /no TRACK stands before this/);
-    refused(sheet('TRACK 01 MODE1'), 2, /unknown track type MODE1/);
-    refused(sheet('TRACK one AUDIO'), 2, /TRACK needs a number and a type/);
-    refused(sheet('TRACK 00 AUDIO'), 2, /track 0 comes after track 0/);
-    refused(sheet('TRACK 01 AUDIO', 'INDEX 00 00:00:00'), 2, /track 1 has no INDEX 01/);
-    refused(sheet('TRACK 01 AUDIO', 'INDEX 01 00:00:00', 'TRACK 01 AUDIO', 'INDEX 01 00:00:01'), 4, /track 1 comes after track 1/);
-    refused(sheet('TRACK 01 AUDIO', 'INDEX 01 00:00:75'), 3, /invalid time 00:00:75/);
-    refused(sheet('TRACK 01 AUDIO', 'INDEX 01 00:60:00'), 3, /invalid time/);
-    refused(sheet('TRACK 01 AUDIO', 'INDEX 01'), 3, /INDEX needs a number and a time/);
-    refused(sheet('TRACK 01 AUDIO', 'INDEX 01 00:00:09', 'INDEX 02 00:00:08'), 4, /INDEX 02 goes back in its file/);
-    refused(sheet('TRACK 01 AUDIO', 'INDEX 01 00:00:00', 'INDEX 00 00:00:08'), 4, /INDEX 00 comes too late/);
-    refused(sheet('TRACK 01 AUDIO', 'INDEX 01 00:02:00'), 2, /track 1 begins after the end of game.bin/);
-    refused(`${sheet('TRACK 01 AUDIO', 'INDEX 01 00:00:00')}FILE b BINARY\nINDEX 02 00:00:00`, 2, /track 1 lies in two files/);
+    const refused = (/** @type {string} */ text, /** @type {number} */ line, /** @type {string} */ what, facts = {}) =>
+        assert.throws(() => tracks(text, 100 * RAW), { code: `cue/${what}`, facts: { ...line > 0 && { line }, ...facts } });
+    refused('', 0, 'no-track');
+    refused('TRACK 01 AUDIO', 1, 'no-file');
+    refused('FILE x', 1, 'file-words');
+    refused(sheet('INDEX 01 00:00:00'), 2, 'before-track');
+    refused(sheet('TRACK 01 MODE1'), 2, 'track-type', { type: 'MODE1' });
+    refused(sheet('TRACK one AUDIO'), 2, 'track-words');
+    refused(sheet('TRACK 00 AUDIO'), 2, 'track-order', { track: 0, before: 0 });
+    refused(sheet('TRACK 01 AUDIO', 'INDEX 00 00:00:00'), 2, 'no-index', { track: 1 });
+    refused(sheet('TRACK 01 AUDIO', 'INDEX 01 00:00:00', 'TRACK 01 AUDIO', 'INDEX 01 00:00:01'), 4, 'track-order', { track: 1, before: 1 });
+    refused(sheet('TRACK 01 AUDIO', 'INDEX 01 00:00:75'), 3, 'time', { time: '00:00:75' });
+    refused(sheet('TRACK 01 AUDIO', 'INDEX 01 00:60:00'), 3, 'time', { time: '00:60:00' });
+    refused(sheet('TRACK 01 AUDIO', 'INDEX 01'), 3, 'index-words');
+    refused(sheet('TRACK 01 AUDIO', 'INDEX 01 00:00:09', 'INDEX 02 00:00:08'), 4, 'index-back', { index: '02' });
+    refused(sheet('TRACK 01 AUDIO', 'INDEX 01 00:00:00', 'INDEX 00 00:00:08'), 4, 'index-late', { index: '00' });
+    refused(sheet('TRACK 01 AUDIO', 'INDEX 01 00:02:00'), 2, 'after-end', { track: 1, name: 'game.bin' });
+    refused(`${sheet('TRACK 01 AUDIO', 'INDEX 01 00:00:00')}FILE b BINARY\nINDEX 02 00:00:00`, 2, 'two-files', { track: 1 });
 });

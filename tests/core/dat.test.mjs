@@ -15,6 +15,10 @@ async function* cut(bytes, size) {
     for (let at = 0; at < bytes.length; at += size) yield bytes.subarray(at, at + size);
 }
 
+/** What a list knows, in short: whether a dump is bad, its name, and how many others have its hash. */
+const inShort = found => found && `${found.isBad ? 'bad' : 'good'} ${found.name}${found.others > 0 ? ` and ${found.others}` : ''}`;
+const said = (dumps, ...asked) => inShort(dumps.find(...asked));
+
 async function known(text, size = 1 << 20) {
     const dumps = new KnownDumps();
     await dumps.add(cut(encoded(text), size));
@@ -25,25 +29,26 @@ test('a dump is known by its size and SHA-1, however the list is cut', async () 
     const text = datOf(rom('Löwe &amp; &#x9B54;&#29579; &quot;1&quot;.bin'), '<game name="none"><rom name="x" size="7" crc="1"/></game>');
     for (const size of [1, 2, 3, 100, 1 << 20]) {
         const dumps = await known(text, size);
-        assert.strictEqual(dumps.said(7, { sha1: SHA }), 'verified Löwe & 魔王 "1".bin');
-        assert.deepStrictEqual([dumps.said(8, { sha1: SHA }), dumps.said(5, { sha1: SHA })], [null, null]);
-        assert.strictEqual(dumps.said(7, { sha1: SHA.replace('d', 'e') }), null);
+        assert.strictEqual(said(dumps, 7, { sha1: SHA }), 'good Löwe & 魔王 "1".bin');
+        assert.deepStrictEqual([said(dumps, 8, { sha1: SHA }), said(dumps, 5, { sha1: SHA })], [null, null]);
+        assert.strictEqual(said(dumps, 7, { sha1: SHA.replace('d', 'e') }), null);
     }
-    assert.strictEqual((await known(datOf(rom('a.bin', ' status="baddump"')))).said(7, { sha1: SHA }), 'known as a bad dump: a.bin');
-    assert.strictEqual((await known(datOf("<machine name='G'><disk name='a.bin' size='7' sha1='" + SHA + "'/></machine>"))).said(7, { sha1: SHA }), 'verified a.bin');
+    assert.strictEqual(said(await known(datOf(rom('a.bin', ' status="baddump"'))), 7, { sha1: SHA }), 'bad a.bin');
+    assert.strictEqual(said(await known(datOf("<machine name='G'><disk name='a.bin' size='7' sha1='" + SHA + "'/></machine>")), 7, { sha1: SHA }), 'good a.bin');
 });
 
 test('several lists are one', async () => {
     const dumps = await known(datOf(rom('first.bin')));
     const [early, other] = ['e', 'f'].map(digit => SHA.replace('d', digit));
-    assert.deepStrictEqual([dumps.saidOfSha1(SHA), dumps.saidOfSha1(early), dumps.saidOfSha1(other)], ['verified first.bin', null, null]);
+    assert.deepStrictEqual([...[SHA, early, other].map(it => inShort(dumps.findSha1(it)))], ['good first.bin', null, null]);
     await dumps.add(cut(encoded(datOf(`<game name="E"><rom name="early.bin" size="9" sha1="${early}" status="baddump"/></game>`)), 1000));
     await dumps.add(cut(encoded(datOf(rom('second.bin'), `<game name="H"><rom name="third.bin" size="9" sha1="${SHA}"/></game>`)), 1000));
-    assert.deepStrictEqual([dumps.said(7, { sha1: SHA }), dumps.said(9, { sha1: SHA })], ['verified first.bin, and 1 other', 'verified third.bin']);
-    assert.deepStrictEqual([dumps.saidOfSha1(SHA), dumps.saidOfSha1(early), dumps.saidOfSha1(other)],
-        ['verified first.bin, and 1 other', 'known as a bad dump: early.bin', null]);
-    const [has, hasNot] = ['has a dump of this size, but none with this SHA-1', 'has no dump of this size'];
-    for (const [size, due] of [[7, has], [9, has], [5, hasNot], [8, hasNot]]) assert.match(dumps.saidOfOther(size), new RegExp(`^the DAT ${due}: `));
+    assert.deepStrictEqual([said(dumps, 7, { sha1: SHA }), said(dumps, 9, { sha1: SHA })], ['good first.bin and 1', 'good third.bin']);
+    assert.deepStrictEqual([...[SHA, early, other].map(it => inShort(dumps.findSha1(it)))],
+        ['good first.bin and 1', 'bad early.bin', null]);
+    for (const [size, code] of [[7, 'dat/only-size'], [9, 'dat/only-size'], [5, 'dat/no-size'], [8, 'dat/no-size']]) {
+        assert.deepStrictEqual(dumps.remarkOfOther(size), { code, facts: {} });
+    }
 });
 
 test('what XML may have is read: > and / in names, CDATA, long comments, declared elements', async () => {
@@ -53,7 +58,7 @@ test('what XML may have is read: > and / in names, CDATA, long comments, declare
         datOf(`<comment><![CDATA[a & b <rom name="no" size="7" sha1="${SHA}"/> ]] >]]></comment>`, rom('A > B.bin')),
         datOf(`<!-- ${'x'.repeat(20000)} -- -->`, rom('A > B.bin')), datOf(rom('A > B.bin')).replace(/<!DOCTYPE[^>]*>/, declared),
     ];
-    for (const text of texts) for (const size of [1, 7, 1 << 20]) assert.strictEqual((await known(text, size)).said(7, { sha1: SHA }), 'verified A > B.bin');
+    for (const text of texts) for (const size of [1, 7, 1 << 20]) assert.strictEqual(said(await known(text, size), 7, { sha1: SHA }), 'good A > B.bin');
 });
 
 test('a list in another encoding is read in that', async () => {
@@ -75,7 +80,7 @@ test('a list in another encoding is read in that', async () => {
         for (const size of [1, 1 << 20]) {
             const dumps = new KnownDumps();
             await dumps.add(cut(bytes, size));
-            assert.strictEqual(dumps.said(7, { sha1: SHA }), `verified ${name}`);
+            assert.strictEqual(said(dumps, 7, { sha1: SHA }), `good ${name}`);
         }
     }
 });
@@ -85,47 +90,50 @@ test('an entry without SHA-1 is found by size and CRC32 or MD5, and what has nei
     const entry = (name, more) => `<rom name="${name}" size="7" ${more}/>`;
     const dumps = await known(datOf(entry('crc.bin', 'crc="0000ABCD"'), entry('both.bin', `crc="0000beef" md5="${md5}"`), entry('md5.bin', `md5="${md5}"`),
         entry('gone.bin', ''), entry('none.bin', `sha1="${SHA}" status="nodump"`), `<disk name="x" sha1="${SHA}"/>`));
-    const said = (hashes, size = 7) => dumps.said(size, { sha1: SHA, ...hashes });
+    const saidOf = (hashes, size = 7) => said(dumps, size, { sha1: SHA, ...hashes });
     assert.deepStrictEqual([dumps.leftOut, dumps.needs], [3, { crc32: true, md5: true }]);
-    assert.deepStrictEqual([said({}), said({ crc32: '0000abcd' }), said({ crc32: '0000abcd' }, 8), said({ crc32: '0000beef' })],
-        [null, 'verified crc.bin', null, 'verified both.bin']);
+    assert.deepStrictEqual([saidOf({}), saidOf({ crc32: '0000abcd' }), saidOf({ crc32: '0000abcd' }, 8), saidOf({ crc32: '0000beef' })],
+        [null, 'good crc.bin', null, 'good both.bin']);
     const [own, other] = [md5.toLowerCase(), md5.toLowerCase().replace('d', 'e')];
-    assert.deepStrictEqual([said({ crc32: '0000beef', md5: own }), said({ crc32: '0000beef', md5: other }), said({ md5: own })], ['verified both.bin', null, 'verified md5.bin']);
+    assert.deepStrictEqual([saidOf({ crc32: '0000beef', md5: own }), saidOf({ crc32: '0000beef', md5: other }), saidOf({ md5: own })], ['good both.bin', null, 'good md5.bin']);
     assert.deepStrictEqual((await known(datOf(rom('a.bin')))).needs, { crc32: false, md5: false });
 });
 
 test("of several entries with one hash the file's own comes first, and a bad one only if all are", async () => {
     const bad = ' status="baddump"';
-    const said = async (name, ...roms) => (await known(datOf(...roms))).said(7, { sha1: SHA }, name);
+    const saidOf = async (name, ...roms) => said(await known(datOf(...roms)), 7, { sha1: SHA }, name);
     const [a, b, c] = ['a.bin', 'b.bin', 'c.bin'].map(name => rom(name));
-    assert.deepStrictEqual([await said('b.bin', a, b, c), await said('x.bin', a, b), await said('', a, a)],
-        ['verified b.bin, and 2 others', 'verified a.bin, and 1 other', 'verified a.bin']);
-    assert.deepStrictEqual([await said('a.bin', rom('a.bin', bad), b), await said('', rom('a.bin', bad), a), await said('b.bin', rom('a.bin', bad), rom('b.bin', bad))],
-        ['verified b.bin, and 1 other', 'verified a.bin', 'known as a bad dump: b.bin, and 1 other']);
+    assert.deepStrictEqual([await saidOf('b.bin', a, b, c), await saidOf('x.bin', a, b), await saidOf('', a, a)],
+        ['good b.bin and 2', 'good a.bin and 1', 'good a.bin']);
+    assert.deepStrictEqual([await saidOf('a.bin', rom('a.bin', bad), b), await saidOf('', rom('a.bin', bad), a), await saidOf('b.bin', rom('a.bin', bad), rom('b.bin', bad))],
+        ['good b.bin and 1', 'good a.bin', 'bad b.bin and 1']);
 });
 
 const HOSTILE = {
-    'it declares what a DAT does not, such as entities': [`<!DOCTYPE datafile [<!ENTITY a "aaaaaaaaaa"><!ENTITY b "&a;&a;&a;">]>${datOf(rom('&b;'))}`,
+    'dat/declares': [`<!DOCTYPE datafile [<!ENTITY a "aaaaaaaaaa"><!ENTITY b "&a;&a;&a;">]>${datOf(rom('&b;'))}`,
         `<!DOCTYPE datafile [<!ELEMENT a (b)> %more; ]>${datOf(rom('a'))}`, '<!ENTITY a SYSTEM "/etc/passwd"><datafile></datafile>'],
-    'it has the entity &b;, which a DAT does not have': [datOf(rom('&b;'))],
-    'it has the entity &constructor;, which a DAT does not have': [datOf(rom('&constructor;&toString;&__proto__; x.bin'))],
-    'its elements are more than 16 deep': [`<datafile>${'<a>'.repeat(1000000)}`],
-    'it has a tag of more than 16384 characters': [datOf(rom('x'.repeat(20000))), `<datafile><rom name="${'x'.repeat(5000000)}`],
-    'it has a name of more than 512 characters': [datOf(rom('x'.repeat(600)))],
-    'there are more than 400000 dumps': [datOf(Array.from({ length: 400001 }, (_, i) => `<rom name="x" size="${i}" sha1="${SHA}"/>`).join(''))],
-    'it is not a DAT in Logiqx XML': ['', '<html></html>', 'x'.repeat(1000000)],
-    "it is in clrmamepro's own format: save it as Logiqx XML": ['clrmamepro (\n name X\n)'],
-    'it is an archive: unpack it': ['PK\x03\x04', `PK\x03\x04${'x'.repeat(1000)}`],
-    'it is a software list of MAME, and not a DAT in Logiqx XML': ['<?xml version="1.0"?><softwarelist name="x"></softwarelist>'],
-    'its encoding x-unheard-of is not known here: save it as UTF-8': [`<?xml version="1.0" encoding="x-unheard-of"?>${datOf(rom('a'))}`],
-    'it is not well-formed: a < is inside of the tag <rom name="a < b.bin" size="7" sha1="a"/': ['<datafile><rom name="a < b.bin" size="7" sha1="a"/></datafile>'],
-    'it is cut': [datOf(rom('a.bin')).slice(0, -20), `${datOf(rom('a.bin'))}<`, `${datOf(rom('a.bin'))}<!-- and`],
-    'it has no dump with a size and a hash': [datOf('<game name="x"><rom name="x" size="7" md5="0"/></game>')],
+    'dat/entity &b;': [datOf(rom('&b;'))],
+    'dat/entity &constructor;': [datOf(rom('&constructor;&toString;&__proto__; x.bin'))],
+    'dat/deep 16': [`<datafile>${'<a>'.repeat(1000000)}`],
+    'dat/long-tag 16384': [datOf(rom('x'.repeat(20000))), `<datafile><rom name="${'x'.repeat(5000000)}`],
+    'dat/long-name 512': [datOf(rom('x'.repeat(600)))],
+    'dat/too-many 400000': [datOf(Array.from({ length: 400001 }, (_, i) => `<rom name="x" size="${i}" sha1="${SHA}"/>`).join(''))],
+    'dat/other-file': ['', '<html></html>', 'x'.repeat(1000000)],
+    'dat/clrmamepro': ['clrmamepro (\n name X\n)'],
+    'dat/archive': ['PK\x03\x04', `PK\x03\x04${'x'.repeat(1000)}`],
+    'dat/software-list': ['<?xml version="1.0"?><softwarelist name="x"></softwarelist>'],
+    'dat/encoding x-unheard-of': [`<?xml version="1.0" encoding="x-unheard-of"?>${datOf(rom('a'))}`],
+    'dat/tag rom name="a < b.bin" size="7" sha1="a"/': ['<datafile><rom name="a < b.bin" size="7" sha1="a"/></datafile>'],
+    'dat/cut': [datOf(rom('a.bin')).slice(0, -20), `${datOf(rom('a.bin'))}<`, `${datOf(rom('a.bin'))}<!-- and`],
+    'dat/no-dump': [datOf('<game name="x"><rom name="x" size="7" md5="0"/></game>')],
 };
+
+/** A failure by its code and its only fact. */
+const failsBy = why => error => [error.code, ...Object.values(error.facts)].join(' ') === why;
 
 for (const [why, texts] of Object.entries(HOSTILE)) {
     test(`a list is refused: ${why}`, async () => {
-        for (const text of texts) await assert.rejects(known(text), { message: why });
+        for (const text of texts) await assert.rejects(known(text), failsBy(why));
     });
 }
 
@@ -135,7 +143,7 @@ test('a list is read no further than its fault', async () => {
         yield encoded('<datafile>');
         for (;; read++) yield encoded('<a>'.repeat(1000));
     }
-    await assert.rejects(new KnownDumps().add(endless()), { message: 'its elements are more than 16 deep' });
+    await assert.rejects(new KnownDumps().add(endless()), failsBy('dat/deep 16'));
     assert.strictEqual(read, 0);
 });
 
@@ -152,6 +160,6 @@ test('a list of 100 MB is read in bounded memory', async () => {
     const dumps = new KnownDumps();
     const before = process.memoryUsage().rss;
     await dumps.add(large());
-    assert.strictEqual(dumps.said(7, { sha1: SHA }), 'verified Game.bin');
+    assert.strictEqual(said(dumps, 7, { sha1: SHA }), 'good Game.bin');
     assert.ok(process.memoryUsage().rss - before < 3e8, `${process.memoryUsage().rss - before} bytes`);
 });

@@ -50,8 +50,8 @@ test('a file of several tracks is one image, and each data track a part of it', 
     ]);
     sameBytes(await dataTrack(disc, 3).part.reader.read(0, RAW), last.subarray(0, RAW), 'its first sector');
     assert.equal(dataTrack(disc).number, 1);
-    assert.throws(() => dataTrack(disc, 2), { message: 'Track 2 is no track of data with 2352 bytes a sector. Choose one that is.' });
-    assert.throws(() => dataTrack(disc, 4), { message: 'game.cue has no track 4. It has 1, 2, 3. An image without a cue sheet is taken as that track.' });
+    assert.throws(() => dataTrack(disc, 2), { code: 'disc/other-track', facts: { track: 2 } });
+    assert.throws(() => dataTrack(disc, 4), { code: 'disc/no-track', facts: { sheet: 'game.cue', track: 4, tracks: [1, 2, 3] } });
 });
 
 test('a file for each track, of which those of audio need not be open', async () => {
@@ -66,10 +66,9 @@ test('a file for each track, of which those of audio need not be open', async ()
     assert.deepEqual(one.tracks.map(shown), [
         { number: 1, type: 'AUDIO', file: -1, block: 0, sectors: null, image: null, part: null }, { ...track, file: 0 }]);
     assert.equal(dataTrack(both).number, 2);
-    const name = { message: 'game.cue names disc (Track 2).bin. Put it beside the cue sheet, or open both together.' };
-    await assert.rejects(opened(cue, file('disc (Track 1).bin', music)), name);
-    const own = { message: 'game.cue names game.cue. Put it beside the cue sheet, or open both together.' };
-    await assert.rejects(opened(sheet('FILE game.cue BINARY', 'TRACK 1 MODE1/2352', 'INDEX 1 0:0:0')), own);
+    const missing = file => ({ code: 'disc/missing-files', facts: { sheet: 'game.cue', file, names: [file] } });
+    await assert.rejects(opened(cue, file('disc (Track 1).bin', music)), missing('disc (Track 2).bin'));
+    await assert.rejects(opened(sheet('FILE game.cue BINARY', 'TRACK 1 MODE1/2352', 'INDEX 1 0:0:0')), missing('game.cue'));
 });
 
 test('a sheet in Windows-1252 names files, and one in CP932 too; a file that it names often is one file', async () => {
@@ -83,7 +82,7 @@ test('a sheet in Windows-1252 names files, and one in CP932 too; a file that it 
     const often = await opened(bytes('FILE "a.bin" BINARY\n'.repeat(150), 'FILE "a.bin', tracks), file('a.bin', image));
     assert.deepEqual([often.files.length, often.tracks[0].file], [1, 0]);
     await assert.rejects(opened(bytes('FILE a B\n'.repeat(13000), 'FILE "a.bin', tracks), file('a.bin', image)),
-        { message: 'line 199 of the cue sheet: more than 198 files' });
+        { code: 'cue/too-many-files', facts: { line: 199, most: 198 } });
 });
 
 test('a sheet tells files of one name in different directories apart', async () => {
@@ -114,26 +113,25 @@ test('an image with the pause before block 0: its blocks count from its first se
 test('what is no raw image is named, with what to do', async () => {
     const iso = new Uint8Array(20 * 2048);
     iso.set(encoded('\x01CD001'), 16 * 2048);
-    await assert.rejects(opened(file('game.iso', iso)), { message: 'game.iso is an ISO image, 2048 bytes a sector. Make a raw image of it with cdscript raw, patch that, and make an ISO image of its user data.' });
-    await assert.rejects(opened(file('a.zip', encoded('PK\x03\x04 and so on'))), { message: 'a.zip is an archive. Unpack it, and choose the cue sheet or the raw image in it.' });
-    await assert.rejects(opened(file('a.bin', new Uint8Array(0))), /^Fault: a.bin is an empty file\./);
+    const other = (name, kind) => ({ code: 'disc/other-file', facts: { name, kind } });
+    await assert.rejects(opened(file('game.iso', iso)), other('game.iso', 'iso'));
+    await assert.rejects(opened(file('a.zip', encoded('PK\x03\x04 and so on'))), other('a.zip', 'archive'));
+    await assert.rejects(opened(file('a.bin', new Uint8Array(0))), other('a.bin', 'empty'));
     const cue = sheet('FILE game.iso BINARY', 'TRACK 01 MODE1/2352', 'INDEX 01 00:00:00');
-    await assert.rejects(opened(cue, file('game.iso', iso)), /^Fault: game.iso is an ISO image, 2048 bytes a sector\./);
-    const data = { message: 'The disc has no track of data with 2352 bytes a sector. Choose one that is.' };
+    await assert.rejects(opened(cue, file('game.iso', iso)), other('game.iso', 'iso'));
     for (const disc of [await opened(file('music.bin', audio(5))), await opened(sheet('FILE a.iso BINARY', 'TRACK 1 MODE1/2048', 'INDEX 1 0:0:0'), file('a.iso', iso))]) {
-        assert.throws(() => dataTrack(disc), data);
+        assert.throws(() => dataTrack(disc), { code: 'disc/no-data' });
     }
 });
 
 test('tracks of several sizes of sectors in one file, and files that do not belong together', async () => {
     const whole = soundImage(diceOf(10), 40, 0);
     const cue = sheet('FILE a.bin BINARY', 'TRACK 1 MODE1/2352', 'INDEX 1 0:0:0', 'TRACK 2 MODE1/2048', 'INDEX 1 0:0:20');
-    const sizes = 'Track 2 in a.bin has sectors of 2048 bytes. Make an image of 2352 bytes a sector of each track first.';
-    await assert.rejects(opened(cue, file('a.bin', whole)), { message: sizes });
-    const two = 'Open one image, or a cue sheet together with the files that it names.';
-    await assert.rejects(opened(file('a.bin', whole), file('b.bin', whole)), { message: two });
-    await assert.rejects(opened(), { message: two });
-    await assert.rejects(opened(cue, { ...cue, name: 'b.cue' }), { message: 'game.cue and b.cue are both cue sheets. Open one of them.' });
+    const sizes = { code: 'disc/sector-size', facts: { track: 2, name: 'a.bin', size: 2048 } };
+    await assert.rejects(opened(cue, file('a.bin', whole)), sizes);
+    await assert.rejects(opened(file('a.bin', whole), file('b.bin', whole)), { code: 'disc/no-image' });
+    await assert.rejects(opened(), { code: 'disc/no-image' });
+    await assert.rejects(opened(cue, { ...cue, name: 'b.cue' }), { code: 'disc/two-sheets', facts: { one: 'game.cue', other: 'b.cue' } });
 });
 
 test('a read that fails, whichever it is', async () => {

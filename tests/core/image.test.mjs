@@ -5,13 +5,13 @@ import { calls, core, diceOf, readerOf } from './common.mjs';
 
 const { sliceOf, watchedReader } = await core('bytes.js');
 const { baseByAddresses } = await core('disc/base.js');
-const { natureOf } = await core('disc/file_type.js');
+const { kindOfFile } = await core('disc/file_type.js');
 const { isOneTrack } = await core('disc/one_track.js');
 
 const RAW = 2352;
 
 /** @param {Uint8Array | string} bytes */
-const kind = async bytes => (await natureOf(calls, readerOf(Buffer.from(bytes), 1000))).kind;
+const kind = bytes => kindOfFile(calls, readerOf(Buffer.from(bytes), 1000));
 
 /** Consistent sectors from a block on. @param {number} block @param {number} count */
 function sectors(block, count) {
@@ -50,7 +50,7 @@ test('samples near one another are read together, and of a long image little mor
     const long = Buffer.concat([short, Buffer.alloc(4000 * RAW)]);
     for (const [image, reads, bytes] of [[short, 10, 4 * short.length], [long, 200, long.length / 4]]) {
         const reader = readerOf(image);
-        assert.strictEqual((await natureOf(calls, reader)).kind, 'raw');
+        assert.strictEqual(await kindOfFile(calls, reader), 'raw');
         assert.strictEqual(await baseByAddresses(calls, reader), 0);
         assert.ok(reader.reads.length <= reads, `${reader.reads.length} reads`);
         assert.ok(reader.reads.reduce((sum, { length }) => sum + length, 0) <= bytes);
@@ -119,13 +119,6 @@ test('other files are known by how they begin', async () => {
         ['toc', 'CD_ROM\n\n// Track 1\nTRACK MODE1_RAW\nDATAFILE "data.bin"\n'], ['toc', 'CD_DA\r\nTRACK AUDIO\r\nFILE "a.wav" 0\r\n'], ['unknown', 'CD_ROM'],
         ['cue', 'FILE "a.bin" BINARY\r\n  TRACK 01 MODE1/2352\r\n    INDEX 01 00:00:00\r\n']];
     for (const [due, bytes] of files) assert.strictEqual(await kind(bytes), due);
-});
-
-test('each kind of file has words for it, and all but a raw image what to do with it', async () => {
-    const nature = await natureOf(calls, readerOf(Buffer.from('MComprHD....')));
-    assert.deepStrictEqual(nature, {
-        kind: 'chd', what: 'a CHD file', advice: 'Unpack it with `chdman extractcd`, which writes a cue sheet and an image.' });
-    assert.strictEqual((await natureOf(calls, readerOf(sectors(0, 2)))).advice, '');
 });
 
 test('the base of an image is what its addresses agree in', async () => {

@@ -7,7 +7,7 @@ import { rawOf } from './discs.mjs';
 import { SHEETS, TABLES, continuing, crowded, harmlessVolume, nested, overlapping, recordOf, volumeOf } from './strangers.mjs';
 
 const { sheetOf } = await core('disc/cue.js');
-const { natureOf } = await core('disc/file_type.js');
+const { kindOfFile } = await core('disc/file_type.js');
 const { findIn } = await core('texts/find.js');
 const { filesOf } = await core('iso/files.js');
 const { Crew, localHand } = await core('crew/crew.js');
@@ -42,8 +42,7 @@ async function listed(user) {
 for (const [what, sheet] of Object.entries(SHEETS)) {
     test(`a cue sheet takes no longer: ${what}`, async () => {
         const { seconds } = await timed(async () => {
-            const { kind } = await natureOf(calls, readerOf(sheet));
-            if (kind === 'cue') sheetOf(new TextDecoder().decode(sheet));
+            if (await kindOfFile(calls, readerOf(sheet)) === 'cue') sheetOf(new TextDecoder().decode(sheet));
         });
         assert.ok(seconds < 2 * SHARED, `${seconds} s`);
     });

@@ -21,7 +21,7 @@ const IN_WORKERS = ['crew', 'jobs'];
  */
 const BESIDE_TASKS = {
     page: {
-        disc: ['KnownDumps', 'beginsLikeDat', 'discFault', 'isOneTrack', 'natureOf', 'openDisc', 'sheetOf', 'sheetOfOneTrack'],
+        disc: ['KnownDumps', 'beginsLikeDat', 'isOneTrack', 'kindOfFile', 'openDisc', 'sheetOf', 'sheetOfOneTrack'],
         encodings: ['CP932', 'ENCODINGS', 'SEARCHED', 'USUAL_ENCODING', 'encodeText', 'encodingOf', 'fillsOf', 'leftOutText', 'spaceIn',
             'tableEncoding', 'tableTextOf', 'textOfFile', 'usualBytes'],
         iso: ['filesAt', 'filesLines'],
@@ -34,7 +34,7 @@ const BESIDE_TASKS = {
         texts: ['bytesAround', 'bytesInside', 'charactersFrom', 'contextOf', 'contextsOf', 'filesWith', 'shownCell', 'visible'],
     },
     command: {
-        disc: ['BAD_DUMP', 'KnownDumps', 'LAST_TRACK', 'fileIn', 'natureOf', 'openDisc', 'sampledBase', 'sheetsOf'],
+        disc: ['KnownDumps', 'LAST_TRACK', 'fileIn', 'kindOfFile', 'openDisc', 'sampledBase', 'sheetsOf'],
         encodings: ['ENCODINGS', 'SEARCHED', 'encodingOf', 'fillerOf', 'leftOutText', 'tableEncoding', 'tableTextOf', 'usualBytes'],
         iso: ['filesLines'],
         script: ['LineList', 'NEAR_WRITTEN', 'ScriptParts', 'scriptForBase'],

@@ -3,8 +3,9 @@
 import { createHash } from 'node:crypto';
 import { basename } from 'node:path';
 import { crc32 } from '../core/crc32.js';
-import { BAD_DUMP } from '../core/disc/index.js';
+import { sentenceOf } from '../sentences/index.js';
 
+/** @typedef {import('../core/disc/dat.js').Found} Found */
 /** @typedef {import('../core/disc/dat.js').Hashes} Hashes */
 /** @typedef {import('../core/disc/dat.js').KnownDumps} KnownDumps */
 /** @typedef {import('./run.js').Run} Run */
@@ -39,6 +40,14 @@ export class RunningHashes {
 }
 
 /**
+ * What a DAT knows of a file, such as 'verified NAME'.
+ * @param {Found} found
+ */
+export function dumpText(found) {
+    return sentenceOf({ code: 'dat/dump', facts: found });
+}
+
+/**
  * Says what DATs know of a new file. Returns whether it is a bad dump.
  * @param {Run} run
  * @param {KnownDumps} known
@@ -47,9 +56,9 @@ export class RunningHashes {
  * @param {Hashes} hashes
  */
 export function sayKnown(run, known, name, size, hashes) {
-    const said = known.said(size, hashes, basename(name));
-    run.say(`${name}: ${said || `${known.saidOfOther(size)}; its SHA-1 is ${hashes.sha1}`}`);
-    return said !== null && said.startsWith(BAD_DUMP);
+    const found = known.find(size, hashes, basename(name));
+    run.say(`${name}: ${found ? dumpText(found) : `${sentenceOf(known.remarkOfOther(size))}; its SHA-1 is ${hashes.sha1}`}`);
+    return found !== null && found.isBad;
 }
 
 /** How many files are verified, are bad dumps and are not in the DAT. */
@@ -64,13 +73,13 @@ export class Verdicts {
 
     /**
      * Counts a file. One that is not an image is unknown only if a dump has its size.
-     * @param {string | null} said what the DAT knows of it
+     * @param {{ isBad: boolean } | null} found what the DAT knows of it
      * @param {number} size
      * @param {boolean} isImage
      */
-    add(said, size, isImage) {
-        if (said === null) this.unknown += Number(isImage || this.known.hasSize(size));
-        else if (said.startsWith(BAD_DUMP)) this.bad += 1;
+    add(found, size, isImage) {
+        if (found === null) this.unknown += Number(isImage || this.known.hasSize(size));
+        else if (found.isBad) this.bad += 1;
         else this.verified += 1;
     }
 

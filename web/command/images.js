@@ -1,11 +1,11 @@
 // The jobs that write images: `merge`, `raw`, `user` and `extract`.
 
 import { bytesOfLines } from '../core/bytes.js';
-import { natureOf } from '../core/disc/index.js';
+import { kindOfFile } from '../core/disc/index.js';
 import { LAST_BASE, USER_SIZE, kindName } from '../core/module/index.js';
 import { blocksIn } from '../core/sectors/index.js';
 import { extractFile, passUser, repairTrack } from '../core/tasks/index.js';
-import { blocksText, ownFault } from '../sentences/index.js';
+import { blocksText, ownFault, sentenceOf } from '../sentences/index.js';
 import { RunningHashes, sayKnown } from './hashes.js';
 import { entriesAtPath } from './looking.js';
 import { openTrackOf } from './opening.js';
@@ -130,8 +130,9 @@ export async function rawJob(run) {
     const { first = 0 } = run.options;
     const out = await run.files.make(run.names[1]);
     const { name, reader } = await run.files.image(run.names[0]);
-    const { kind, what } = await natureOf(run.calls, reader);
+    const kind = await kindOfFile(run.calls, reader);
     const count = reader.size / USER_SIZE;
+    const what = sentenceOf({ code: 'kind/what', facts: { kind } });
     if (!['iso', 'audio', 'unknown'].includes(kind)) throw ownFault(`${name} is ${what}, and no ISO image`);
     if (!Number.isInteger(count)) throw ownFault(`${name} has ${reader.size} bytes, not 2048 for each sector`);
     if (first + count > BLOCKS_WITH_ADDRESS) {

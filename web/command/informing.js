@@ -2,11 +2,12 @@
 
 import { basename } from 'node:path';
 import { bytesOfLines } from '../core/bytes.js';
-import { fileIn, natureOf } from '../core/disc/index.js';
+import { fileIn, kindOfFile } from '../core/disc/index.js';
 import { SECTOR_KIND } from '../core/module/index.js';
 import { blocksIn, kindRuns, listText } from '../core/sectors/index.js';
 import { findingsIn, unsurveyedTracks } from '../core/tasks/index.js';
-import { SHA1_ONLY, Verdicts } from './hashes.js';
+import { sentenceOf } from '../sentences/index.js';
+import { SHA1_ONLY, Verdicts, dumpText } from './hashes.js';
 import { openDiscOf } from './opening.js';
 import { linesOfRuns, untestedText, visible } from './printed.js';
 import { foundInFiles, hashesOf } from './surveying.js';
@@ -15,6 +16,7 @@ import { foundInFiles, hashesOf } from './surveying.js';
 /** @typedef {import('../core/disc/disc.js').DiscTrack} DiscTrack */
 /** @typedef {import('../core/disc/lost.js').Lost} Lost */
 /** @typedef {import('../core/disc/dat.js').Hashes} Hashes */
+/** @typedef {import('../core/facts.js').FileKind} FileKind */
 /** @typedef {import('./run.js').Run} Run */
 /** @typedef {{ found: boolean, lines: string[] }} Informed whether something is wrong, and what is printed */
 /** @typedef {import('./surveying.js').FileFound} FileFound */
@@ -99,9 +101,9 @@ function unsurveyedLines(disc) {
 function fileLines({ name, reader: { size } }, hashes, verdicts, isImage) {
     const line = `file ${name} bytes ${size} sha1 ${hashes.sha1}`;
     if (verdicts === null) return [line];
-    const said = verdicts.known.said(size, hashes, basename(name));
-    verdicts.add(said, size, isImage);
-    return [line, said || verdicts.known.saidOfOther(size)];
+    const found = verdicts.known.find(size, hashes, basename(name));
+    verdicts.add(found, size, isImage);
+    return [line, found ? dumpText(found) : sentenceOf(verdicts.known.remarkOfOther(size))];
 }
 
 /**
@@ -129,12 +131,11 @@ async function discLines(run, verdicts) {
 /**
  * What to do with a file that is no disc.
  * @param {string} name
- * @param {string} kind
- * @param {string} advice of the core
+ * @param {FileKind} kind
  */
-function advicesFor(name, kind, advice) {
+function advicesFor(name, kind) {
     if (kind === 'empty' && name === '-') return [NOTHING_PIPED];
-    return [advice, kind === 'iso' ? WITH_CDSCRIPT : ''].filter(it => it !== '');
+    return [sentenceOf({ code: 'kind/advice', facts: { kind } }), kind === 'iso' ? WITH_CDSCRIPT : ''].filter(it => it !== '');
 }
 
 /** @param {Verdicts | null} verdicts */
@@ -145,14 +146,14 @@ function needsOf(verdicts) {
 /** @param {Run} run */
 export async function infoJob(run) {
     const file = await run.files.image(run.names[0]);
-    const { kind, what, advice } = await natureOf(run.calls, file.reader);
+    const kind = await kindOfFile(run.calls, file.reader);
     const known = await run.knownDumps();
     const verdicts = known && new Verdicts(known);
     const isDisc = kind === 'raw' || kind === 'audio' || kind === 'cue';
     const other = async () => verdicts ? fileLines(file, await hashesOf(file.reader, needsOf(verdicts)), verdicts, false) : [];
     const { found, lines } = isDisc ? await discLines(run, verdicts)
-        : { found: true, lines: [...await other(), ...advicesFor(run.names[0], kind, advice)] };
-    await run.output.write(bytesOfLines([`${run.names[0]}: ${what}`, ...lines].map(visible)));
+        : { found: true, lines: [...await other(), ...advicesFor(run.names[0], kind)] };
+    await run.output.write(bytesOfLines([`${run.names[0]}: ${sentenceOf({ code: 'kind/what', facts: { kind } })}`, ...lines].map(visible)));
     if (verdicts) run.say(verdicts.text());
     return Number(found || (verdicts !== null && verdicts.status > 0));
 }

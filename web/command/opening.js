@@ -2,7 +2,7 @@
 
 import { dirname } from 'node:path';
 import { wholeOf } from '../core/bytes.js';
-import { natureOf, openDisc, sheetsOf } from '../core/disc/index.js';
+import { kindOfFile, openDisc, sheetsOf } from '../core/disc/index.js';
 import { failedBy } from '../core/faults.js';
 import { imageTooLong } from '../core/sectors/index.js';
 import { openTrack } from '../core/tasks/index.js';
@@ -23,7 +23,7 @@ import { pathsOfSheet } from './sheet_files.js';
  */
 export async function openDiscOf(run, name) {
     const file = await run.files.image(name);
-    const { kind } = await natureOf(run.calls, file.reader);
+    const kind = await kindOfFile(run.calls, file.reader);
     const others = kind === 'cue' ? await filesOfSheet(run, file) : [];
     const disc = await openNamedFiles(run, [file, ...others]);
     const long = disc.files.find(({ reader }) => imageTooLong(reader.size));
@@ -40,8 +40,9 @@ async function openNamedFiles(run, files) {
     try {
         return await openDisc(run.calls, files);
     } catch (error) {
-        if (!failedBy(error, 'missing-files')) throw error;
-        throw ownFault(`${error.facts.found} It is not in the directory of the cue sheet.`, { file: error.facts.sheet });
+        if (!failedBy(error, 'disc/missing-files')) throw error;
+        const { sheet, file } = error.facts;
+        throw ownFault(`${sheet} names ${file}. It is not in the directory of the cue sheet.`, { file: sheet });
     }
 }
 

@@ -3,9 +3,10 @@
 import { closeSync, ftruncateSync, openSync, readFileSync, readSync, statSync } from 'node:fs';
 import { basename } from 'node:path';
 import { bytesOfLines } from '../core/bytes.js';
-import { ownFault } from '../sentences/index.js';
+import { BAD_DUMP, ownFault } from '../sentences/index.js';
 import { hasCode, tryFile } from './failures.js';
 import { timeText } from './files.js';
+import { dumpText } from './hashes.js';
 import { lockList } from './list_lock.js';
 import { listedName, nameOfListed, pathOf } from './names.js';
 import { letSignalsIn } from './pausing.js';
@@ -47,6 +48,11 @@ function isListed(line) {
     return LISTED.test(new TextDecoder().decode(line));
 }
 
+/** @param {import('../core/disc/dat.js').Found | null} found */
+function textOfFound(found) {
+    return found === null ? NOT_IN_DAT : dumpText(found);
+}
+
 /**
  * The line of a file.
  * @param {Scanned} file
@@ -54,7 +60,7 @@ function isListed(line) {
  */
 export function listedLine({ name, kinds, mode1, damaged, findings, elsewhere, size, changed, hashes }, known) {
     const numbers = [damaged, findings, elsewhere].map(it => mode1 > 0 || it > 0 ? it : UNTESTED);
-    const said = known === null ? NO_DAT : known.said(size, hashes, basename(name)) || NOT_IN_DAT;
+    const said = known === null ? NO_DAT : textOfFound(known.find(size, hashes, basename(name)));
     const more = [changed, hashes.crc32, hashes.md5].map(it => it || UNTESTED);
     return [listedName(name), kinds, ...numbers, hashes.sha1, listedName(said), size, ...more].join('\t');
 }
@@ -66,10 +72,10 @@ export function listedLine({ name, kinds, mode1, damaged, findings, elsewhere, s
  */
 function saidOfRow(row, known) {
     const own = basename(nameOfListed(row[0]));
-    if (row.length <= BYTES) return listedName(known.saidOfSha1(row[SHA1], own) || NOT_IN_DAT);
+    if (row.length <= BYTES) return listedName(textOfFound(known.findSha1(row[SHA1], own)));
     const [crc32, md5] = [row[CRC32], row[MD5]].map(it => it === UNTESTED ? '' : it);
-    const said = known.said(Number(row[BYTES]), { sha1: row[SHA1], crc32, md5 }, own);
-    return said !== null ? listedName(said) : lacksHash(row, known.needs) ? NO_DAT : NOT_IN_DAT;
+    const found = known.find(Number(row[BYTES]), { sha1: row[SHA1], crc32, md5 }, own);
+    return found === null && lacksHash(row, known.needs) ? NO_DAT : listedName(textOfFound(found));
 }
 
 /**
@@ -183,7 +189,8 @@ export class ResumedList {
      */
     count(verdicts) {
         for (const row of this.rows) {
-            if (row[SAID] !== NO_DAT) verdicts.add(row[SAID] === NOT_IN_DAT ? null : row[SAID], Number(row[BYTES]), !isOther(row));
+            const found = row[SAID] === NOT_IN_DAT ? null : { isBad: row[SAID].startsWith(BAD_DUMP) };
+            if (row[SAID] !== NO_DAT) verdicts.add(found, Number(row[BYTES]), !isOther(row));
         }
     }
 

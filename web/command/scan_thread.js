@@ -1,7 +1,7 @@
 // A thread that looks into one image after the other, each by itself, for `scan`.
 
 import { parentPort } from 'node:worker_threads';
-import { natureOf } from '../core/disc/index.js';
+import { kindOfFile } from '../core/disc/index.js';
 import { Fault } from '../core/faults.js';
 import { kindName } from '../core/module/index.js';
 import { blocksIn, kindRuns } from '../core/sectors/index.js';
@@ -89,11 +89,12 @@ function unsurveyedKinds(disc, file) {
  * What is found in a file that no disc is of.
  * @param {Run} run
  * @param {DiscFile} file
- * @param {string} what it is
+ * @param {import('../core/facts.js').FileKind} kind
  * @param {Needs} needs
  * @returns {Promise<Answer>}
  */
-async function otherFile(run, { name, reader }, what, needs) {
+async function otherFile(run, { name, reader }, kind, needs) {
+    const what = sentenceOf({ code: 'kind/what', facts: { kind } });
     const [hashes, changed] = [await hashesOf(reader, needs), run.files.changed.get(name) || ''];
     const file = { name, size: reader.size, changed, hashes, kinds: `${NONE}${what}`, mode1: 0, damaged: 0, findings: 0, elsewhere: 0 };
     return { files: [file], notes: [], missing: [], fault: '', other: what };
@@ -126,8 +127,8 @@ export async function scanOne(name, needs) {
     run.crew.isAlone = true;
     try {
         const opened = await files.image(name);
-        const { kind, what } = await natureOf(run.calls, opened.reader);
-        if (kind !== 'raw' && kind !== 'audio' && kind !== 'cue') return await otherFile(run, opened, what, needs);
+        const kind = await kindOfFile(run.calls, opened.reader);
+        if (kind !== 'raw' && kind !== 'audio' && kind !== 'cue') return await otherFile(run, opened, kind, needs);
         const disc = await openDiscOf(run, name);
         const gone = disc.tracks.filter(({ file }) => file < 0);
         const missing = gone.map(({ number }) => `track ${number} of ${name} is in a file that is not there`);

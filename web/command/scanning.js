@@ -100,7 +100,7 @@ class Scan {
 
     /** @param {import('./scan_thread.js').Scanned} file that a DAT may know */
     count({ name, size, hashes, kinds }) {
-        if (this.verdicts) this.verdicts.add(this.verdicts.known.said(size, hashes, basename(name)), size, !kinds.startsWith(NONE));
+        if (this.verdicts) this.verdicts.add(this.verdicts.known.find(size, hashes, basename(name)), size, !kinds.startsWith(NONE));
     }
 
     /**

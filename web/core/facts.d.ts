@@ -10,8 +10,57 @@ export interface Facts {
     /** A hand cannot read what it is lent. */
     unread: {};
 
-    disc: { sentence: string };
-    'missing-files': { sentence: string; found: string; names: string[]; sheet: string };
+    // Discs. `names` are all files that are missing, and `file` is the one with data.
+    'disc/missing-files': { sheet: string; file: string; names: string[] };
+    'disc/two-sheets': { one: string; other: string };
+    'disc/no-image': {};
+    'disc/other-file': { name: string; kind: FileKind };
+    'disc/no-track': { sheet: string; track: number; tracks: number[] };
+    'disc/no-data': {};
+    'disc/other-track': { track: number };
+    'disc/sector-size': { track: number; name: string; size: number };
+    /** What a file is, and what to do with it. */
+    'kind/what': { kind: FileKind };
+    'kind/advice': { kind: FileKind };
+
+    // Cue sheets, by their lines.
+    'cue/no-track': {};
+    'cue/no-index': { line: number; track: number };
+    'cue/file-words': { line: number };
+    'cue/too-many-files': { line: number; most: number };
+    'cue/track-words': { line: number };
+    'cue/track-type': { line: number; type: string };
+    'cue/no-file': { line: number };
+    'cue/track-order': { line: number; track: number; before: number };
+    'cue/index-words': { line: number };
+    'cue/index-late': { line: number; index: string };
+    'cue/index-back': { line: number; index: string };
+    'cue/before-track': { line: number };
+    'cue/time': { line: number; time: string };
+    'cue/two-files': { line: number; track: number };
+    'cue/after-end': { line: number; track: number; name: string };
+
+    // DATs.
+    'dat/other-file': {};
+    'dat/software-list': {};
+    'dat/machines': {};
+    'dat/archive': {};
+    'dat/clrmamepro': {};
+    'dat/encoding': { encoding: string };
+    'dat/declares': {};
+    'dat/entity': { entity: string };
+    'dat/tag': { tag: string };
+    'dat/long-tag': { most: number };
+    'dat/long-name': { most: number };
+    'dat/deep': { most: number };
+    'dat/too-many': { most: number };
+    'dat/cut': {};
+    'dat/no-dump': {};
+    /** An entry of a DAT, and how many others have its hash. */
+    'dat/dump': { name: string; isBad: boolean; others: number };
+    'dat/only-size': {};
+    'dat/no-size': {};
+
     volume: { sentence: string };
     text: { sentence: string; at: number };
 
@@ -73,6 +122,9 @@ export interface Facts {
     /** How often new texts leave out a code, in how many rows, and the numbers of the first of them. */
     'list/code-left': { code: string; count: number; rows: number; first: number[] };
 }
+
+export type FileKind = 'raw' | 'audio' | 'subchannels' | 'iso' | 'chd' | 'ecm' | 'archive' | 'wave' | 'cue' | 'empty' | 'unknown' | 'scrambled'
+    | 'nrg' | 'mds' | 'ccd' | 'toc' | 'sub';
 
 /** Blocks from the first to the last, why no script makes them, and their kinds if that is why. */
 export type LeftRun = { first: number; last: number; why: 'damaged' | 'kind' | 'address'; kinds: number[] };

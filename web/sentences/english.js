@@ -3,8 +3,29 @@
 import { hexText } from '../core/hex_digits.js';
 import { kindName } from '../core/module/index.js';
 import { blocksText } from './blocks.js';
+import { KINDS } from './kinds.js';
 
 /** @typedef {import('../core/facts.js').Facts} Facts */
+
+const OF_DATA = 'of data with 2352 bytes a sector. Choose one that is.';
+const NO_DAT = 'not a DAT in Logiqx XML';
+
+/** What begins what is said of a bad dump. */
+export const BAD_DUMP = 'known as a bad dump:';
+
+/**
+ * @param {number} line of a cue sheet
+ * @param {string} what
+ */
+function inSheet(line, what) {
+    return `line ${line} of the cue sheet: ${what}`;
+}
+
+/** @param {Facts['dat/dump']} dump */
+function knownDump({ name, isBad, others }) {
+    const more = others === 0 ? '' : others === 1 ? ', and 1 other' : `, and ${others} others`;
+    return `${isBad ? BAD_DUMP : 'verified'} ${name}${more}`;
+}
 
 /** @param {Facts['script/left']} left */
 function leftClause({ runs, image, most }) {
@@ -33,6 +54,54 @@ export const ENGLISH = {
     'no-memory': () => 'no memory',
     'image-ended': ({ at }) => `the image ends at byte ${at}`,
     unread: () => 'a worker cannot read the file',
+
+    'disc/missing-files': ({ sheet, file }) => `${sheet} names ${file}. Put it beside the cue sheet, or open both together.`,
+    'disc/two-sheets': ({ one, other }) => `${one} and ${other} are both cue sheets. Open one of them.`,
+    'disc/no-image': () => 'Open one image, or a cue sheet together with the files that it names.',
+    'disc/other-file': ({ name, kind }) => `${name} is ${KINDS[kind].join('. ')}`,
+    'disc/no-track': ({ sheet, track, tracks }) =>
+        `${sheet} has no track ${track}. It has ${tracks.join(', ')}. An image without a cue sheet is taken as that track.`,
+    'disc/no-data': () => `The disc has no track ${OF_DATA}`,
+    'disc/other-track': ({ track }) => `Track ${track} is no track ${OF_DATA}`,
+    'disc/sector-size': ({ track, name, size }) =>
+        `Track ${track} in ${name} has sectors of ${size} bytes. Make an image of 2352 bytes a sector of each track first.`,
+    'kind/what': ({ kind }) => KINDS[kind][0],
+    'kind/advice': ({ kind }) => KINDS[kind][1],
+
+    'cue/no-track': () => 'the cue sheet has no track',
+    'cue/no-index': ({ line, track }) => inSheet(line, `track ${track} has no INDEX 01`),
+    'cue/file-words': ({ line }) => inSheet(line, 'FILE needs a name and a format'),
+    'cue/too-many-files': ({ line, most }) => inSheet(line, `more than ${most} files`),
+    'cue/track-words': ({ line }) => inSheet(line, 'TRACK needs a number and a type'),
+    'cue/track-type': ({ line, type }) => inSheet(line, `unknown track type ${type}`),
+    'cue/no-file': ({ line }) => inSheet(line, 'a track before the first FILE'),
+    'cue/track-order': ({ line, track, before }) => inSheet(line, `track ${track} comes after track ${before}`),
+    'cue/index-words': ({ line }) => inSheet(line, 'INDEX needs a number and a time'),
+    'cue/index-late': ({ line, index }) => inSheet(line, `INDEX ${index} comes too late`),
+    'cue/index-back': ({ line, index }) => inSheet(line, `INDEX ${index} goes back in its file`),
+    'cue/before-track': ({ line }) => inSheet(line, 'no TRACK stands before this'),
+    'cue/time': ({ line, time }) => inSheet(line, `invalid time ${time}`),
+    'cue/two-files': ({ line, track }) => inSheet(line, `track ${track} lies in two files`),
+    'cue/after-end': ({ line, track, name }) => inSheet(line, `track ${track} begins after the end of ${name}`),
+
+    'dat/other-file': () => `it is ${NO_DAT}`,
+    'dat/software-list': () => `it is a software list of MAME, and ${NO_DAT}`,
+    'dat/machines': () => `it is a list of MAME's machines, and ${NO_DAT}`,
+    'dat/archive': () => 'it is an archive: unpack it',
+    'dat/clrmamepro': () => "it is in clrmamepro's own format: save it as Logiqx XML",
+    'dat/encoding': ({ encoding }) => `its encoding ${encoding} is not known here: save it as UTF-8`,
+    'dat/declares': () => 'it declares what a DAT does not, such as entities',
+    'dat/entity': ({ entity }) => `it has the entity ${entity}, which a DAT does not have`,
+    'dat/tag': ({ tag }) => `it is not well-formed: a < is inside of the tag <${tag}`,
+    'dat/long-tag': ({ most }) => `it has a tag of more than ${most} characters`,
+    'dat/long-name': ({ most }) => `it has a name of more than ${most} characters`,
+    'dat/deep': ({ most }) => `its elements are more than ${most} deep`,
+    'dat/too-many': ({ most }) => `there are more than ${most} dumps`,
+    'dat/cut': () => 'it is cut',
+    'dat/no-dump': () => 'it has no dump with a size and a hash',
+    'dat/dump': knownDump,
+    'dat/only-size': () => 'the DAT has a dump of this size, but none with this SHA-1: perhaps another dump of the disc repairs it',
+    'dat/no-size': () => 'the DAT has no dump of this size: perhaps it is cut, or of another disc',
 
     'script/refused': ({ line }) => line,
     'script/other-base': ({ line, base, begins }) =>

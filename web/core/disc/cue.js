@@ -24,15 +24,6 @@ export const LAST_TRACK = 99;
 const MOST_FILES = 2 * LAST_TRACK;
 
 /**
- * Why a line of a cue sheet can't be used.
- * @param {string} message
- * @param {number} line from 1
- */
-function sheetFault(message, line) {
-    return new Fault('own', { sentence: `line ${line} of the cue sheet: ${message}` });
-}
-
-/**
  * Reads a cue sheet. Commands that move no bytes, as TITLE or REM, say nothing here.
  * @param {string} text
  * @returns {Sheet}
@@ -45,10 +36,10 @@ export function sheetOf(text) {
         const read = SHEET_COMMANDS[command.toUpperCase()];
         if (read) read(sheet, rest, i + 1);
     });
-    if (sheet.tracks.length === 0) throw new Fault('own', { sentence: 'the cue sheet has no track' });
+    if (sheet.tracks.length === 0) throw new Fault('cue/no-track', {});
     for (const track of sheet.tracks) {
         if (!sheet.points.some(it => it.track === track && it.index === 1)) {
-            throw sheetFault(`track ${track.number} has no INDEX 01`, track.line);
+            throw new Fault('cue/no-index', { line: track.line, track: track.number });
         }
     }
     return sheet;
@@ -78,21 +69,21 @@ function readFileLine(sheet, rest, line) {
     const format = rest.split(/\s+/).slice(-1)[0];
     const before = rest.slice(0, rest.length - format.length).trimEnd();
     const [, name] = /^"([^"]*)"$/.exec(before) || /^([^"].*)$/s.exec(before) || [];
-    if (name === undefined) throw sheetFault('FILE needs a name and a format', line);
-    if (sheet.files.length >= MOST_FILES) throw sheetFault(`more than ${MOST_FILES} files`, line);
+    if (name === undefined) throw new Fault('cue/file-words', { line });
+    if (sheet.files.length >= MOST_FILES) throw new Fault('cue/too-many-files', { line, most: MOST_FILES });
     sheet.files.push({ name, raw: RAW_FORMATS.includes(format.toUpperCase()) });
 }
 
 /** @type {(sheet: Sheet, rest: string, line: number) => void} */
 function readTrackLine(sheet, rest, line) {
     const found = /^(\d{1,2})\s+(\S+)$/.exec(rest);
-    if (!found) throw sheetFault('TRACK needs a number and a type', line);
+    if (!found) throw new Fault('cue/track-words', { line });
     const [number, type] = [Number(found[1]), found[2].toUpperCase()];
     const sectorSize = sizeOfType(type);
-    if (sectorSize === 0) throw sheetFault(`unknown track type ${found[2]}`, line);
-    if (sheet.files.length === 0) throw sheetFault('a track before the first FILE', line);
+    if (sectorSize === 0) throw new Fault('cue/track-type', { line, type: found[2] });
+    if (sheet.files.length === 0) throw new Fault('cue/no-file', { line });
     const before = sheet.tracks.length > 0 ? sheet.tracks[sheet.tracks.length - 1].number : 0;
-    if (number <= before || number > LAST_TRACK) throw sheetFault(`track ${number} comes after track ${before}`, line);
+    if (number <= before || number > LAST_TRACK) throw new Fault('cue/track-order', { line, track: number, before });
     sheet.tracks.push({ number, type, sectorSize, pregap: 0, postgap: 0, line });
 }
 
@@ -109,12 +100,12 @@ function sizeOfType(type) {
 /** @type {(sheet: Sheet, rest: string, line: number) => void} */
 function readIndexLine(sheet, rest, line) {
     const found = /^(\d{1,2})\s+(\S+)$/.exec(rest);
-    if (!found) throw sheetFault('INDEX needs a number and a time', line);
+    if (!found) throw new Fault('cue/index-words', { line });
     const [track, index, frame] = [trackBefore(sheet, line), Number(found[1]), framesOf(found[2], line)];
     const file = sheet.files.length - 1;
     const last = sheet.points[sheet.points.length - 1];
-    if (last && last.track === track && last.index >= index) throw sheetFault(`INDEX ${found[1]} comes too late`, line);
-    if (last && last.file === file && last.frame > frame) throw sheetFault(`INDEX ${found[1]} goes back in its file`, line);
+    if (last && last.track === track && last.index >= index) throw new Fault('cue/index-late', { line, index: found[1] });
+    if (last && last.file === file && last.frame > frame) throw new Fault('cue/index-back', { line, index: found[1] });
     sheet.points.push({ track, index, file, frame });
 }
 
@@ -123,7 +114,7 @@ function readIndexLine(sheet, rest, line) {
  * @param {number} line
  */
 function trackBefore({ tracks }, line) {
-    if (tracks.length === 0) throw sheetFault('no TRACK stands before this', line);
+    if (tracks.length === 0) throw new Fault('cue/before-track', { line });
     return tracks[tracks.length - 1];
 }
 
@@ -134,7 +125,7 @@ function trackBefore({ tracks }, line) {
  */
 function framesOf(time, line) {
     const found = /^(\d{1,3}):([0-5]?\d):([0-6]?\d|7[0-4])$/.exec(time);
-    if (!found) throw sheetFault(`invalid time ${time}`, line);
+    if (!found) throw new Fault('cue/time', { line, time });
     return (60 * Number(found[1]) + Number(found[2])) * 75 + Number(found[3]);
 }
 
@@ -149,7 +140,7 @@ export function tracksOf(sheet, sizes) {
     return sheet.tracks.map(track => {
         const own = parts.filter(part => part.point.track === track && part.point.index > 0);
         const [first, last] = [own[0], own[own.length - 1]];
-        if (first.file !== last.file) throw sheetFault(`track ${track.number} lies in two files`, track.line);
+        if (first.file !== last.file) throw new Fault('cue/two-files', { line: track.line, track: track.number });
         const { number, type, sectorSize } = track;
         const { file, at, block } = first;
         return { number, type, sectorSize, file, at, end: last.end, block };
@@ -171,7 +162,8 @@ function partsOfFile({ files, points }, file, size) {
     const starts = own.map(point => {
         at += (point.frame - frame) * (before || point.track).sectorSize;
         [frame, before] = [point.frame, point.track];
-        if (at > size) throw sheetFault(`track ${point.track.number} begins after the end of ${files[file].name}`, point.track.line);
+        const { number: track, line } = point.track;
+        if (at > size) throw new Fault('cue/after-end', { line, track, name: files[file].name });
         return at;
     });
     return own.map((point, i) => ({ point, file, at: starts[i], end: i + 1 < own.length ? starts[i + 1] : size, block: null }));

@@ -1,6 +1,6 @@
 // Known dumps: the list of a DAT (Logiqx XML), by size and hashes. It is read in pieces, and what it may hold is bounded.
 
-import { Fault } from '../faults.js';
+import { Fault, remark } from '../faults.js';
 import { TagReader } from './dat_tags.js';
 import { textOfDat } from './dat_text.js';
 
@@ -16,20 +16,8 @@ const LONGEST_NAME = 512;
 const DEEPEST_ELEMENT = 16;
 const MOST_DUMPS = 400000;
 
-const ONLY_SIZE = 'the DAT has a dump of this size, but none with this SHA-1: perhaps another dump of the disc repairs it';
-const NOT_EVEN_SIZE = 'the DAT has no dump of this size: perhaps it is cut, or of another disc';
-
-/** What begins what is said of a bad dump. */
-export const BAD_DUMP = 'known as a bad dump:';
-
-const SOFTWARE_LIST = 'it is a software list of MAME, and not a DAT in Logiqx XML';
-const NOT_A_DAT = 'it is not a DAT in Logiqx XML';
-
-/** Other lists in XML, by their first element. */
-const OTHER_LISTS = new Map([
-    ['softwarelist', SOFTWARE_LIST], ['softwarelists', SOFTWARE_LIST],
-    ['mame', "it is a list of MAME's machines, and not a DAT in Logiqx XML"],
-]);
+/** @type {Map<string, 'dat/software-list' | 'dat/machines'>} other lists in XML, by their first element */
+const OTHER_LISTS = new Map([['softwarelist', 'dat/software-list'], ['softwarelists', 'dat/software-list'], ['mame', 'dat/machines']]);
 
 const ENTITIES = new Map([['amp', '&'], ['lt', '<'], ['gt', '>'], ['quot', '"'], ['apos', "'"]]);
 
@@ -51,7 +39,7 @@ function unescaped(text) {
         if (code >= 0 && code <= 0x10FFFF) return String.fromCodePoint(code);
         const character = ENTITIES.get(name);
         if (character !== undefined) return character;
-        throw new Fault('own', { sentence: `it has the entity ${whole.slice(0, 20)}, which a DAT does not have` });
+        throw new Fault('dat/entity', { entity: whole.slice(0, 20) });
     });
 }
 
@@ -88,11 +76,11 @@ class DatReading {
     /** @param {string} tag without its brackets */
     tag(tag) {
         const [name] = /^\/?[\w:.-]*/.exec(tag) || [''];
-        if (!this.isDat && name !== 'datafile') throw new Fault('own', { sentence: OTHER_LISTS.get(name) || NOT_A_DAT });
+        if (!this.isDat && name !== 'datafile') throw new Fault(OTHER_LISTS.get(name) || 'dat/other-file', {});
         this.isDat = true;
         if (name.startsWith('/')) this.depth -= 1;
         else if (!tag.endsWith('/')) this.depth += 1;
-        if (this.depth > DEEPEST_ELEMENT) throw new Fault('own', { sentence: `its elements are more than ${DEEPEST_ELEMENT} deep` });
+        if (this.depth > DEEPEST_ELEMENT) throw new Fault('dat/deep', { most: DEEPEST_ELEMENT });
         if (name === 'rom' || name === 'disk') this.dump(attributesOf(tag));
     }
 
@@ -101,7 +89,7 @@ class DatReading {
         const hash = (/** @type {string} */ key, /** @type {number} */ digits) => hexOf((attributes.get(key) || '').toLowerCase(), digits);
         const [size, status] = [attributes.get('size') || '', attributes.get('status')];
         const name = unescaped(attributes.get('name') || '');
-        if (name.length > LONGEST_NAME) throw new Fault('own', { sentence: `it has a name of more than ${LONGEST_NAME} characters` });
+        if (name.length > LONGEST_NAME) throw new Fault('dat/long-name', { most: LONGEST_NAME });
         const sha1 = hash('sha1', 40);
         const hashes = sha1 === '' ? { sha1, crc32: hash('crc', 8), md5: hash('md5', 32) } : { sha1, crc32: '', md5: '' };
         if (!/^\d{1,15}$/.test(size) || `${sha1}${hashes.crc32}${hashes.md5}` === '' || status === 'nodump') {
@@ -113,9 +101,9 @@ class DatReading {
     }
 
     end() {
-        if (!this.isDat) throw new Fault('own', { sentence: NOT_A_DAT });
-        if (this.tags.isCut() || this.depth !== 0) throw new Fault('own', { sentence: 'it is cut' });
-        if (this.found === 0) throw new Fault('own', { sentence: 'it has no dump with a size and a hash' });
+        if (!this.isDat) throw new Fault('dat/other-file', {});
+        if (this.tags.isCut() || this.depth !== 0) throw new Fault('dat/cut', {});
+        if (this.found === 0) throw new Fault('dat/no-dump', {});
     }
 }
 
@@ -145,12 +133,6 @@ function dumpKey(size, hash) {
 function foundEntry({ name, isBad, names }, own) {
     const isOwn = names !== null && names.has(own) && (isBad || names.get(own) === false);
     return { name: isOwn ? own : name, isBad, others: names === null ? 0 : names.size - 1 };
-}
-
-/** @param {Found} found */
-function saidOf({ name, isBad, others }) {
-    const more = others === 0 ? '' : others === 1 ? ', and 1 other' : `, and ${others} others`;
-    return `${isBad ? BAD_DUMP : 'verified'} ${name}${more}`;
 }
 
 /** The dumps that DATs list. */
@@ -196,7 +178,7 @@ export class KnownDumps {
             return;
         }
         if (dump === undefined || dump.names === null || !dump.names.has(name)) this.entries += 1;
-        if (this.entries > MOST_DUMPS) throw new Fault('own', { sentence: `there are more than ${MOST_DUMPS} dumps` });
+        if (this.entries > MOST_DUMPS) throw new Fault('dat/too-many', { most: MOST_DUMPS });
         if (dump !== undefined) {
             addName(dump, name, isBad);
             return;
@@ -221,26 +203,15 @@ export class KnownDumps {
     }
 
     /**
-     * What is known of a file, such as 'verified NAME', or null.
-     * @param {number} size
-     * @param {Hashes} hashes
-     * @param {string} [name] of the file
-     */
-    said(size, hashes, name) {
-        const found = this.find(size, hashes, name);
-        return found && saidOf(found);
-    }
-
-    /**
      * The same of a file whose size is not known.
      * @param {string} sha1 in small letters
      * @param {string} [name]
      */
-    saidOfSha1(sha1, name = '') {
+    findSha1(sha1, name = '') {
         const hashed = (/** @type {string} */ key) => key.slice(key.indexOf(':') + 1);
         if (this.byHash === null) this.byHash = new Map([...this.dumps].reverse().map(([key, dump]) => [hashed(key), dump]));
         const dump = this.byHash.get(sha1);
-        return dump ? saidOf(foundEntry(dump, name)) : null;
+        return dump ? foundEntry(dump, name) : null;
     }
 
     /** @param {number} size */
@@ -249,11 +220,11 @@ export class KnownDumps {
     }
 
     /**
-     * What is said of a file that is none of the dumps: whether one has its size, from which follows what to try next.
+     * What is known of a file that is none of the dumps: whether one has its size, from which follows what to try next.
      * @param {number} size
      */
-    saidOfOther(size) {
-        return this.hasSize(size) ? ONLY_SIZE : NOT_EVEN_SIZE;
+    remarkOfOther(size) {
+        return remark(this.hasSize(size) ? 'dat/only-size' : 'dat/no-size', {});
     }
 }
 

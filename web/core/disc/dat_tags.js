@@ -8,8 +8,6 @@ const LONGEST_TAG = 1 << 14;
 const SKIPPED = [['!--', '-->'], ['![CDATA[', ']]>'], ['?', '?>']];
 const LONGEST_END = 3;
 
-const DECLARES = 'it declares what a DAT does not, such as entities';
-
 /** A tag after its `<`: to the first `>` outside of quotes, or to the `[` after which a DOCTYPE declares elements. */
 const TAG = /(?:[^"'>]|"[^"]*"|'[^']*')*>/y;
 const DOCTYPE = /!DOCTYPE(?:[^"'>[]|"[^"]*"|'[^']*')*[>[]/y;
@@ -24,7 +22,7 @@ function endOfTag(text, at) {
     const most = text.slice(at, at + LONGEST_TAG + 1);
     tag.lastIndex = 0;
     if (tag.test(most)) return at + tag.lastIndex;
-    if (most.length > LONGEST_TAG) throw new Fault('own', { sentence: `it has a tag of more than ${LONGEST_TAG} characters` });
+    if (most.length > LONGEST_TAG) throw new Fault('dat/long-tag', { most: LONGEST_TAG });
     return -1;
 }
 
@@ -81,7 +79,7 @@ export class TagReader {
     }
 
     endDeclarations() {
-        if (this.rest[this.at] !== ']') throw new Fault('own', { sentence: DECLARES });
+        if (this.rest[this.at] !== ']') throw new Fault('dat/declares', {});
         this.isDeclaring = false;
         this.at += 1;
         return true;
@@ -92,7 +90,7 @@ export class TagReader {
         if (end < 0) return false;
         const tag = this.rest.slice(this.at + 1, end - 1);
         this.at = end;
-        if (tag.includes('<')) throw new Fault('own', { sentence: `it is not well-formed: a < is inside of the tag <${tag.slice(0, 40)}` });
+        if (tag.includes('<')) throw new Fault('dat/tag', { tag: tag.slice(0, 40) });
         if (tag.startsWith('!')) this.declaration(tag, this.rest[end - 1] === '[');
         else this.take(tag);
         return true;
@@ -104,7 +102,7 @@ export class TagReader {
      */
     declaration(tag, opens) {
         if (!this.isDeclaring && /^!DOCTYPE\s/i.test(tag)) this.isDeclaring = opens;
-        else if (!this.isDeclaring || !/^!(?:ELEMENT|ATTLIST)\s/.test(tag)) throw new Fault('own', { sentence: DECLARES });
+        else if (!this.isDeclaring || !/^!(?:ELEMENT|ATTLIST)\s/.test(tag)) throw new Fault('dat/declares', {});
     }
 
     isCut() {

@@ -30,13 +30,13 @@ function encodingOfDat(begins) {
  */
 function decoderOf(start) {
     const begins = String.fromCharCode(...start.subarray(0, BEGINNING));
-    if (kindByBeginning(begins) === 'archive') throw new Fault('own', { sentence: 'it is an archive: unpack it' });
-    if (CLRMAMEPRO.test(begins)) throw new Fault('own', { sentence: "it is in clrmamepro's own format: save it as Logiqx XML" });
+    if (kindByBeginning(begins) === 'archive') throw new Fault('dat/archive', {});
+    if (CLRMAMEPRO.test(begins)) throw new Fault('dat/clrmamepro', {});
     const encoding = encodingOfDat(begins);
     try {
         return new TextDecoder(encoding);
     } catch {
-        throw new Fault('own', { sentence: `its encoding ${encoding} is not known here: save it as UTF-8` });
+        throw new Fault('dat/encoding', { encoding });
     }
 }
 

@@ -6,13 +6,13 @@ import { Fault } from '../faults.js';
 import { SECTOR_SIZE, sectorCount } from '../module/index.js';
 import { baseByAddresses } from './base.js';
 import { sheetsOf, tracksOf } from './cue.js';
-import { natureOf } from './file_type.js';
+import { kindOfFile } from './file_type.js';
 
 /** @typedef {import('../module/calls.js').Calls} Calls */
 /** @typedef {import('../bytes.js').Reader} Reader */
 /** @typedef {import('./cue.js').Sheet} Sheet */
 /** @typedef {import('./cue.js').Track} Track */
-/** @typedef {import('./file_type.js').FileNature} FileNature */
+/** @typedef {import('./file_type.js').FileKind} FileKind */
 /** @typedef {{ name: string, reader: Reader }} DiscFile */
 /**
  * An image of sectors, and the block of its first one. `addressed` is that block as most addresses of some sectors give it; if it is
@@ -35,52 +35,33 @@ import { natureOf } from './file_type.js';
 const RAW_TYPES = ['MODE1/2352', 'MODE2/2352', 'CDI/2352'];
 
 /**
- * Why a disc can't be opened, and what to do.
- * @param {string} message
- */
-export function discFault(message) {
-    return new Fault('disc', { sentence: message });
-}
-
-/**
- * A file of data that a cue sheet names is not there.
- * @param {string} sheet
- * @param {string} file
- * @param {string[]} names all files that are not
- */
-function missingFiles(sheet, file, names) {
-    const found = `${sheet} names ${file}.`;
-    return new Fault('missing-files', { sentence: `${found} Put it beside the cue sheet, or open both together.`, found, names, sheet });
-}
-
-/**
  * Opens a raw image, or a cue sheet with the files that it names. Throws a Fault, and what a reader throws.
  * @param {Calls} calls
  * @param {DiscFile[]} files
  * @returns {Promise<Disc>}
  */
 export async function openDisc(calls, files) {
-    /** @type {Map<DiscFile, FileNature>} */
-    const natures = new Map();
-    for (const file of files) natures.set(file, await natureOf(calls, file.reader));
-    const sheets = files.filter(file => natures.get(file)?.kind === 'cue');
-    if (sheets.length > 1) throw discFault(`${sheets[0].name} and ${sheets[1].name} are both cue sheets. Open one of them.`);
-    if (sheets.length === 1) return openSheet(calls, sheets[0], files.filter(file => file !== sheets[0]), natures);
-    if (files.length !== 1) throw discFault('Open one image, or a cue sheet together with the files that it names.');
-    const kind = assertSectors(files[0], natures);
+    /** @type {Map<DiscFile, FileKind>} */
+    const kinds = new Map();
+    for (const file of files) kinds.set(file, await kindOfFile(calls, file.reader));
+    const sheets = files.filter(file => kinds.get(file) === 'cue');
+    if (sheets.length > 1) throw new Fault('disc/two-sheets', { one: sheets[0].name, other: sheets[1].name });
+    if (sheets.length === 1) return openSheet(calls, sheets[0], files.filter(file => file !== sheets[0]), kinds);
+    if (files.length !== 1) throw new Fault('disc/no-image', {});
+    const kind = assertSectors(files[0], kinds);
     const image = kind === 'raw' ? await imageOf(calls, files[0], 0) : null;
     const track = { number: 1, type: '', file: 0, block: image && image.base, sectors: sectorCount(files[0].reader.size) };
     return { sheet: null, files, tracks: [{ ...track, image, part: image }] };
 }
 
 /**
- * What a file of sectors is, of data or of audio. Throws a Fault, DISC, if it is neither.
+ * What a file of sectors is, of data or of audio. Throws a Fault, `disc`, if it is neither.
  * @param {DiscFile} file
- * @param {Map<DiscFile, FileNature>} natures
+ * @param {Map<DiscFile, FileKind>} kinds
  */
-function assertSectors(file, natures) {
-    const { kind, what, advice } = /** @type {FileNature} */ (natures.get(file));
-    if (kind !== 'raw' && kind !== 'audio') throw discFault(`${file.name} is ${what}. ${advice}`);
+function assertSectors(file, kinds) {
+    const kind = /** @type {FileKind} */ (kinds.get(file));
+    if (kind !== 'raw' && kind !== 'audio') throw new Fault('disc/other-file', { name: file.name, kind });
     return kind;
 }
 
@@ -93,23 +74,21 @@ function assertSectors(file, natures) {
 export function dataTrack({ sheet, tracks }, number = null) {
     const named = number === null || sheet === null ? tracks : tracks.filter(track => track.number === number);
     if (named.length === 0) {
-        const numbers = tracks.map(it => it.number).join(', ');
-        throw discFault(`${sheet} has no track ${number}. It has ${numbers}. An image without a cue sheet is taken as that track.`);
+        throw new Fault('disc/no-track', { sheet: String(sheet), track: Number(number), tracks: tracks.map(it => it.number) });
     }
     const track = named.find(it => it.image !== null);
     if (track && track.image && track.part) return { ...track, image: track.image, part: track.part };
-    const which = number === null || sheet === null ? 'The disc has no track' : `Track ${number} is no track`;
-    throw discFault(`${which} of data with 2352 bytes a sector. Choose one that is.`);
+    throw number === null || sheet === null ? new Fault('disc/no-data', {}) : new Fault('disc/other-track', { track: number });
 }
 
 /**
  * @param {Calls} calls
  * @param {DiscFile} sheetFile
  * @param {DiscFile[]} others
- * @param {Map<DiscFile, FileNature>} natures
+ * @param {Map<DiscFile, FileKind>} kinds
  * @returns {Promise<Disc>}
  */
-async function openSheet(calls, sheetFile, others, natures) {
+async function openSheet(calls, sheetFile, others, kinds) {
     const sheet = sheetOfFiles(sheetsOf(await wholeOf(sheetFile.reader)), others);
     const files = sheet.files.map(({ name }) => fileNamed(name, others));
     const known = { ...sheet, files: sheet.files.map((file, i) => ({ ...file, raw: file.raw && files[i] !== null })) };
@@ -119,9 +98,9 @@ async function openSheet(calls, sheetFile, others, natures) {
         const file = files[track.file];
         if (file === null && isData(track)) {
             const missing = sheet.files.map(it => it.name).filter((_, i) => files[i] === null);
-            throw missingFiles(sheetFile.name, sheet.files[track.file].name, missing);
+            throw new Fault('disc/missing-files', { sheet: sheetFile.name, file: sheet.files[track.file].name, names: missing });
         }
-        if (file !== null && isRaw(track)) assertOneSize(file, known, track, natures);
+        if (file !== null && isRaw(track)) assertOneSize(file, known, track, kinds);
         tracks.push(await trackOf(calls, track, file, open.indexOf(file)));
     }
     return { sheet: sheetFile.name, files: /** @type {DiscFile[]} */ (open), tracks };
@@ -196,19 +175,19 @@ function imageAround({ name, base, addressed }, reader, before) {
 }
 
 /**
- * Throws a Fault, DISC, if the file of a track has other sectors too than those of 2352 bytes.
+ * Throws a Fault, `disc`, if the file of a track has other sectors too than those of 2352 bytes.
  * @param {DiscFile} file
  * @param {Sheet} sheet
  * @param {Track} track
- * @param {Map<DiscFile, FileNature>} natures
+ * @param {Map<DiscFile, FileKind>} kinds
  */
-function assertOneSize(file, sheet, track, natures) {
+function assertOneSize(file, sheet, track, kinds) {
     const others = sheet.points.filter(point => point.file === track.file && point.track.sectorSize !== SECTOR_SIZE);
     if (others.length > 0) {
-        throw discFault(`Track ${others[0].track.number} in ${file.name} has sectors of ${others[0].track.sectorSize} bytes. ` +
-            'Make an image of 2352 bytes a sector of each track first.');
+        const { number, sectorSize: size } = others[0].track;
+        throw new Fault('disc/sector-size', { track: number, name: file.name, size });
     }
-    assertSectors(file, natures);
+    assertSectors(file, kinds);
 }
 
 /** @param {Reader} reader */

@@ -7,11 +7,7 @@ import { isSubchannelFile } from './subchannels.js';
 
 /** @typedef {import('../module/calls.js').Calls} Calls */
 /** @typedef {import('../bytes.js').Reader} Reader */
-/**
- * @typedef {'raw' | 'audio' | 'subchannels' | 'iso' | 'chd' | 'ecm' | 'archive' | 'wave' | 'cue' | 'empty' | 'unknown' | 'scrambled' |
- *     'nrg' | 'mds' | 'ccd' | 'toc' | 'sub'} FileKind
- */
-/** @typedef {{ kind: FileKind, what: string, advice: string }} FileNature */
+/** @typedef {import('../facts.js').FileKind} FileKind */
 
 const SUBCHANNEL_SIZE = 2448;
 const VOLUME_MARK = 16 * USER_SIZE + 1;
@@ -26,33 +22,6 @@ const SCRAMBLER = [0x01, 0x80, 0x00, 0x60];
 /** Of a file with a sample in so many bytes, so many are read at once: each read takes its time, however little it reads. */
 const NEAR = 1 << 16;
 const SAMPLED_AT_ONCE = 1 << 18;
-
-/** @type {Record<FileKind, [string, string]>} what it is, and what to do with it */
-const NATURES = {
-    raw: ['a raw image, 2352 bytes a sector', ''],
-    audio: ['sectors of audio, or no image: none that was looked at has a sync field', 'Choose the data track of the disc.'],
-    subchannels: [
-        'an image of 2448 bytes a sector, with subchannels',
-        'Read the disc again without subchannels, or take the last 96 bytes off each sector.',
-    ],
-    iso: [
-        'an ISO image, 2048 bytes a sector',
-        'Make a raw image of it with cdscript raw, patch that, and make an ISO image of its user data.',
-    ],
-    chd: ['a CHD file', 'Unpack it with `chdman extractcd`, which writes a cue sheet and an image.'],
-    ecm: ['an ECM file', 'Unpack it with `unecm`, which writes the raw image.'],
-    archive: ['an archive', 'Unpack it, and choose the cue sheet or the raw image in it.'],
-    wave: ['audio in a RIFF/WAVE file', 'Choose the data track of the disc.'],
-    cue: ['a cue sheet', 'Open it with the files that it names.'],
-    scrambled: ['a scrambled image, with its sectors as they are on the disc', 'Descramble it first, with the program that read the disc.'],
-    nrg: ['an image of Nero (NRG)', 'Convert it to a raw image and a cue sheet.'],
-    mds: ['the description of an MDF image (MDS)', 'Choose the MDF file: with 2352 bytes a sector it is a raw image.'],
-    ccd: ['a control file of CloneCD (CCD)', 'Choose the IMG file beside it, which is a raw image.'],
-    toc: ['a TOC file of cdrdao', 'Make a cue sheet of it with `toc2cue`, or choose the image that it names.'],
-    sub: ['the subchannels of an image (SUB)', 'Choose the image itself.'],
-    empty: ['an empty file', 'Copy or download it again.'],
-    unknown: ['not recognised', 'Choose a raw image, 2352 bytes a sector, or its cue sheet.'],
-};
 
 /** @type {[FileKind, string][]} how files begin, a byte a character */
 const BEGINNINGS = [
@@ -73,20 +42,9 @@ export function kindByBeginning(begins) {
  * What a file is, by its size, its first bytes and a few of its sectors.
  * @param {Calls} calls
  * @param {Reader} reader
- * @returns {Promise<FileNature>}
- */
-export async function natureOf(calls, reader) {
-    const kind = await kindOfFile(calls, reader);
-    const [what, advice] = NATURES[kind];
-    return { kind, what, advice };
-}
-
-/**
- * @param {Calls} calls
- * @param {Reader} reader
  * @returns {Promise<FileKind>}
  */
-async function kindOfFile(calls, reader) {
+export async function kindOfFile(calls, reader) {
     if (reader.size === 0) return 'empty';
     const begins = await latin(reader, 0, LONGEST_BEGINNING);
     const known = kindByBeginning(begins);

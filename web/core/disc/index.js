@@ -2,10 +2,10 @@
 
 export { sampledBase } from './base.js';
 export { LAST_TRACK, sheetOf, sheetsOf } from './cue.js';
-export { BAD_DUMP, KnownDumps } from './dat.js';
+export { KnownDumps } from './dat.js';
 export { beginsLikeDat } from './dat_text.js';
-export { dataTrack, discFault, openDisc } from './disc.js';
-export { natureOf } from './file_type.js';
+export { dataTrack, openDisc } from './disc.js';
+export { kindOfFile } from './file_type.js';
 export { MODE1, fileIn, lostSectors, mode1Tracks, otherSectors } from './lost.js';
 export { isOneTrack, sheetOfOneTrack } from './one_track.js';
 export { lackOf } from './volume_end.js';

@@ -1,9 +1,9 @@
 // Opening files. What each file is decides what becomes of it.
 
 import { readBytes } from '../../core/bytes.js';
-import { discFault, natureOf, openDisc } from '../../core/disc/index.js';
+import { kindOfFile, openDisc } from '../../core/disc/index.js';
 import { encodingOf, textOfFile } from '../../core/encodings/index.js';
-import { failedBy } from '../../core/faults.js';
+import { Fault, failedBy } from '../../core/faults.js';
 import { MOST_SCRIPT_BYTES, MOST_SECTORS, SECTOR_KIND, SECTOR_SIZE, sectorCount } from '../../core/module/index.js';
 import { isMeantAsScript, isScript, modelInParts } from '../../core/script/index.js';
 import { imageTooLong } from '../../core/sectors/index.js';
@@ -169,11 +169,11 @@ async function openImages(app, files) {
     const names = files.map(file => file.name);
     if (refuseWhileSaving(app, names)) return NOTHING;
     const different = new Set(names.map(name => name.toLowerCase())).size;
-    if (different < names.length) throw discFault(texts.sameName);
+    if (different < names.length) throw new Fault('disc/own', { sentence: texts.sameName });
     const two = files.length === 2 && (await Promise.all(files.map(file => isRawImage(app, file)))).every(it => it);
     if (two && app.image !== null) {
         const [one, other] = names;
-        throw discFault(told(texts.isOpenAlready, { name: app.image.name, one, other }));
+        throw new Fault('disc/own', { sentence: told(texts.isOpenAlready, { name: app.image.name, one, other }) });
     }
     const images = [];
     for (const group of two ? [[files[0]], [files[1]]] : [files]) images.push(await openedImage(app, group));
@@ -201,7 +201,7 @@ function sayLeftOut(files, image) {
  * @param {File} file
  */
 async function isRawImage({ calls }, file) {
-    return (await natureOf(calls, fileReader(file))).kind === 'raw';
+    return await kindOfFile(calls, fileReader(file)) === 'raw';
 }
 
 /**
@@ -227,7 +227,7 @@ export function imageOfTrack(disc, sheet, number, renamed = new Map()) {
     const opened = audio === null ? openTrack(disc, { track: number }) : new OpenedTrack(disc, audio);
     const { image, part, track } = opened;
     if (imageTooLong(image.reader.size)) {
-        throw discFault(told(texts.tooManySectors, { most: MOST_SECTORS, name: image.name }));
+        throw new Fault('disc/own', { sentence: told(texts.tooManySectors, { most: MOST_SECTORS, name: image.name }) });
     }
     return { ...image, opened, part, from: disc.sheet || '', sheet, disc, number: track.number, sha1: '', crc32: '', renamed };
 }
@@ -251,13 +251,13 @@ function audioTrack({ files, tracks }) {
  * @param {unknown} error
  */
 async function showOpeningFailure(app, files, error) {
-    const kinds = files.map(file => natureOf(app.calls, fileReader(file)).then(({ kind }) => kind, () => 'unknown'));
-    const packed = files[failedBy(error, 'disc', 'missing-files') ? (await Promise.all(kinds)).indexOf('chd') : -1];
+    const kinds = files.map(file => kindOfFile(app.calls, fileReader(file)).catch(() => 'unknown'));
+    const packed = files[failedBy(error, 'disc') ? (await Promise.all(kinds)).indexOf('chd') : -1];
     if (packed) {
         return showNotice('bad', say(texts.compressedImage, { name: nameOf(packed.name) }), texts.makeRawImage,
             ...commandFor(packed.name));
     }
-    if (failedBy(error, 'missing-files')) return showFailure(error);
+    if (failedBy(error, 'disc/missing-files')) return showFailure(error);
     const names = [...files.map(file => file.name), app.image ? app.image.name : ''];
     return showNotice('bad', texts.notOpenedYet, ...messageParts(error, names));
 }

@@ -1,7 +1,7 @@
 // The disc of what a player chose, in one choice or in two: a cue sheet waits for the files that it names, and the other way round.
 
 import { readBytes } from '../../core/bytes.js';
-import { natureOf, openDisc } from '../../core/disc/index.js';
+import { kindOfFile, openDisc } from '../../core/disc/index.js';
 import { textOfFile } from '../../core/encodings/index.js';
 import { fileReader } from '../open/index.js';
 import * as texts from '../texts/index.js';
@@ -51,7 +51,7 @@ export class ChosenDisc {
      * @param {File[]} files
      */
     kinds(files) {
-        return Promise.all(files.map(file => natureOf(this.app.calls, fileReader(file)).then(({ kind }) => kind, () => '')));
+        return Promise.all(files.map(file => kindOfFile(this.app.calls, fileReader(file)).catch(() => '')));
     }
 
     /** @param {File[]} files */

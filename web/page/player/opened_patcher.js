@@ -1,6 +1,6 @@
 // Patchers that are opened: this page, if data stand after its last tag, or a file that is dropped on it.
 
-import { natureOf } from '../../core/disc/index.js';
+import { kindOfFile } from '../../core/disc/index.js';
 import { isScript } from '../../core/script/index.js';
 import { releaseOf } from '../app/index.js';
 import { fileReader } from '../open/index.js';
@@ -67,7 +67,7 @@ async function isPage(app, file) {
     if (PAGE_NAME.test(file.name)) return true;
     const bytes = new Uint8Array(await file.slice(0, PAGE_START).arrayBuffer());
     const text = new TextDecoder('latin1').decode(bytes).replaceAll('\0', '');
-    return PAGE_MARK.test(text) && !isScript(app.calls, bytes) && !IMAGES.includes((await natureOf(app.calls, fileReader(file))).kind);
+    return PAGE_MARK.test(text) && !isScript(app.calls, bytes) && !IMAGES.includes(await kindOfFile(app.calls, fileReader(file)));
 }
 
 /**

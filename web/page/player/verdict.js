@@ -1,7 +1,7 @@
 // What a player's image is to a patcher: the right disc, another dump that the patch fits or does not fit, or patched already; or one of
 // which the patch cannot say it.
 
-import { discFault } from '../../core/disc/index.js';
+import { Fault } from '../../core/faults.js';
 import { RESULT, SECTOR_SIZE } from '../../core/module/index.js';
 import { oldBytesOf, wordsOn } from '../../core/script/index.js';
 import { surveyCounts } from '../../core/sectors/index.js';
@@ -38,7 +38,9 @@ import { told } from '../texts/index.js';
  */
 export function imageOfSize(disc, size) {
     const [file] = disc.files;
-    if (disc.sheet === null && disc.tracks[0].image === null) throw discFault(told(texts.isMusicTrack, { name: file.name }));
+    if (disc.sheet === null && disc.tracks[0].image === null) {
+        throw new Fault('disc/own', { sentence: told(texts.isMusicTrack, { name: file.name }) });
+    }
     const track = disc.tracks.find(it => it.image !== null && it.image.reader.size === size);
     return (track || openTrack(disc)).image;
 }

@@ -123,8 +123,8 @@ export function endMessages() {
  * @param {string} [rest]
  */
 export function showFailure(error, rest = '') {
-    if (failedBy(error, 'missing-files')) {
-        const { sheet = '', names = [] } = error.facts;
+    if (failedBy(error, 'disc/missing-files')) {
+        const { sheet, names } = error.facts;
         return showNotice('bad', say(texts.alsoNeeds, { sheet: nameOf(sheet), names: namesOf(names) }), texts.openAllTogether);
     }
     const text = messageOf(error);
@@ -137,8 +137,8 @@ const MOST_MESSAGE = 1000;
 
 /** @param {unknown} error */
 function errorWords(error) {
-    if (failedBy(error, 'missing-files')) {
-        const { sheet = '', names = [] } = error.facts;
+    if (failedBy(error, 'disc/missing-files')) {
+        const { sheet, names } = error.facts;
         return `${told(texts.alsoNeeds, { sheet, names: names.join(', ') })} ${texts.openAllTogether}`;
     }
     if (failedBy(error, 'image-ended')) return texts.fileIsShorter;
