@@ -13,7 +13,7 @@ TOP = Path(__file__).resolve().parent.parent
 KINDS = {
     'pages': ('*.md', 'docs/*.md', 'man/*', 'bench/*.md', 'tests/README.md', 'tests/cases/README.md', 'web/npm/README.md',
               'tools/README.*', 'debian/control', 'debian/copyright'),
-    'help and cdscript': ('crates/cd_args/src/help.rt', 'web/command/*.js'),
+    'help and messages': ('crates/cd_args/src/help.rt', 'web/command/*.js', 'web/sentences/*.js'),
     'the page': ('web/page/texts/english.js',),
 }
 PATTERNS = {
