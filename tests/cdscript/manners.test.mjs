@@ -76,9 +76,9 @@ test('help of each job has an example that is right, and says all of the program
         }
     });
     for (const job of ['list', 'audit', 'check', 'apply']) {
-        assert.match((await run(['help', job])).out, /as\s+cdpatch\s.*The\s+first\s+sector\s+is\s+block\s+0,/s, job);
+        assert.match((await run(['help', job])).out, /like\s+cdpatch\s.*The\s+first\s+sector\s+is\s+block\s+0\s/s, job);
     }
-    assert.match((await run(['help', 'replace-file'])).out, /--fill HEX +fill up with this byte, as 20\n/);
+    assert.match((await run(['help', 'replace-file'])).out, /--fill HEX +pad with this byte, such as 20\n/);
 });
 
 test('a dash after -o is standard output', () => inDirectory(async room => {

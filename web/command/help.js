@@ -1,9 +1,9 @@
-// What help prints.
+// The texts of `help`.
 
 import { usageOf } from './arguments.js';
 import { FORMS, OPTION_FORMS } from './forms.js';
 
-/** Breaks a text at 79 columns, and beside an option at 54. */
+/** The lines of a text: up to 79 columns, and 54 next to an option. */
 const LINE = /\S.{0,78}(?= |$)/g;
 const BESIDE_OPTION = /\S.{0,53}(?= |$)/g;
 const COLUMN = 25;
@@ -29,7 +29,7 @@ function jobHelp(job) {
     const others = Object.entries(instead).map(([name, taken]) => `${usageOf(taken)} ${spelled(name)}`);
     const usage = [usageOf(takes), ...others].map((taken, i) => `${i === 0 ? 'Usage:' : '      '} cdscript ${job} [OPTIONS] ${taken}`);
     const rows = [...options, 'help'].map(name => optionRow(name, own[name]));
-    const lines = does.split(/ (?=Status: )/).flatMap(part => part.match(LINE) || []);
+    const lines = does.split(/\n| (?=Status: )/).flatMap(part => part.match(LINE) || []);
     return [says, '', ...lines, '', ...usage, '', 'Example:', `  ${example}`, '', 'Options:', ...rows];
 }
 
@@ -37,13 +37,14 @@ function jobHelp(job) {
 function wholeHelp(version) {
     const jobs = Object.keys(FORMS).map(job => `  ${job.padEnd(14)}${FORMS[job].says}`);
     const rows = ['help', 'version', 'notices'].map(name => optionRow(name));
-    return ['Look into raw images of CDs, and write and apply scripts that patch them', '',
+    return ['Inspect, translate, and repair raw CD images', '',
         'Usage: cdscript JOB [OPTIONS] ARGUMENTS', '', 'Jobs:', ...jobs, '', 'Options:', ...rows, '',
-        'The first argument of a job is a raw image, 2352 bytes a sector, or its cue',
+        'The first argument of a job is a raw image (2352 bytes per sector) or its cue',
         'sheet; - is standard input. Scripts and lists go to standard output, messages',
-        'to standard error. A file that is written must not exist. Options may stand',
-        'anywhere; after -- all are names. `cdscript help JOB` says more of a job.', '',
-        'Status: 0 done, 1 a patch is refused or something is found, 2 failed', '', version];
+        'to standard error. Output files must not exist yet. Options may appear',
+        'anywhere; every argument after -- is a name. `cdscript help JOB` describes a',
+        'job.', '',
+        'Status: 0 done, 1 findings or refused patches, 2 failed', '', version];
 }
 
 /**
