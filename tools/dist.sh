@@ -2,7 +2,8 @@
 # `tools/dist.sh DIRECTORY [KEY]` makes what a release has, of what `make` left in this tree: in DIRECTORY the tarball, in which `make
 # install` works without a toolchain, cdscript as cdscript.js, which node runs on any system, the page, packages for Debian, pip, and npm,
 # and the source packages of the first two; each with its checksum, and, with a KEY of ssh, its signature. What `make windows` and `make arm64`
-# left is packed too: an archive for Windows, a tarball, and packages for Debian and pip. What needs a missing command is not made, and said. The bytes follow from those of the files and from the tools, wherever, whenever, and by whom it is run.
+# left is packed too: an archive for Windows, a tarball, and packages for Debian and pip. What needs a missing command, or was not built, is not
+# made, and said. The bytes follow from those of the files and from the tools, wherever, whenever, and by whom it is run.
 set -euo pipefail
 umask 022
 mkdir -p "$1"
