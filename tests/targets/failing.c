@@ -10,13 +10,13 @@ int fails(const char *call);
 
 int fails(const char *call)
 {
-    static int calls;
+    static int calls, failed;
     char name[64];
     int number;
     const char *text = getenv("FAIL");
     if (!text || sscanf(text, "%63s %d", name, &number) != 2 || strcmp(name, call) != 0 || (number != 0 && ++calls != number))
         return 0;
-    FILE *file = fopen("FAILED", "w");
+    FILE *file = failed++ ? NULL : fopen("FAILED", "w");
     if (file)
         fclose(file);
     SetLastError(ERROR_GEN_FAILURE);
