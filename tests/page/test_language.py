@@ -74,7 +74,7 @@ def marked(english: str) -> str:
     def with_marks(found: re.Match[str]) -> str:
         return found[0] if found[1] is None else re.sub(r'\{\w+\}|\\(?:u\w{4}|x\w\w|.)|([A-Za-z])', lambda it: it[0] + (MARK if it[1] else ''), found[0], flags=re.DOTALL)
 
-    return re.sub(r'''//[^\n]*|export const LANGUAGE[^\n]*|(['"`])(?:\\.|(?!\1).)*\1''', with_marks, english, flags=re.DOTALL)
+    return re.sub(r'''//[^\n]*|export (?:const LANGUAGE|\{)[^\n]*|(['"`])(?:\\.|(?!\1).)*\1''', with_marks, english, flags=re.DOTALL)
 
 
 @functools.cache
