@@ -207,10 +207,11 @@ class TextsTable(PageTest):
 
     def test_a_list_of_known_dumps_names_the_disc(self) -> None:
         game, hurt = discs.game(), discs.scratched()
-        files = discs.written(game=game, hurt=hurt, other=common.image_of([b'other'] * 20))
+        files = discs.written(game=game, hurt=hurt, other=common.image_of([b'other'] * 20), same=game[:-1] + bytes([game[-1] ^ 1]))
         self.open_list(dat_of(('Starlit Detective (Japan).bin', game, ''), ('Hurt.bin', hurt, 'status="baddump"')))
         self.browser.wait('#start-message .say.good', 'It lists 2 known dumps.')
-        for name, said in (('game', 'known dump: Starlit Detective (Japan).bin'), ('hurt', 'known as a bad dump: Hurt.bin'), ('other', 'in none of the lists')):
+        for name, said in (('game', 'known dump: Starlit Detective (Japan).bin'), ('hurt', 'known as a bad dump: Hurt.bin'),
+                           ('same', 'but one of this size is'), ('other', 'in none of the lists')):
             self.open_image(files[name])
             self.browser.wait('#disc-line .tag', said)
             for panel in ('text', 'disc'):
@@ -220,6 +221,7 @@ class TextsTable(PageTest):
                 self.setUp()
                 self.open_list(dat_of(('Starlit Detective (Japan).bin', game, ''), ('Hurt.bin', hurt, 'status="baddump"')))
                 self.browser.wait('#start-message .say.good')
+        self.assertNotIn('of this size', self.browser.run("return document.querySelector('#disc-line .tag').innerText"))
 
     def test_a_list_in_UTF_16_without_sha1_names_the_disc_by_its_crc32(self) -> None:
         game = discs.game()

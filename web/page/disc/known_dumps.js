@@ -55,7 +55,10 @@ async function takeList(app, file) {
 export function dumpWords({ dumps }, { name: own, reader, sha1, crc32 }) {
     if (dumps.length === 0 || sha1 === '') return null;
     const found = dumps.flatMap(known => known.find(reader.size, { sha1, crc32 }, own) || []);
-    if (found.length === 0) return element('span', { class: 'tag warn' }, texts.inNoListOfDumps);
+    if (found.length === 0) {
+        const hasSize = dumps.some(known => known.hasSize(reader.size));
+        return element('span', { class: 'tag warn' }, hasSize ? texts.sizeInListOfDumps : texts.inNoListOfDumps);
+    }
     const [{ name, isBad }] = found;
     const words = isBad ? texts.knownBadDump : texts.verifiedDump;
     return element('span', { class: `tag ${isBad ? 'bad' : 'good'} dump` }, told(words, { name: seen(name) }));

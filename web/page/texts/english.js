@@ -420,6 +420,7 @@ export const openToLookUp = 'Open a disc image, to see whether it is one of them
 export const imageIsLookedUp = 'The open image is looked up in it.';
 export const notAListOfDumps = 'Not a list of known dumps that can be read: {name}';
 export const inNoListOfDumps = 'in none of the lists of known dumps';
+export const sizeInListOfDumps = 'in none of the lists of known dumps, but one of this size is: perhaps that dump repairs it';
 export const knownBadDump = 'known as a bad dump: {name}';
 export const verifiedDump = 'known dump: {name}';
 
