@@ -66,11 +66,11 @@ help:                       ## print this
 	    '  PREFIX=DIRECTORY (make install and make uninstall, which also are targets).'
 
 wasm:                       ## prove and make the WebAssembly modules
-	@[ -n '$(MODULES)' ] || { echo "library/cdpatch.wasm wants wasm-opt (Debian's package binaryen)." >&2; exit 1; }
+	@[ -n '$(MODULES)' ] || { echo "library/cdpatch.wasm needs wasm-opt (Debian's package binaryen)." >&2; exit 1; }
 	@python3 tools/prove.py wasm '$(AT_ONCE)'
 
 web: wasm                   ## make cdscript and cdpatch.html, and the modules in them
-	@[ -n '$(DOORS)' ] || { echo "cdscript and cdpatch.html want esbuild (Debian's package esbuild)." >&2; exit 1; }
+	@[ -n '$(DOORS)' ] || { echo "cdscript and cdpatch.html need esbuild (Debian's package esbuild)." >&2; exit 1; }
 	bash tools/notices.sh library/NOTICES
 	@python3 -B tools/header_numbers.py
 	bash tools/web.sh library .
@@ -84,7 +84,7 @@ windows:                    ## build the program and the library for Windows, in
 arm64:                      ## prove and build them for Linux on aarch64, in arm64/, over what `make` has proved
 	@python3 -B tools/targets.py arm64
 
-check:                      ## test what was built and the pages; proves nothing, and skips what wants a missing command
+check:                      ## test what was built and the pages; proves nothing, and skips tests that need a missing command
 	@test -x '$(PROGRAM)' || { echo 'There is no $(PROGRAM) to test: run make first.' >&2; exit 1; }
 	bash tests/run '$(PROGRAM)'
 

@@ -7,14 +7,14 @@ missing=()
 if [ "${1-}" = wasm ]; then
     made+=(library/cdpatch.wasm)
 else
-    missing+=("library/cdpatch.wasm, which wants wasm-opt (Debian's package binaryen)")
+    missing+=("library/cdpatch.wasm, which needs wasm-opt (Debian's package binaryen)")
 fi
 if [ "${2-}" = web ]; then
     made+=(cdscript cdpatch.html)
 elif [ "${1-}" = wasm ]; then
-    missing+=("cdscript and cdpatch.html, which want esbuild (Debian's package esbuild)")
+    missing+=("cdscript and cdpatch.html, which need esbuild (Debian's package esbuild)")
 else
-    missing+=("cdscript and cdpatch.html, which want library/cdpatch.wasm and esbuild (Debian's package esbuild)")
+    missing+=("cdscript and cdpatch.html, which need library/cdpatch.wasm and esbuild (Debian's package esbuild)")
 fi
 echo "made: ${made[*]}"
 [ ${#missing[@]} = 0 ] || printf 'not made: %s\n' "${missing[@]}"

@@ -119,5 +119,5 @@ def _applied(image: ReadableBuffer, script: ReadableBuffer, base: int, carry: bo
         if new.size < old.size:
             raise ValueError(f'out has {new.size} bytes, and the image {old.size}')
         if new.overlaps(old) or new.overlaps(text):
-            raise ValueError('out shares bytes with the image or the script')
+            raise ValueError('out overlaps the image or the script')
         return run(_InMemory(old, new), old.size, script, base, carry)

@@ -42,7 +42,7 @@ class Held:
         self._as_parameter_ = ctypes.c_void_p(self.place)
         if size is not None and size != self.size:
             self.release()
-            raise ValueError(f'{self.size} bytes and not {size}')
+            raise ValueError(f'expected {size} bytes, got {self.size}')
 
     def release(self) -> None:
         """Releases the object. A second call does nothing."""

@@ -44,7 +44,7 @@ class _Streams:
         if not isinstance(data, bytes):
             data = bytes(memoryview(data))
         if len(data) > size:
-            raise ValueError(f'the reader gave {len(data)} bytes and not {size}')
+            raise ValueError(f'the reader returned {len(data)} bytes, more than the {size} requested')
         return data
 
     def _pass_on(self, data: bytes) -> None:

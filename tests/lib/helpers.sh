@@ -34,7 +34,7 @@ by_random() { TMPDIR=$PWD bash "$tests/model/run" --cases "$random_cases" --seed
 # compiled NAME PURPOSE: compiles tests/process/NAME.c to NAME.so. If there is no compiler, records that PURPOSE is skipped, and fails.
 compiled() {
     gcc -shared -fPIC -O2 -o "$1.so" "$tests/process/$1.c" -ldl 2> compiler_errors ||
-        skip "$2, which wants gcc and the C library's headers (Debian's packages gcc and libc6-dev)"
+        skip "$2, which needs gcc and the C library's headers (Debian's packages gcc and libc6-dev)"
     [ -e "$1.so" ]
 }
 
@@ -52,7 +52,7 @@ judge_tap() {
             right*) lacking="a $lacking" ;;
             genisoimage | python3) lacking+=" (Debian's package $lacking)" ;;
         esac
-        skip "$1: $count of its tests, which want $lacking"
+        skip "$1: $count of its tests, which need $lacking"
     done < <(sed -nE 's/^ *ok .* # SKIP no (.*)/\1/p' tap | sort | uniq -c)
 }
 

@@ -46,7 +46,7 @@ skip() {
 # missing COMMAND PACKAGE [WHAT]: whether a command is missing. If so, records that WHAT is skipped.
 missing() {
     command -v "$1" > /dev/null && return 1
-    skip "${3-a part}, which wants $1 (Debian's package $2)"
+    skip "${3-a part}, which needs $1 (Debian's package $2)"
 }
 
 # wrong_versions WHICH: whether wrong versions are to be tried, that is, whether WRONG_VERSIONS is set. If not, records that they are left

@@ -63,7 +63,7 @@ def test_what_is_held_cannot_move_and_is_let_go():
     with pytest.raises(ValueError) as kept:
         Held(data, 2352)
     data.append(0)
-    assert str(kept.value) == '2353 bytes and not 2352'
+    assert str(kept.value) == 'expected 2352 bytes, got 2353'
 
 
 def test_each_call_lets_go_of_what_it_has_read():

@@ -227,7 +227,7 @@ def test_a_base_that_no_image_has_is_refused_by_patch(base):
 
 @pytest.mark.parametrize('first', [0, 3, 8])
 @pytest.mark.parametrize('answer, error, text', [
-    (lambda size: bytes(size + 1), ValueError, r'^the reader gave \d+ bytes and not \d+$'),
+    (lambda size: bytes(size + 1), ValueError, r'^the reader returned \d+ bytes, more than the \d+ requested$'),
     (lambda size: None, BlockingIOError, '^the reader has no bytes yet$'), (lambda size: 'text', TypeError, ''),
     (lambda size: 5, TypeError, ''), (raising(KeyError('mine')), KeyError, 'mine')])
 def test_a_reader_that_fails_leaves_a_prefix(first, answer, error, text):
