@@ -74,9 +74,9 @@ def test_an_output_that_shares_bytes_is_refused():
     room = bytearray(SECTOR + SECTOR + SCRIPT)
     image, script = memoryview(room)[:2352], memoryview(room)[4704:]
     for out in (image, memoryview(room)[1:2353], memoryview(room)[2351:4703], memoryview(room)):
-        with pytest.raises(ValueError, match='shares'):
+        with pytest.raises(ValueError, match='overlaps'):
             cdpatch.apply(image, SCRIPT, out=out)
-    with pytest.raises(ValueError, match='shares'):
+    with pytest.raises(ValueError, match='overlaps'):
         cdpatch.apply(image, script, out=memoryview(room)[2352 + len(SCRIPT):])
     assert room == SECTOR + SECTOR + SCRIPT
     assert cdpatch.apply(image, script, out=memoryview(room)[2352:4704]) == ('line 2: applied\napplied 1 refused 0\n', False)
