@@ -136,8 +136,8 @@ test('a table is refused by its size before it is read, and a long line by its b
         return decode.call(this, bytes);
     };
     try {
-        const message = `the table has ${100 << 20} bytes, and one has at most 8388608`;
-        assert.throws(() => tableOf(new Uint8Array(100 << 20)), { code: 'text', message });
+        const facts = { size: 100 << 20, most: 8388608 };
+        assert.throws(() => tableOf(new Uint8Array(100 << 20)), { code: 'text/large-table', facts });
         assert.equal(decoded, 0);
     } finally {
         TextDecoder.prototype.decode = decode;
@@ -150,15 +150,15 @@ test('a table is refused by its size before it is read, and a long line by its b
         return cut;
     };
     try {
-        const lines = { [`${'41'.repeat(2 << 20)}=b`]: 'has more than 8 bytes', [`41=${'b'.repeat(4 << 20)}`]: 'has a text of more than 64 characters',
-            ['"'.repeat(4 << 20)]: 'is not HEX=TEXT' };
-        for (const [line, why] of Object.entries(lines)) {
-            assert.throws(() => tableOf(encoded(`00=a\n${line}\n`)), { message: `line 2 of the table ${why}` });
+        const lines = { [`${'41'.repeat(2 << 20)}=b`]: 'text/long-bytes', [`41=${'b'.repeat(4 << 20)}`]: 'text/long-text',
+            ['"'.repeat(4 << 20)]: 'text/no-pair' };
+        for (const [line, code] of Object.entries(lines)) {
+            assert.throws(() => tableOf(encoded(`00=a\n${line}\n`)), error => error.code === code && error.facts.line === 2);
         }
         assert.ok(longest > 0 && longest < 1000, `${longest}`);
     } finally {
         String.prototype.slice = slice;
     }
     assert.equal(tableOf(encoded('41=\0\n42=a\n')).text(Uint8Array.of(0x41, 0x42)), '\0a');
-    assert.throws(() => tableOf(encoded('\n'.repeat((8 << 20) + 1))), { code: 'text' });
+    assert.throws(() => tableOf(encoded('\n'.repeat((8 << 20) + 1))), { code: 'text/large-table' });
 });

@@ -27,9 +27,11 @@ const hex = (number, bytes) => number.toString(16).padStart(2 * bytes, '0');
 export const harmlessTable = size =>
     bytesOf(Array.from({ length: Math.floor(size / 8) }, (_, i) => `${hex(0x8000 + i, 2)}=${String.fromCodePoint(0x4E00 + i)}\n`).join(''));
 
+const LONG_BYTES = { fault: 'line 2 of the table has more than 8 bytes', code: 'text/long-bytes' };
+
 /**
- * Tables that take long, each with a text to find in zeros, and why it is refused.
- * @type {Record<string, { table: Uint8Array, text: string, fault?: string }>}
+ * Tables that take long, each with a text to find in zeros, and what is said of one that is refused, with its code.
+ * @type {Record<string, { table: Uint8Array, text: string, fault?: string, code?: string }>}
  */
 export const TABLES = {
     'one text of many lengths': {
@@ -38,10 +40,10 @@ export const TABLES = {
     'one text of many bytes': {
         table: bytesOf(`${Array.from({ length: 65000 }, (_, i) => `00${hex(i + 1, 2)}=a\n`).join('')}01=b\n`), text: 'ab',
     },
-    'long bytes': { table: bytesOf(`00=b\n${'00'.repeat(4096)}=a\n`), text: 'b', fault: 'line 2 of the table has more than 8 bytes' },
-    'very long bytes': { table: bytesOf(`00=b\n${'00'.repeat(200000)}=a\n`), text: 'b', fault: 'line 2 of the table has more than 8 bytes' },
+    'long bytes': { table: bytesOf(`00=b\n${'00'.repeat(4096)}=a\n`), text: 'b', ...LONG_BYTES },
+    'very long bytes': { table: bytesOf(`00=b\n${'00'.repeat(200000)}=a\n`), text: 'b', ...LONG_BYTES },
     'a long text': {
-        table: bytesOf(`00=b\n01=${'b'.repeat(200000)}\n`), text: 'b', fault: 'line 2 of the table has a text of more than 64 characters',
+        table: bytesOf(`00=b\n01=${'b'.repeat(200000)}\n`), text: 'b', fault: 'line 2 of the table has a text of more than 64 characters', code: 'text/long-text',
     },
 };
 

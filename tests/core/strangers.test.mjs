@@ -48,7 +48,7 @@ for (const [what, sheet] of Object.entries(SHEETS)) {
     });
 }
 
-for (const [what, { table, text, fault: due = '' }] of Object.entries(TABLES)) {
+for (const [what, { table, text, code: due = '' }] of Object.entries(TABLES)) {
     test(`a table takes no longer: ${what}`, async () => {
         const { answer, fault, seconds } = await timed(() => {
             const own = tableOf(table);

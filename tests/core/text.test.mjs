@@ -8,7 +8,7 @@ import { ENCODINGS_KNOWN, core } from './common.mjs';
 const { ENCODINGS, encodingOf, tableOf, textOfFile } = await core('encodings/encodings.js');
 const { encodeText, fillsOf, spaceIn, usualBytes } = await core('encodings/encoding.js');
 const { cellOf, unitsOfCell } = await core('texts/codes.js');
-const { leftOutText } = await core('encodings/table.js');
+const { linesLeftOut } = await core('encodings/table.js');
 const { unitsAlike } = await core('texts/alike.js');
 
 /** @param {Uint8Array} bytes */
@@ -233,7 +233,7 @@ test('every spelling of a part is read as that part', () => {
 });
 
 test('a shorter text is filled up with the encoding\'s own space', () => {
-    const fills = encoding => fillsOf(encoding).map(({ bytes, name }) => `${hex(bytes)} ${name}`.trim()).join(', ');
+    const fills = encoding => fillsOf(encoding).map(({ bytes, name }) => `${hex(bytes)} ${name.replace('-', ' ')}`.trim()).join(', ');
     assert.deepStrictEqual(ENCODINGS.map(it => [it.name, fills(it)]), ENCODINGS_KNOWN.map(it => [it.name, it.fills]));
     assert.deepStrictEqual([spaceIn(table('20=A')), fills(table('20=A')), fills(table('05= '))], [null, '00', '05 space, 00']);
 });
@@ -261,18 +261,21 @@ test('loosely each half-width form is one with its full-width one, from the firs
     assert.deepStrictEqual(forms('Ａ', true).sort(), ['41', '61', '8260', '8281']);
 });
 
+/** That an encoding lacks a character, with its place among whole characters, from 1, and in the string. */
+const lacking = (name, character, place, at) => ({ code: 'text/no-character', facts: { name, character, place, at } });
+
 test('hex is read in any case and with spaces, and written in capitals', () => {
     assert.strictEqual(encoded('HEX', '0a ff\n B0'), '0AFFB0');
     assert.strictEqual(decoded('hex', '0aff'), '0AFF');
-    assert.throws(() => encoded('hex', '0A F 0'), { message: /character 4 of the text is half a byte/ });
-    assert.throws(() => encoded('hex', '0A zz'), { message: 'hex has no \'z\' (U+007A), character 4 of the text' });
+    assert.throws(() => encoded('hex', '0A F 0'), { code: 'text/half-byte', facts: { place: 4 } });
+    assert.throws(() => encoded('hex', '0A zz'), lacking('hex', 'z', 4, 3));
 });
 
 test('a character without bytes is named, with its place', () => {
-    assert.throws(() => encoded('CP932', '上😀下é'), { message: 'CP932 has no \'😀\' (U+1F600), character 2 of the text' });
-    assert.throws(() => encoded('sjis', '😎'), { message: /, character 1 of the text$/ });
-    assert.throws(() => encoded('EUC-JP', '髙\n\u00A0'), { message: 'EUC-JP has no U+00A0, character 3 of the text' });
-    for (const name of ['UTF-8', 'UTF-16LE', 'UTF-16BE']) assert.throws(() => encoded(name, '😀x\uD800'), { message: /U\+D800, character 3 of the text$/ });
+    assert.throws(() => encoded('CP932', '上😀下é'), lacking('CP932', '😀', 2, 1));
+    assert.throws(() => encoded('sjis', '😎'), lacking('CP932', '😎', 1, 0));
+    assert.throws(() => encoded('EUC-JP', '髙\n\u00A0'), lacking('EUC-JP', '\u00A0', 3, 2));
+    for (const name of ['UTF-8', 'UTF-16LE', 'UTF-16BE']) assert.throws(() => encoded(name, '😀x\uD800'), lacking(name, '\uD800', 3, 3));
 });
 
 test('encodings are known by their usual names, and no others', () => {
@@ -300,30 +303,28 @@ test('a table takes the longest match, both ways', () => {
     for (const [bytes, text] of [[[8, 9, 0xB], 'bd'], [[8, 9, 0xA], 'c'], [[8, 9], 'b'], [[8], 'a'], [[8, 0xB], 'ad'], [[8, 9, 0xA, 8, 9], 'cb'], [[9, 8, 9], '\uFFFDb']]) {
         for (let again = 0; again < 2; again++) assert.strictEqual(long.text(Uint8Array.from(bytes)), text);
     }
-    assert.throws(() => encodeText(own, 'abd'), { message: 'the table has no \'d\' (U+0064), character 3 of the text' });
+    assert.throws(() => encodeText(own, 'abd'), lacking('the table', 'd', 3, 2));
 });
 
 test('a table that can\'t be read names its line', () => {
-    assert.throws(() => table('01=a\nxx=b'), { message: 'line 2 of the table is not HEX=TEXT' });
-    assert.throws(() => table('01=a\n123=b'), { message: /^line 2 / });
-    assert.throws(() => table('01=a\n02=b\n01=c'), { message: 'line 3 of the table: 01 stands twice' });
+    assert.throws(() => table('01=a\nxx=b'), { code: 'text/no-pair', facts: { line: 2 } });
+    assert.throws(() => table('01=a\n123=b'), { code: 'text/no-pair', facts: { line: 2 } });
+    assert.throws(() => table('01=a\n02=b\n01=c'), { code: 'text/twice', facts: { line: 3, digits: '01' } });
 });
 
 test('tables of other tools are read, and the lines that mean nothing here are numbered', () => {
     const own = table('@JP\n//a comment\n   \n01=a\n!FD=KANJI,1\n$FE=[WAIT],1\n$FB=[END]\n(0h)start\n[0h-100h]Script\nFE=\n$F0=[X],%D\n/FF\n*FC\n$F101=[C],2\n');
     assert.deepStrictEqual(own.leftOut, [1, 5, 8, 9, 10, 11]);
-    assert.strictEqual(leftOutText(own), 'lines 1, 5, 8, 9, 10, 11 of the table mean nothing here, and are left out');
-    assert.strictEqual(leftOutText(table('01=a\n@JP')), 'line 2 of the table means nothing here, and is left out');
-    assert.strictEqual(leftOutText(table('01=a')), '');
-    assert.match(leftOutText(table(`01=a\n${'@JP\n'.repeat(25)}`)), /20, 21, and 5 more of the table/);
+    assert.deepStrictEqual(linesLeftOut(own), { code: 'text/lines-left-out', facts: { lines: [1, 5, 8, 9, 10, 11] } });
+    assert.strictEqual(linesLeftOut(table('01=a')), null);
     assert.strictEqual(own.end, 0xFF);
     for (const [bytes, cell] of [['01FE0101', 'a[WAIT]{01}a'], ['FE', '[WAIT]'], ['F10101FB01', '[C]{01FB}a'], ['F101FE', '[C]{FE}'], ['FBFCFF', '[END]{FC}{FF}']]) {
         assert.strictEqual(cellOf(own, Buffer.from(bytes, 'hex')), cell);
         assert.strictEqual(hex(usualBytes(unitsOfCell(own, cell))), bytes);
     }
-    assert.throws(() => table('$FE=a,9'), { message: 'line 1 of the table has more than 8 parameters' });
-    assert.throws(() => table('[\n{"a": 1}\n]'), { message: /^line 3 of the table is not HEX=TEXT$|^the table has no line HEX=TEXT$/ });
-    assert.throws(() => table('@JP\n!FD=KANJI,1'), { message: 'the table has no line HEX=TEXT' });
+    assert.throws(() => table('$FE=a,9'), { code: 'text/many-parameters', facts: { line: 1, most: 8 } });
+    assert.throws(() => table('[\n{"a": 1}\n]'), ({ code }) => ['text/no-pair', 'text/empty-table'].includes(code));
+    assert.throws(() => table('@JP\n!FD=KANJI,1'), { code: 'text/empty-table' });
 });
 
 test('files of a person are UTF-8, or else CP932', () => {

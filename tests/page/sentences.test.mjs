@@ -25,3 +25,18 @@ test('a remark among the facts of another is said in the same language', () => {
     const others = { 'list/row-left': ({ why }, said) => `<${said(why)}>`, 'list/overlaps': ({ row: number }) => String(number) };
     assert.equal(sentenceOf(row, others), '<2>');
 });
+
+test('the first lines of a table that mean nothing here are named, and the others counted', () => {
+    const said = lines => sentenceOf({ code: 'text/lines-left-out', facts: { lines } });
+    assert.equal(said([2]), 'line 2 of the table means nothing here, and is left out');
+    assert.equal(said([1, 5]), 'lines 1, 5 of the table mean nothing here, and are left out');
+    assert.match(said(Array.from({ length: 25 }, (_, i) => i + 2)), / 20, 21, and 5 more of the table /);
+});
+
+test('a character without bytes is shown, or is a number if nobody would see it', () => {
+    const said = character => sentenceOf({ code: 'text/no-character', facts: { name: 'CP932', character, place: 2, at: 1 } });
+    assert.equal(said('😀'), "CP932 has no '😀' (U+1F600), character 2 of the text");
+    for (const [character, code] of [['\u00A0', 'U+00A0'], ['\u0301', 'U+0301'], ['\uD800', 'U+D800']]) {
+        assert.equal(said(character), `CP932 has no ${code}, character 2 of the text`);
+    }
+});

@@ -22,7 +22,7 @@ const IN_WORKERS = ['crew', 'jobs'];
 const BESIDE_TASKS = {
     page: {
         disc: ['KnownDumps', 'beginsLikeDat', 'isOneTrack', 'kindOfFile', 'openDisc', 'sheetOf', 'sheetOfOneTrack'],
-        encodings: ['CP932', 'ENCODINGS', 'SEARCHED', 'USUAL_ENCODING', 'encodeText', 'encodingOf', 'fillsOf', 'leftOutText', 'spaceIn',
+        encodings: ['CP932', 'ENCODINGS', 'SEARCHED', 'USUAL_ENCODING', 'encodeText', 'encodingOf', 'fillsOf', 'linesLeftOut', 'spaceIn',
             'tableEncoding', 'tableTextOf', 'textOfFile', 'usualBytes'],
         iso: ['filesAt', 'filesLines'],
         script: ['NEAR_HELD', 'NEAR_WRITTEN', 'NEWEST_VERSION', 'ScriptModel', 'VERSIONS', 'afterColon', 'baseComment', 'contentOf',
@@ -35,7 +35,7 @@ const BESIDE_TASKS = {
     },
     command: {
         disc: ['KnownDumps', 'LAST_TRACK', 'fileIn', 'kindOfFile', 'openDisc', 'sampledBase', 'sheetsOf'],
-        encodings: ['ENCODINGS', 'SEARCHED', 'encodingOf', 'fillerOf', 'leftOutText', 'tableEncoding', 'tableTextOf', 'usualBytes'],
+        encodings: ['ENCODINGS', 'SEARCHED', 'encodingOf', 'fillerOf', 'linesLeftOut', 'tableEncoding', 'tableTextOf', 'usualBytes'],
         iso: ['filesLines'],
         script: ['LineList', 'NEAR_WRITTEN', 'ScriptParts', 'scriptForBase'],
         sectors: ['FIELDS', 'LONG_IMAGE', 'addToRuns', 'addressIn', 'addressText', 'auditText', 'blocksIn', 'findingOf',

@@ -1,8 +1,9 @@
 // Texts in a data track, by an encoding that is given or by those that are searched for.
 
 import { wholeOf } from '../core/bytes.js';
-import { SEARCHED, encodingOf, leftOutText, tableEncoding, tableTextOf } from '../core/encodings/index.js';
+import { SEARCHED, encodingOf, linesLeftOut, tableEncoding, tableTextOf } from '../core/encodings/index.js';
 import { findText } from '../core/tasks/index.js';
+import { sentenceOf } from '../sentences/index.js';
 
 /** @typedef {import('../core/encodings/encoding.js').Encoding} Encoding */
 /** @typedef {import('../core/tasks/opened.js').OpenedTrack} OpenedTrack */
@@ -15,8 +16,8 @@ import { findText } from '../core/tasks/index.js';
  */
 export function tableSaid(run, text) {
     const own = tableEncoding(text);
-    const note = leftOutText(own);
-    if (note !== '') run.sayOnce(note);
+    const note = linesLeftOut(own);
+    if (note !== null) run.sayOnce(sentenceOf(note));
     return own;
 }
 
@@ -42,7 +43,7 @@ export async function foundText(run, opened, text, limit) {
     const { options: { loose, encoding, table } } = run;
     const found = await findText(run, opened, { text, encodings: await encodingsOf(run), loose, limit });
     const { image, best, others, searched, faults } = found;
-    faults.forEach(({ message }) => run.say(message));
+    faults.forEach(fault => run.say(sentenceOf(fault)));
     if (best === null) {
         const which = opened.disc.sheet === null ? '' : `track ${opened.track.number} in `;
         run.say(`${which}${image.name} was searched for the text in ${searched.join(', ')}`);

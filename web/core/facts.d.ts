@@ -62,7 +62,17 @@ export interface Facts {
     'dat/no-size': {};
 
     volume: { sentence: string };
-    text: { sentence: string; at: number };
+    // Texts without bytes, and a game's own tables. `at` is the character's place in the string, and `place` counts whole characters from 1.
+    'text/no-character': { name: string; character: string; place: number; at: number };
+    'text/half-byte': { place: number };
+    'text/large-table': { size: number; most: number };
+    'text/empty-table': {};
+    'text/no-pair': { line: number };
+    'text/long-bytes': { line: number; most: number };
+    'text/long-text': { line: number; most: number };
+    'text/many-parameters': { line: number; most: number };
+    'text/twice': { line: number; digits: string };
+    'text/lines-left-out': { lines: number[] };
 
     // Scripts. `line` of `refused` is the program's own.
     'script/refused': { line: string; tooLong: boolean };

@@ -35,6 +35,26 @@ function leftClause({ runs, image, most }) {
     return `${[...new Set(runs.flatMap(run => run.kinds))].map(kindName).join(' and ')} in ${blocks}, and a script changes only mode1`;
 }
 
+/**
+ * A character, by its number too.
+ * @param {string} character
+ */
+function shownCharacter(character) {
+    const code = (character.codePointAt(0) || 0).toString(16).toUpperCase().padStart(4, '0');
+    return /[\p{C}\p{Z}\p{M}]/u.test(character) ? `U+${code}` : `'${character}' (U+${code})`;
+}
+
+/** How many lines of a table are named that mean nothing here. */
+const MOST_NAMED = 20;
+
+/** @param {Facts['text/lines-left-out']} facts */
+function linesLeftOut({ lines }) {
+    const more = lines.length > MOST_NAMED ? [`and ${lines.length - MOST_NAMED} more`] : [];
+    const named = [...lines.slice(0, MOST_NAMED), ...more].join(', ');
+    return lines.length === 1 ? `line ${named} of the table means nothing here, and is left out`
+        : `lines ${named} of the table mean nothing here, and are left out`;
+}
+
 /** @param {Facts['list/code-left']} left */
 function leftCode({ code, count, rows, first }) {
     const often = count === 1 ? 'once' : `${count} times`;
@@ -102,6 +122,17 @@ export const ENGLISH = {
     'dat/dump': knownDump,
     'dat/only-size': () => 'the DAT has a dump of this size, but none with this SHA-1: perhaps another dump of the disc repairs it',
     'dat/no-size': () => 'the DAT has no dump of this size: perhaps it is cut, or of another disc',
+
+    'text/no-character': ({ name, character, place }) => `${name} has no ${shownCharacter(character)}, character ${place} of the text`,
+    'text/half-byte': ({ place }) => `hexadecimal digits come in pairs: character ${place} of the text is half a byte`,
+    'text/large-table': ({ size, most }) => `the table has ${size} bytes, and one has at most ${most}`,
+    'text/empty-table': () => 'the table has no line HEX=TEXT',
+    'text/no-pair': ({ line }) => `line ${line} of the table is not HEX=TEXT`,
+    'text/long-bytes': ({ line, most }) => `line ${line} of the table has more than ${most} bytes`,
+    'text/long-text': ({ line, most }) => `line ${line} of the table has a text of more than ${most} characters`,
+    'text/many-parameters': ({ line, most }) => `line ${line} of the table has more than ${most} parameters`,
+    'text/twice': ({ line, digits }) => `line ${line} of the table: ${digits} stands twice`,
+    'text/lines-left-out': linesLeftOut,
 
     'script/refused': ({ line }) => line,
     'script/other-base': ({ line, base, begins }) =>

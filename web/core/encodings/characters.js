@@ -9,24 +9,6 @@ const NO_CHARACTER = '\uFFFD';
 const PIECE = 1 << 12;
 
 /**
- * Why a text has no bytes, or a table can't be read.
- * @param {string} message
- * @param {number} [at] where a character stands in the text that has no bytes, if that is why
- */
-export function textFault(message, at = -1) {
-    return new Fault('text', { sentence: message, at });
-}
-
-/**
- * A character as a message shows it.
- * @param {string} character
- */
-function shownCharacter(character) {
-    const code = (character.codePointAt(0) || 0).toString(16).toUpperCase().padStart(4, '0');
-    return /[\p{C}\p{Z}\p{M}]/u.test(character) ? `U+${code}` : `'${character}' (U+${code})`;
-}
-
-/**
  * @param {string} name of an encoding
  * @param {string} text
  * @param {number} at where the character that it lacks stands in the text
@@ -34,7 +16,7 @@ function shownCharacter(character) {
 export function lacks(name, text, at) {
     const place = [...text.slice(0, at)].length + 1;
     const character = String.fromCodePoint(text.codePointAt(at) || 0);
-    return textFault(`${name} has no ${shownCharacter(character)}, character ${place} of the text`, at);
+    return new Fault('text/no-character', { name, character, place, at });
 }
 
 /**

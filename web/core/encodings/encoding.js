@@ -151,12 +151,14 @@ export function fillerOf(encoding, filler) {
  * @param {Encoding} encoding
  */
 export function fillsOf(encoding) {
+    /** @type {{ bytes: Uint8Array, name: '' | 'space' | 'wide-space' }[]} */
     const fills = [];
-    for (const [text, name] of [[encoding.space, 'space'], [encoding.wideSpace, 'wide space']]) {
+    for (const [text, name] of /** @type {const} */ ([[encoding.space, 'space'], [encoding.wideSpace, 'wide-space']])) {
         const bytes = bytesIfAny(encoding, text);
         if (bytes !== null) fills.push({ bytes, name: /\S/.test(text) ? '' : name });
     }
-    return fills.some(({ bytes }) => bytes.every(byte => byte === 0)) ? fills : [...fills, { bytes: Uint8Array.of(0), name: '' }];
+    if (!fills.some(({ bytes }) => bytes.every(byte => byte === 0))) fills.push({ bytes: Uint8Array.of(0), name: '' });
+    return fills;
 }
 
 /** What may fill up the room of a text after it, beside the wide space. */

@@ -1,7 +1,7 @@
 // The encodings by their names, and the texts of files.
 
+import { Fault } from '../faults.js';
 import { BIG5 } from './big5.js';
-import { textFault } from './characters.js';
 import { CP932 } from './cp932.js';
 import { EUC_JP } from './euc_jp.js';
 import { EUC_KR } from './euc_kr.js';
@@ -71,16 +71,16 @@ export function textsOfFile(bytes) {
 }
 
 /**
- * The text of a `.tbl` file. Throws a Fault, TEXT, if it is too long.
+ * The text of a `.tbl` file. Throws a Fault if it is too long.
  * @param {Uint8Array} bytes
  */
 export function tableTextOf(bytes) {
-    if (bytes.length > LARGEST_TABLE) throw textFault(`the table has ${bytes.length} bytes, and one has at most ${LARGEST_TABLE}`);
+    if (bytes.length > LARGEST_TABLE) throw new Fault('text/large-table', { size: bytes.length, most: LARGEST_TABLE });
     return textOfFile(bytes);
 }
 
 /**
- * The encoding of a `.tbl` file. Throws a Fault, TEXT, that names the line.
+ * The encoding of a `.tbl` file. Throws a Fault that names the line.
  * @param {Uint8Array} bytes
  */
 export function tableOf(bytes) {

@@ -1,7 +1,8 @@
 // The encoding of bytes as hexadecimal digits.
 
-import { lacks, textFault } from './characters.js';
+import { Fault } from '../faults.js';
 import { PAIRS_OF_DIGITS, bytesOfHex, hexText } from '../hex_digits.js';
+import { lacks } from './characters.js';
 
 /** @typedef {import('./encoding.js').Encoding} Encoding */
 
@@ -12,7 +13,7 @@ import { PAIRS_OF_DIGITS, bytesOfHex, hexText } from '../hex_digits.js';
 function notHex(text, at) {
     const place = [...text.slice(0, at)].length + 1;
     if (!/[0-9A-Fa-f]/.test(text[at])) return lacks('hex', text, at);
-    return textFault(`hexadecimal digits come in pairs: character ${place} of the text is half a byte`);
+    return new Fault('text/half-byte', { place });
 }
 
 /** @type {Encoding} bytes in hexadecimal digits, with or without spaces and line ends between them */

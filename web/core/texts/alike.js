@@ -91,8 +91,7 @@ export function unitsAlike(encoding, text, loose = false) {
         try {
             for (const unit of encoding.units(whole.slice(from, at))) units.push(unit);
         } catch (error) {
-            const lacking = failedBy(error, 'text') ? error.facts.at ?? -1 : -1;
-            throw lacking < 0 ? error : lacks(encoding.name, whole, from + lacking);
+            throw failedBy(error, 'text/no-character') ? lacks(encoding.name, whole, from + error.facts.at) : error;
         }
     };
     const found = spellingsAsked.get(encoding) || [new Map(), new Map()];

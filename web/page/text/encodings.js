@@ -1,8 +1,8 @@
 // The encodings that can be chosen.
 
-import { ENCODINGS, USUAL_ENCODING, encodingOf, leftOutText, tableEncoding, tableTextOf } from '../../core/encodings/index.js';
+import { ENCODINGS, USUAL_ENCODING, encodingOf, linesLeftOut, tableEncoding, tableTextOf } from '../../core/encodings/index.js';
 import * as texts from '../texts/index.js';
-import { say } from '../texts/index.js';
+import { remarkText, say } from '../texts/index.js';
 import { capital, element, fill, messageOf, nameOf, notice, showNotice, shownName } from '../ui/index.js';
 
 /** @typedef {import('../app/state.js').App} App */
@@ -86,8 +86,8 @@ export async function takeTable(app, file) {
         const table = tableEncoding(text);
         sources.set(table, text);
         app.addTable(file.name, table);
-        const leftOut = leftOutText(table);
-        const rest = leftOut === '' ? texts.isEncodingNow : `${texts.isEncodingNow} ${capital(leftOut)}.`;
+        const leftOut = linesLeftOut(table);
+        const rest = leftOut === null ? texts.isEncodingNow : `${texts.isEncodingNow} ${capital(remarkText(leftOut))}.`;
         return ['good', say(texts.fileLoaded, { name: nameOf(file.name) }), rest];
     } catch (error) {
         return ['bad', say(texts.noReadableTable, { name: nameOf(file.name) }), messageOf(error)];

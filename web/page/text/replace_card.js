@@ -25,6 +25,8 @@ import { textLines } from './hits.js';
 
 const MOST_BOXES = 40;
 
+const SPACES = { '': '', space: texts.spaceFill, 'wide-space': texts.wideSpaceFill };
+
 /** What is filled with if there is no space, until somebody has chosen. */
 const NO_FILL = 'none';
 const OTHER_FILL = '';
@@ -83,7 +85,7 @@ export class ReplaceCard {
         const encoding = chosenEncoding(this.app);
         if (this.filled === encoding) return;
         this.filled = encoding;
-        const choices = fillsOf(encoding).map(({ bytes, name }) => [hexText(bytes), `${hexText(bytes, ' ')} ${name}`.trim()]);
+        const choices = fillsOf(encoding).map(({ bytes, name }) => [hexText(bytes), `${hexText(bytes, ' ')} ${SPACES[name]}`.trim()]);
         if (spaceIn(encoding) === null) choices.unshift([NO_FILL, texts.chooseFill]);
         fill(this.fill, ...[...choices, [OTHER_FILL, texts.anotherByte]].map(([value, label]) => element('option', { value }, label)));
     }
