@@ -80,7 +80,7 @@ test('more hits in a few sectors than a call takes arguments have their contexts
 /** Files at random, some of which share sectors, by their blocks. */
 function filesOf(seed, count) {
     const dice = diceOf(seed);
-    const files = Array.from({ length: count }, (_, i) => ({ path: `/${i}`, block: dice(4 * count), size: dice(6) * 1500, fault: '' }));
+    const files = Array.from({ length: count }, (_, i) => ({ path: `/${i}`, block: dice(4 * count), size: dice(6) * 1500, fault: null }));
     return files.sort((a, b) => a.block - b.block);
 }
 

@@ -144,7 +144,8 @@ test('a longer file, and one whose extent is not just its bytes', async t => {
     await assert.rejects(replaced(it, new Uint8Array(15001), { fill: 0 }), { code: 'replace/long-file', facts: { path: '/GAME.DAT', size: 15000, room: null, wanted: 15001 } });
     await assert.rejects(replaced(it, new Uint8Array(16385)), { code: 'replace/long-file', facts: { path: '/GAME.DAT', size: 15000, room: 16384, wanted: 16385 } });
     const [extent] = it.file.extents;
-    assert.throws(() => wholeFile([{ ...extent, fault: 'it is interleaved' }]), { message: '/GAME.DAT: it is interleaved' });
+    const fault = { code: 'extent/interleaved', facts: {} };
+    assert.throws(() => wholeFile([{ ...extent, fault }]), { code: 'path', facts: { path: '/GAME.DAT', why: fault } });
 });
 
 test('sectors of a file that are not consistent are named, if they have to change', async t => {

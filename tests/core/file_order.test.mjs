@@ -16,7 +16,7 @@ const sectors = calls.encodeBlocks(BASE, Uint8Array.from({ length: COUNT * 2048 
 const track = { name: 'image', reader: readerOf(sectors), base: BASE, sectors: COUNT };
 
 /** An extent of a file: its first sector in the track, its bytes, and how many of the file come before it. */
-const extent = (path, place, size, before) => ({ path, block: BASE + place, size, before, fault: '' });
+const extent = (path, place, size, before) => ({ path, block: BASE + place, size, before, fault: null });
 
 /** The sectors of the track in the order of files, null if that is their own. */
 function orderOf(files) {
@@ -72,11 +72,11 @@ test('an order has each sector of the track once, or there is none', () => {
 test('the extents of a file are put together in the order of its bytes', () => {
     const parts = [extent('/a', 2, 3000, 4096), extent('/a', 6, 4096, 0)];
     assert.deepEqual(wholeFile(parts), { path: '/a', size: 7096, extents: [parts[1], parts[0]] });
-    assert.throws(() => wholeFile([parts[0]]), { message: '/a has 1 parts, which are no file' });
+    assert.throws(() => wholeFile([parts[0]]), { code: 'extents/apart', facts: { path: '/a', count: 1 } });
 });
 
 test('a file whose parts lie over each other is refused', () => {
-    const over = { message: '/a: its parts lie over each other' };
+    const over = { code: 'extents/over', facts: { path: '/a' } };
     assert.throws(() => wholeFile([extent('/a', 2, 4096, 0), extent('/a', 2, 4096, 4096)]), over);
     assert.throws(() => wholeFile([extent('/a', 5, 2048, 0), extent('/a', 4, 4096, 2048)]), over);
     assert.equal(wholeFile([extent('/a', 5, 2048, 0), extent('/a', 4, 2048, 2048), extent('/a', 5, 0, 4096)]).size, 4096);

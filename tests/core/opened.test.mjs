@@ -20,7 +20,7 @@ test('a track has the order of its files, none if their extents do not lie apart
     assert.equal((await opened.contents()).image.order, undefined);
     const reader = readerOf(calls.encodeBlocks(0, new Uint8Array(20 * USER)));
     const none = await openTrack(await openDisc(calls, [{ name: 'game.bin', reader }])).contents();
-    assert.deepEqual([none.volume, none.files, none.fault.code, none.part.order], [null, [], 'volume', undefined]);
+    assert.deepEqual([none.volume, none.files, none.fault.code, none.part.order], [null, [], 'volume/no-descriptor', undefined]);
 });
 
 test('the contents of a track are read once, and again only after a reader has failed', async () => {

@@ -149,3 +149,10 @@ export function continuing(sectors) {
 
 /** A volume of one file. @param {number} sectors */
 export const harmlessVolume = sectors => volumeOf(sectors, sector => sector === ROOT ? [recordOf('FILE', 20, 5000, { flags: 0 })] : []);
+
+/**
+ * A remark by its code and its facts, in a line.
+ * @param {{ code: string, facts: object }} remark
+ * @returns {string}
+ */
+export const inShort = ({ code, facts }) => [code, ...Object.values(facts).map(it => it.code ? inShort(it) : it)].join(' ');

@@ -66,7 +66,7 @@ function listedVolume(count, recordAt) {
 
 /** What replaces a file of so many extents, which lie apart. */
 function replacedParts(count) {
-    const entry = i => ({ path: '/A', block: 20 + 2 * i, size: USER, before: USER * i, fault: '', record: { block: 18, offset: 0 } });
+    const entry = i => ({ path: '/A', block: 20 + 2 * i, size: USER, before: USER * i, fault: null, record: { block: 18, offset: 0 } });
     const sector = calls.encode(calls.address(18), new Uint8Array(USER));
     const sectors = 2 * count + 30;
     const reader = { size: 2352 * sectors, read: async (at, length) => length === 2352 ? sector : new Uint8Array(length) };

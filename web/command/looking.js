@@ -70,9 +70,9 @@ export async function filesJob(run) {
     const target = await run.target();
     const opened = await openTrackOf(run, run.names[0]);
     const { files, faults } = volumeIn(await opened.contents());
-    await target.write(bytesOfLines(filesLines(files, visible)));
-    faults.forEach(fault => run.say(fault));
-    return Number(faults.length > 0 || files.some(({ fault }) => fault !== ''));
+    await target.write(bytesOfLines(filesLines(files, visible, sentenceOf)));
+    faults.forEach(fault => run.say(sentenceOf(fault)));
+    return Number(faults.length > 0 || files.some(({ fault }) => fault !== null));
 }
 
 /**

@@ -61,7 +61,38 @@ export interface Facts {
     'dat/only-size': {};
     'dat/no-size': {};
 
-    volume: { sentence: string };
+    // Volumes: why a track has none; what was not read of one, by the path at which that was; and why the bytes of a file are not just those
+    // from its block on.
+    'volume/no-descriptor': { block: number };
+    'volume/block-size': { size: number; due: number };
+    'volume/no-root': {};
+    'volume/root-elsewhere': { blocks: number[] };
+    'volume/two-roots': { blocks: number[] };
+    path: { path: string; why: Remark };
+    'tree/no-joliet-root': {};
+    'tree/no-record': { at: number };
+    'tree/unread': { path: string; why: Remark };
+    'tree/not-in-image': { path: string };
+    'tree/same': { block: number };
+    'tree/shared': { first: number; last: number };
+    'tree/large': { block: number; size: number };
+    'tree/missing': { block: number };
+    'tree/cut': { first: number; last: number };
+    'tree/deep': { most: number };
+    'tree/many-entries': { most: number };
+    'tree/long-paths': { most: number };
+    'tree/many-areas': { most: number };
+    'tree/ends': { why: Remark };
+    'tree/more': { count: number };
+    'extent/several': {};
+    'extent/cut': {};
+    'extent/byte-orders': {};
+    'extent/other-volume': { volume: number; number: number };
+    'extent/interleaved': {};
+    'extent/associated': {};
+    'extents/apart': { path: string; count: number };
+    'extents/over': { path: string };
+
     // Texts without bytes, and a game's own tables. `at` is the character's place in the string, and `place` counts whole characters from 1.
     'text/no-character': { name: string; character: string; place: number; at: number };
     'text/half-byte': { place: number };

@@ -2,7 +2,7 @@
 
 import { sliceOf } from '../bytes.js';
 import { failedBy } from '../faults.js';
-import { NOT_ALL, SEVERAL_EXTENTS, VolumeReader, descriptorsOf, endOfExtent, filesOf, numberInBoth } from '../iso/index.js';
+import { VolumeReader, descriptorsOf, endOfExtent, filesOf, numberInBoth } from '../iso/index.js';
 import { LAST_BASE, SECTOR_SIZE } from '../module/index.js';
 
 /** @typedef {import('./disc.js').DiscImage} DiscImage */
@@ -22,6 +22,9 @@ import { LAST_BASE, SECTOR_SIZE } from '../module/index.js';
 
 /** The sectors before the descriptors belong to the volume too (ECMA-119, 6.2.1). */
 const SYSTEM_AREA = 16;
+
+/** Faults of files whose bytes are those from their block on, all the same. */
+const READ = ['extent/several', 'extent/cut'];
 
 /** Where the primary descriptor has the number of the volume's blocks. */
 const VOLUME_BLOCKS = 80;
@@ -65,7 +68,7 @@ export async function blocksOfVolume({ image, part, later }) {
     const end = part.base + (numberInBoth(descriptors.primary, VOLUME_BLOCKS) || Infinity);
     const { files, own } = await ifVolume(filesOf(reader, part.base)) || { files: [], own: new Map() };
     const isBelieved = (/** @type {FileEntry} */ file) =>
-        file.size > 0 && ['', SEVERAL_EXTENTS, NOT_ALL].includes(file.fault) && endOfExtent(file) <= end;
+        file.size > 0 && (file.fault === null || READ.includes(file.fault.code)) && endOfExtent(file) <= end;
     return [
         { first: part.base, last: part.base + SYSTEM_AREA + descriptors.count - 1, path: '' },
         ...Array.from(own.keys(), block => ({ first: block, last: block, path: '' })),
@@ -89,7 +92,7 @@ export async function lackOf(image, part, isAlone) {
     const found = await ifVolume(filesOf(reader, part.base));
     const [first, files] = found === null ? [part.base, []] : [found.first, found.files];
     const [from, most] = [volume.sectors, said].map(count => part.base + count);
-    const cut = files.find(it => it.fault === NOT_ALL && it.block < from && endOfExtent(it) <= most);
+    const cut = files.find(it => it.fault?.code === 'extent/cut' && it.block < from && endOfExtent(it) <= most);
     // A volume that counts from the disc's start has so many blocks, or up to that one: it is taken for the shorter one that has the file.
     const isUpTo = said > first && (cut === undefined || endOfExtent(cut) <= most - first);
     const blocks = isUpTo ? said - first : said;

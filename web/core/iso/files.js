@@ -1,26 +1,28 @@
 // The files of an ISO 9660 volume in a track of raw sectors, with Rock Ridge's or Joliet's names if it has them.
 
 import { readBytes } from '../bytes.js';
-import { Fault } from '../faults.js';
+import { Fault, remark } from '../faults.js';
 import { SECTOR_SIZE, USER_SIZE, sectorCount } from '../module/index.js';
 import { joinedUser } from '../sectors/index.js';
 import { FIRST_DESCRIPTOR, ownBlocks, tableBlocks } from './own_blocks.js';
-import { SEVERAL_EXTENTS, isSelf, recordAt, sharingSkip } from './records.js';
+import { isSelf, recordAt, sharingSkip } from './records.js';
 import { walked } from './walk.js';
 
 /** @typedef {import('../bytes.js').Reader} Reader */
 /** @typedef {import('../sectors/sector.js').Place} Place */
+/** @typedef {import('../facts.js').Remark} Remark */
+/** @typedef {import('./records.js').ExtentFault} ExtentFault */
 /** @typedef {import('./own_blocks.js').OwnBlock} OwnBlock */
 /**
  * A file, or one extent of a file that has several, and how many bytes it has before that. `fault` says why its bytes are not just those
- * from its block on, '' if they are; `record` is where its directory names it.
- * @typedef {{ path: string, block: number, size: number, fault: string, before: number, record: Place }} FileEntry
+ * from its block on, null if they are; `record` is where its directory names it.
+ * @typedef {{ path: string, block: number, size: number, fault: ExtentFault | null, before: number, record: Place }} FileEntry
  */
 /**
- * The files by their blocks, with the best names that there are; what could not be read, in lines for a person; all that the trees of
+ * The files by their blocks, with the best names that there are; what could not be read; all that the trees of
  * names have, some of it several times; whether UDF names the files too; which blocks are the volume's own, each with what it is; those of
  * its path tables; and the number that the volume gives the first sector of its track.
- * @typedef {{ files: FileEntry[], faults: string[], entries: FileEntry[], udf: boolean, own: Map<number, OwnBlock>, tables: number[],
+ * @typedef {{ files: FileEntry[], faults: Remark[], entries: FileEntry[], udf: boolean, own: Map<number, OwnBlock>, tables: number[],
  *     first: number }} VolumeFiles
  */
 /** @typedef {{ path: string, size: number, extents: FileEntry[] }} WholeFile a file, with its extents in the order of its bytes */
@@ -37,14 +39,6 @@ const NUMBER_IN_SET = 124;
 const STANDARDS = ['CD001', 'BEA01', 'NSR02', 'NSR03', 'TEA01'];
 /** Most sectors that are kept: many records may be continued in the same ones, and a browser takes long for each reading. */
 const MOST_KEPT = 4096;
-
-/**
- * Why a track has no volume whose files can be listed.
- * @param {string} message
- */
-function volumeFault(message) {
-    return new Fault('volume', { sentence: message });
-}
 
 /** The user data of a track, by the block numbers of its volume. */
 export class VolumeReader {
@@ -106,7 +100,7 @@ export class VolumeReader {
 }
 
 /**
- * The files of a track's volume. Throws a Fault, VOLUME, if there is none, and what the reader throws.
+ * The files of a track's volume. Throws a Fault, `volume`, if there is none, and what the reader throws.
  * @param {Reader} reader of the track
  * @param {number} base the block of its first sector
  * @returns {Promise<VolumeFiles>}
@@ -126,11 +120,11 @@ export async function filesOf(reader, base) {
     for (const { root, tree } of trees) found.push(await walked(volume, root, tree));
     const files = joinedFiles(found.map(it => it.files));
     files.sort((a, b) => a.block - b.block || Number(a.path > b.path) - Number(a.path < b.path));
-    const faults = new Set(found.flatMap(it => it.faults));
-    if (joliet && !other) faults.add("Joliet's volume descriptor has no root directory");
+    const faults = new Map(found.flatMap(it => it.faults).map(it => [JSON.stringify(it), it]));
+    if (joliet && !other) faults.set('', remark('tree/no-joliet-root', {}));
     const own = ownBlocks(volume, count, found.flatMap(it => [...it.met]));
     const tables = tableBlocks(volume, joliet === null ? [primary] : [primary, joliet]);
-    return { files, faults: [...faults], entries: found.flatMap(it => it.files), udf, own, tables, first };
+    return { files, faults: [...faults.values()], entries: found.flatMap(it => it.files), udf, own, tables, first };
 }
 
 /**
@@ -143,13 +137,13 @@ export function wholeFile(entries) {
     const [{ path }] = extents;
     let size = 0;
     for (const { fault, before, size: own } of extents) {
-        if (fault !== '' && fault !== SEVERAL_EXTENTS) throw new Fault('own', { sentence: `${path}: ${fault}` });
-        if (before !== size) throw new Fault('own', { sentence: `${path} has ${extents.length} parts, which are no file` });
+        if (fault !== null && fault.code !== 'extent/several') throw new Fault('path', { path, why: fault });
+        if (before !== size) throw new Fault('extents/apart', { path, count: extents.length });
         size += own;
     }
     const ranges = extents.filter(it => it.size > 0).sort((a, b) => a.block - b.block);
     const isOver = ranges.some((it, i) => i > 0 && it.block < endOfExtent(ranges[i - 1]));
-    if (isOver) throw new Fault('own', { sentence: `${path}: its parts lie over each other` });
+    if (isOver) throw new Fault('extents/over', { path });
     return { path, size, extents };
 }
 
@@ -165,9 +159,10 @@ export function endOfExtent({ block, size }) {
  * A line for each entry of a list of files.
  * @param {FileEntry[]} files
  * @param {(path: string) => string} shown a path as it is printed
+ * @param {(fault: ExtentFault) => string} said
  */
-export function filesLines(files, shown) {
-    return files.map(({ block, size, path, fault }) => [block, size, shown(path), ...fault === '' ? [] : [fault]].join('\t'));
+export function filesLines(files, shown, said) {
+    return files.map(({ block, size, path, fault }) => [block, size, shown(path), ...fault === null ? [] : [said(fault)]].join('\t'));
 }
 
 /** @param {Uint8Array} descriptor */
@@ -217,10 +212,10 @@ export async function descriptorsOf(volume) {
         if (user[0] === SUPPLEMENTARY && isJoliet(user)) joliet = user;
     }
     if (primary.length === 0) {
-        throw volumeFault(`no ISO 9660 volume: block ${volume.blockOf(FIRST_DESCRIPTOR)} has no volume descriptor`);
+        throw new Fault('volume/no-descriptor', { block: volume.blockOf(FIRST_DESCRIPTOR) });
     }
     const size = primary[128] + 256 * primary[129];
-    if (size !== USER_SIZE) throw volumeFault(`the volume has logical blocks of ${size} bytes, not of ${USER_SIZE}`);
+    if (size !== USER_SIZE) throw new Fault('volume/block-size', { size, due: USER_SIZE });
     return { primary, joliet, udf, count };
 }
 
@@ -232,7 +227,7 @@ function isJoliet(descriptor) {
 /** @param {Uint8Array} descriptor */
 function rootOf(descriptor) {
     const root = recordAt(descriptor, ROOT_RECORD);
-    if (root === null) throw volumeFault('the volume descriptor has no root directory');
+    if (root === null) throw new Fault('volume/no-root', {});
     return root;
 }
 
@@ -249,8 +244,8 @@ async function foundRoot(volume, root) {
         const own = await volume.ownRecord(root);
         if (own !== null && own.extent === root) fitting.push({ first, own });
     }
-    const blocks = [...new Set([volume.base + root, root])].join(' or ');
-    if (fitting.length === 0) throw volumeFault(`the root directory is not in block ${blocks}`);
-    if (fitting.length > 1) throw volumeFault(`blocks ${blocks} could both be the root directory`);
+    const blocks = [...new Set([volume.base + root, root])];
+    if (fitting.length === 0) throw new Fault('volume/root-elsewhere', { blocks });
+    if (fitting.length > 1) throw new Fault('volume/two-roots', { blocks });
     return fitting[0];
 }

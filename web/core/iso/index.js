@@ -2,5 +2,4 @@
 
 export { fileOrder } from './file_order.js';
 export { VolumeReader, descriptorsOf, endOfExtent, filesAt, filesLines, filesOf, wholeFile } from './files.js';
-export { SEVERAL_EXTENTS, SIZE_FIELD, numberInBoth } from './records.js';
-export { NOT_ALL } from './walk.js';
+export { SIZE_FIELD, numberInBoth } from './records.js';

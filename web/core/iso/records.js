@@ -2,15 +2,18 @@
 
 import { joinedBytes, sameBytes } from '../bytes.js';
 import { textOfFile } from '../encodings/index.js';
+import { remark } from '../faults.js';
 import { USER_SIZE } from '../module/index.js';
 
+/** @typedef {import('../facts.js').Remark} Remark */
+/** @typedef {import('../facts.js').Remark<import('../facts.js').CodesOf<'extent'>>} ExtentFault */
 /**
  * A directory record: its place in the bytes, where its extent begins, its bytes, whether both are the same with the most significant byte
  * first, the volume of the set that it lies on, its flags, its name as it stands there, and its System Use field.
  * @typedef {{ at: number, extent: number, size: number, agrees: boolean, volume: number, flags: number, interleaved: boolean,
  *     name: Uint8Array, system: Uint8Array, length: number }} DirectoryRecord
  */
-/** @typedef {{ kind: 'file' | 'directory', path: string, extent: number, size: number, fault: string }} Entry */
+/** @typedef {{ kind: 'file' | 'directory', path: string, extent: number, size: number, fault: ExtentFault | null }} Entry */
 /** @typedef {{ entry: Entry, at: number, before: number }} RecordPlace where a record is, and how much of its file others have before it */
 /**
  * The sectors of a volume, and how many of those were read in which records are continued.
@@ -18,7 +21,7 @@ import { USER_SIZE } from '../module/index.js';
  *     Blocks
  */
 /** @typedef {{ ownRecord(extent: number): Promise<DirectoryRecord | null> } & Blocks} Selves */
-/** @typedef {{ path: string, joliet: boolean, skip: number | null, number: number, fault: (text: string) => void }} Reading */
+/** @typedef {{ path: string, joliet: boolean, skip: number | null, number: number, fault: (why: Remark) => void }} Reading */
 
 const SMALLEST_RECORD = 34;
 const NAME = 33;
@@ -26,9 +29,6 @@ const DIRECTORY = 2;
 const ASSOCIATED = 4;
 const MORE_EXTENTS = 128;
 const MOST_CONTINUATIONS = 64;
-
-/** The fault of each part of a file that has several. */
-export const SEVERAL_EXTENTS = 'it has several extents';
 
 /** Where a record has the size of its extent, and how many bytes that is: once in each byte order. */
 export const SIZE_FIELD = Object.freeze({ offset: 10, length: 8 });
@@ -194,7 +194,7 @@ export async function* entriesOfDirectory(blocks, user, reading) {
         const goesOn = name !== null && name.length === record.name.length && sameBytes(name, record.name);
         if (!goesOn) before = 0;
         const entry = await entryOf(blocks, record, reading);
-        if (entry && goesOn && entry.fault === '') entry.fault = SEVERAL_EXTENTS;
+        if (entry && goesOn && entry.fault === null) entry.fault = remark('extent/several', {});
         if (entry) yield { entry, at: record.at, before };
         name = record.flags & MORE_EXTENTS ? record.name : null;
         before += record.size;
@@ -203,12 +203,12 @@ export async function* entriesOfDirectory(blocks, user, reading) {
 
 /**
  * @param {Uint8Array} user
- * @param {(text: string) => void} fault
+ * @param {Reading['fault']} fault
  */
 function* recordsOf(user, fault) {
     for (let at = 0; at < user.length;) {
         const record = recordAt(user, at);
-        if (record === null && user[at] !== 0) fault(`byte ${at} of the directory has no record of a file`);
+        if (record === null && user[at] !== 0) fault(remark('tree/no-record', { at }));
         if (record !== null) yield record;
         // A record lies in one sector. After the last one there come zeros.
         at = record === null ? (Math.floor(at / USER_SIZE) + 1) * USER_SIZE : at + record.length;
@@ -229,8 +229,8 @@ async function entryOf(blocks, record, reading) {
     const fault = faultOf(record, reading.number);
     const { extent, size, flags } = record;
     if ((flags & DIRECTORY) === 0) return { kind: 'file', path, extent, size, fault };
-    if (fault) reading.fault(`the directory ${path} is not read: ${fault}`);
-    return fault ? null : { kind: 'directory', path, extent, size, fault };
+    if (fault) reading.fault(remark('tree/unread', { path, why: fault }));
+    return fault ? null : { kind: 'directory', path, extent, size, fault: null };
 }
 
 /**
@@ -238,25 +238,26 @@ async function entryOf(blocks, record, reading) {
  * @param {Selves} blocks
  * @param {number} extent
  * @param {string} path
- * @param {(text: string) => void} fault
+ * @param {Reading['fault']} fault
  * @returns {Promise<Entry | null>}
  */
 async function childOf(blocks, extent, path, fault) {
     const own = await blocks.ownRecord(extent);
-    if (own === null) fault(`the directory ${path} is not in the image`);
-    return own && { kind: 'directory', path, extent, size: own.size, fault: '' };
+    if (own === null) fault(remark('tree/not-in-image', { path }));
+    return own && { kind: 'directory', path, extent, size: own.size, fault: null };
 }
 
 /**
  * @param {DirectoryRecord} record
  * @param {number} number of the volume in its set
+ * @returns {ExtentFault | null}
  */
 function faultOf({ flags, interleaved, agrees, volume }, number) {
-    if (!agrees) return 'its numbers in the two byte orders differ';
-    if (volume !== number) return `it lies on volume ${volume} of the set, and this is volume ${number}`;
-    if (interleaved) return 'it is interleaved';
-    if (flags & ASSOCIATED) return 'it belongs to another file of this name';
-    return flags & MORE_EXTENTS ? SEVERAL_EXTENTS : '';
+    if (!agrees) return remark('extent/byte-orders', {});
+    if (volume !== number) return remark('extent/other-volume', { volume, number });
+    if (interleaved) return remark('extent/interleaved', {});
+    if (flags & ASSOCIATED) return remark('extent/associated', {});
+    return flags & MORE_EXTENTS ? remark('extent/several', {}) : null;
 }
 
 /**

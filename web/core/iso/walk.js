@@ -1,11 +1,13 @@
 // What the directories of a volume have. A volume may lie: its sectors are read once, and what is kept is bounded by its image.
 
+import { remark } from '../faults.js';
 import { USER_SIZE } from '../module/index.js';
 import { isTurnDue, letOthersIn } from '../turns.js';
-import { SEVERAL_EXTENTS, entriesOfDirectory } from './records.js';
+import { entriesOfDirectory } from './records.js';
 
+/** @typedef {import('../facts.js').Remark} Remark */
 /** @typedef {import('./files.js').FileEntry} FileEntry */
-/** @typedef {{ files: FileEntry[], faults: string[], met: Set<number> }} TreeFiles `met` are the sectors of its directories */
+/** @typedef {{ files: FileEntry[], faults: Remark[], met: Set<number> }} TreeFiles `met` are the sectors of its directories */
 /** @typedef {import('./files.js').VolumeReader} VolumeReader */
 /** @typedef {import('./records.js').RecordPlace} RecordPlace */
 /** @typedef {{ path: string, extent: number, size: number, depth: number }} Directory */
@@ -22,9 +24,6 @@ const FEWEST_ENTRIES = 1 << 16;
 const CHARACTERS_AN_ENTRY = 128;
 
 const MOST_FAULTS = 1000;
-
-/** The fault of a file that goes on after the image's end, or lies there. */
-export const NOT_ALL = 'the image has not all of it';
 
 /** The directories of one tree of a volume. */
 class Walk {
@@ -48,22 +47,22 @@ class Walk {
 
     /**
      * @param {string} path
-     * @param {string} text
+     * @param {Remark} why
      */
-    fault(path, text) {
+    fault(path, why) {
         this.faults += 1;
         if (this.faults > MOST_FAULTS) return;
-        this.found.faults.push(`${path || '/'}: ${text}`);
-        this.characters += path.length + text.length;
+        this.found.faults.push(remark('path', { path: path || '/', why }));
+        this.characters += path.length + JSON.stringify(why).length;
     }
 
-    /** Why nothing more is read, '' if nothing is too much. */
+    /** Why nothing more is read, null if nothing is too much. */
     excess() {
         const characters = CHARACTERS_AN_ENTRY * this.most;
-        if (this.entries > this.most) return `the volume has more than ${this.most} files and directories`;
-        if (this.characters > characters) return `its paths have more than ${characters} characters`;
+        if (this.entries > this.most) return remark('tree/many-entries', { most: this.most });
+        if (this.characters > characters) return remark('tree/long-paths', { most: characters });
         const areas = this.most / 2;
-        return this.volume.areas - this.areas > areas ? `its records are continued in more than ${areas} places` : '';
+        return this.volume.areas - this.areas > areas ? remark('tree/many-areas', { most: areas }) : null;
     }
 
     /** @param {{ extent: number, size: number }} root */
@@ -72,12 +71,13 @@ class Walk {
         const directories = [{ path: '', depth: 0, extent: root.extent, size: root.size }];
         for (const directory of directories) {
             await this.read(directory, directories);
-            if (this.excess() === '') continue;
-            this.fault(directory.path, `from here on nothing is listed: ${this.excess()}`);
+            const why = this.excess();
+            if (why === null) continue;
+            this.fault(directory.path, remark('tree/ends', { why }));
             break;
         }
         const { faults } = this.found;
-        if (this.faults > faults.length) faults.push(`and so on: ${this.faults} places in all`);
+        if (this.faults > faults.length) faults.push(remark('tree/more', { count: this.faults }));
         return this.found;
     }
 
@@ -88,7 +88,7 @@ class Walk {
      */
     async read(directory, directories) {
         const { path, depth } = directory;
-        const fault = (/** @type {string} */ text) => this.fault(path, text);
+        const fault = (/** @type {Remark} */ why) => this.fault(path, why);
         const user = await this.userOf(directory, fault);
         let isDeep = false;
         for await (const part of entriesOfDirectory(this.volume, user, { path, ...this.tree, fault })) {
@@ -96,30 +96,31 @@ class Walk {
             if (isTurnDue()) await letOthersIn();
             this.entries += 1;
             this.characters += entry.path.length;
-            if (this.excess() !== '') break;
+            if (this.excess() !== null) break;
             if (entry.kind === 'file') this.found.files.push(this.fileOf(part, directory));
             else if (depth < DEEPEST) directories.push({ path: entry.path, depth: depth + 1, extent: entry.extent, size: entry.size });
             isDeep = isDeep || (entry.kind === 'directory' && depth >= DEEPEST);
         }
-        if (isDeep) fault(`its directories are not read: they are more than ${DEEPEST} deep`);
+        if (isDeep) fault(remark('tree/deep', { most: DEEPEST }));
     }
 
     /**
      * The user data of a directory, as far as it can be read. What can't be is said.
      * @param {Directory} directory
-     * @param {(text: string) => void} fault
+     * @param {(why: Remark) => void} fault
      */
     async userOf({ extent, size }, fault) {
         const block = this.volume.blockOf(extent);
         const wanted = Math.ceil(size / USER_SIZE);
         const count = size > LARGEST_DIRECTORY ? 0 : this.volume.available(extent, wanted);
         const sectors = Array.from({ length: count }, (_, i) => extent + i);
+        const last = block + wanted - 1;
         const isShared = sectors.some(sector => this.met.has(sector));
-        if (this.met.has(extent)) fault(`the directory in block ${block} is also another one`);
-        else if (isShared) fault(`the directory in blocks ${block} to ${block + wanted - 1} has sectors of another one`);
-        else if (size > LARGEST_DIRECTORY) fault(`the directory in block ${block} would have ${size} bytes`);
-        else if (count < wanted && count === 0) fault(`the directory is in block ${block}, which the image has not`);
-        else if (count < wanted) fault(`the directory in blocks ${block} to ${block + wanted - 1} goes on after the image's end`);
+        if (this.met.has(extent)) fault(remark('tree/same', { block }));
+        else if (isShared) fault(remark('tree/shared', { first: block, last }));
+        else if (size > LARGEST_DIRECTORY) fault(remark('tree/large', { block, size }));
+        else if (count < wanted && count === 0) fault(remark('tree/missing', { block }));
+        else if (count < wanted) fault(remark('tree/cut', { first: block, last }));
         if (isShared || count === 0) return new Uint8Array(0);
         sectors.forEach(sector => this.met.add(sector));
         return this.volume.user(extent, count);
@@ -132,9 +133,9 @@ class Walk {
      */
     fileOf({ entry: { path, extent, size, fault }, at, before }, directory) {
         const count = Math.ceil(size / USER_SIZE);
-        const isLess = this.volume.available(extent, count) < count && (fault === '' || fault === SEVERAL_EXTENTS);
+        const isLess = this.volume.available(extent, count) < count && (fault === null || fault.code === 'extent/several');
         const record = { block: this.volume.blockOf(directory.extent) + Math.floor(at / USER_SIZE), offset: at % USER_SIZE };
-        return { path, block: this.volume.blockOf(extent), size, fault: isLess ? NOT_ALL : fault, before, record };
+        return { path, block: this.volume.blockOf(extent), size, fault: isLess ? remark('extent/cut', {}) : fault, before, record };
     }
 }
 

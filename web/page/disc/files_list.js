@@ -21,7 +21,9 @@ import { stemOf, term } from '../ui/index.js';
 /** @typedef {import('../../core/script/model.js').UserRange} UserRange */
 /** @typedef {import('../ui/fill.js').Child} Child */
 /** A file of the disc. */
-/** @typedef {{ path: string, shown: string, size: number, block: number, fault: string, entries: FileEntry[] }} Listed */
+/**
+ * @typedef {{ path: string, shown: string, size: number, block: number, fault: FileEntry['fault'], entries: FileEntry[] }} Listed
+ */
 
 /** Rows that stand in the document at a time, and runs of sectors that a message names. */
 const ROWS = 200;
@@ -93,7 +95,7 @@ export class FilesList {
     /** What `cdscript files` prints. */
     text() {
         const { files } = this.app;
-        return files === null ? '' : filesLines(files.files, visible).map(line => `${line}\n`).join('');
+        return files === null ? '' : filesLines(files.files, visible, remarkText).map(line => `${line}\n`).join('');
     }
 
     /** How many files there are, as a tab says it. */
@@ -132,7 +134,7 @@ export class FilesList {
         const { path, shown, size, block, fault } = file;
         const open = element('button', { type: 'button', class: 'fold', click: () => this.choose(file) }, element('bdi', {}, shown));
         return keyed(path, element('tr', { 'aria-selected': file === this.chosen ? 'true' : null },
-            element('td', { class: 'wide path' }, open, fault !== '' && element('span', { class: 'tag warn' }, seen(fault))),
+            element('td', { class: 'wide path' }, open, fault !== null && element('span', { class: 'tag warn' }, seen(remarkText(fault)))),
             element('td', { class: 'n', 'data-l': texts.bytesLabel }, counted(size)),
             element('td', { class: 'n', 'data-l': texts.blockLabel }, block)));
     }
