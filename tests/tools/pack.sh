@@ -389,6 +389,7 @@ test_forms() {
         refuses_form 'The core reads and writes the lines of scripts' $file 'export const FILLED = /^fill (\d+)/;'
         refuses_form 'The core reads and writes the lines of scripts' $file 'export const line = block => `rebuild ${block}`;'
     done
+    refuses_form 'The core has codes and facts, and no sentences' core/sectors/runs.js "export const left = { sentence: 'it is left' };"
     refuses_form 'A failure has a code' core/sectors/runs.js "export const isGone = error => error.message === 'gone';"
     refuses_form 'Calls has a method for each call' page/disc/map.js "calls.exports.cdpatch_version();"
     refuses_form '../disc/index.js imports this module' page/text/panel.js "import '../disc/index.js';"

@@ -38,7 +38,7 @@ const BESIDE_TASKS = {
         encodings: ['ENCODINGS', 'SEARCHED', 'encodingOf', 'fillerOf', 'linesLeftOut', 'tableEncoding', 'tableTextOf', 'usualBytes'],
         iso: ['filesLines'],
         script: ['LineList', 'NEAR_WRITTEN', 'ScriptParts', 'scriptForBase'],
-        sectors: ['FIELDS', 'LONG_IMAGE', 'addToRuns', 'addressIn', 'addressText', 'auditText', 'blocksIn', 'findingOf',
+        sectors: ['FIELDS', 'addToRuns', 'addressIn', 'addressText', 'auditText', 'blocksIn', 'findingOf',
             'imageTooLong', 'isDamaged', 'joinedRuns', 'kindRuns', 'listText'],
         texts: ['FilesAlong', 'LONGEST_CHARACTER', 'LOOKED_BACK', 'bytesAround', 'bytesInside', 'charactersFrom', 'contextOf',
             'contextsOf', 'shownCell', 'unitsAlike', 'visible'],
@@ -48,7 +48,7 @@ const BESIDE_TASKS = {
     },
     npm: {
         script: ['readLines'],
-        sectors: ['LONG_IMAGE', 'auditText', 'imageTooLong', 'listText'],
+        sectors: ['auditText', 'imageTooLong', 'listText'],
     },
 };
 

@@ -53,7 +53,7 @@ export function fileFault(attempt, name, error) {
 }
 
 /**
- * What is tried with a file. Throws a Fault, FILE.
+ * What is tried with a file. Throws a Fault, `file`.
  * @template T
  * @param {Attempt} attempt
  * @param {string} name

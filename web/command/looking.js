@@ -48,7 +48,7 @@ export async function entriesAtPath(opened, path) {
 }
 
 /**
- * The volume of a track. Throws a Fault, VOLUME, if there is none.
+ * The volume of a track. Throws a Fault, `volume`, if there is none.
  * @param {TrackContents} contents
  */
 function volumeIn({ volume, fault }) {

@@ -1,7 +1,7 @@
 // The program's own messages of files, which the jobs that are the program's print as it does, after `cdpatch: `. tests/lib/messages.sh has
 // them too, and a test compares.
 
-import { LONG_IMAGE } from '../core/sectors/index.js';
+import { LONG_IMAGE } from '../sentences/index.js';
 
 export const MESSAGES = Object.freeze({
     no_image: 'cannot open the image',

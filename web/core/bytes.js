@@ -45,7 +45,7 @@ export function watchedReader(reader, told) {
 }
 
 /**
- * Reads bytes, by more reads if the first are short. Throws a Fault, IMAGE_ENDED, if the image ends before.
+ * Reads bytes, by more reads if the first are short. Throws a Fault, `image-ended`, if the image ends before.
  * @param {Reader} reader
  * @param {number} at
  * @param {number} length

@@ -18,7 +18,7 @@ export function isTurnDue() {
 }
 
 /**
- * Gives the others their turn if it is due. A loop over a stranger's input awaits this in each step. Throws a Fault, CANCELLED, if the
+ * Gives the others their turn if it is due. A loop over a stranger's input awaits this in each step. Throws a Fault, `cancelled`, if the
  * signal ends the job.
  * @param {Signal} [signal]
  */

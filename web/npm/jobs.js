@@ -3,8 +3,9 @@
 import { READ_SIZE, bytesOfPieces, readBytes } from '../core/bytes.js';
 import { LAST_BASE, RECORD_SIZE, SECTOR_SIZE, STATUS, sectorCount } from '../core/module/index.js';
 import { readLines } from '../core/script/index.js';
-import { LONG_IMAGE, imageTooLong } from '../core/sectors/index.js';
+import { imageTooLong } from '../core/sectors/index.js';
 import { applyScript, validScript } from '../core/tasks/index.js';
+import { LONG_IMAGE } from '../sentences/index.js';
 import { ScriptError } from './errors.js';
 import { assertWanted, piecesOf, scriptSource, sourceOf, watchedSource } from './inputs.js';
 

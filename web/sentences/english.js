@@ -1,7 +1,7 @@
 // What is said in English of the failures and remarks of the core, by their codes. A translation is another such table.
 
 import { hexText } from '../core/hex_digits.js';
-import { kindName } from '../core/module/index.js';
+import { MOST_SECTORS, kindName } from '../core/module/index.js';
 import { blocksText } from './blocks.js';
 import { KINDS } from './kinds.js';
 
@@ -9,6 +9,9 @@ import { KINDS } from './kinds.js';
 
 const OF_DATA = 'of data with 2352 bytes a sector. Choose one that is.';
 const NO_DAT = 'not a DAT in Logiqx XML';
+
+/** The program's message about an image that is too long, without its `cdpatch: `. */
+export const LONG_IMAGE = `the image has more than ${MOST_SECTORS} sectors`;
 
 /** What begins what is said of a bad dump. */
 export const BAD_DUMP = 'known as a bad dump:';

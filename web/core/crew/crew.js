@@ -234,7 +234,7 @@ export class Crew {
 
     /**
      * Does a job on images that have the same number of sectors, and gives its answers to `take` in the order of the ranges. Throws
-     * what a reader throws, a Fault if an image shrinks (IMAGE_ENDED) or `signal` ends it (CANCELLED), and what `given` throws.
+     * what a reader throws, a Fault if an image shrinks (`image-ended`) or `signal` ends it (`cancelled`), and what `given` throws.
      * @template {JobName} Name
      * @param {Name} job
      * @param {Reader[]} readers what they read is given away

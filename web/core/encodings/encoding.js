@@ -89,7 +89,7 @@ export function usualBytes(units) {
 }
 
 /**
- * The bytes of a text, each part in its usual spelling. Throws a Fault, TEXT, that names the first character without bytes.
+ * The bytes of a text, each part in its usual spelling. Throws a Fault, `text`, that names the first character without bytes.
  * @param {Encoding} encoding
  * @param {string} text
  */

@@ -21,9 +21,6 @@ export function imageTooLong(size) {
     return size > MOST_SECTORS * SECTOR_SIZE;
 }
 
-/** The program's message about such an image, without its `cdpatch: `. */
-export const LONG_IMAGE = `the image has more than ${MOST_SECTORS} sectors`;
-
 /**
  * The i-th sector of some bytes, not copied.
  * @param {Uint8Array} bytes

@@ -15,8 +15,8 @@ import { watchedSectors } from './watched.js';
 
 /**
  * What becomes of the patches of a script on an image. The pieces of the patched image are given to `take` in order, as soon as no later
- * patch can meet them; their bytes may change after that. Without `take` the patches are only tried. Throws a Fault, OTHER_BASE or
- * CANCELLED, and what the reader throws.
+ * patch can meet them; their bytes may change after that. Without `take` the patches are only tried. Throws a Fault, `script/other-base` or
+ * `cancelled`, and what the reader throws.
  * @param {Pick<Engine, 'calls'>} engine
  * @param {Pick<DiscImage, 'reader' | 'base'>} image
  * @param {ReadScript} script

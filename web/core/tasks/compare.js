@@ -49,7 +49,7 @@ export function diffRange(calls, old, fresh, first, how) {
 /**
  * The script that leads from the image of a track to another one of as many bytes. There is none if a block is left that no script can
  * say, but damaged ones of the other may be left out, or with `partial` all that are left. Throws what the readers throw, and a Fault,
- * CANCELLED.
+ * `cancelled`.
  * @param {Engine} engine
  * @param {Pick<OpenedTrack, 'image'>} opened
  * @param {Reader} fresh

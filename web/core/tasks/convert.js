@@ -57,7 +57,7 @@ export async function passUser(crew, reader, size, how, take) {
 
 /**
  * Extracts a file of a track: gives its bytes to `take`, in order. Returns the runs of its sectors that are not of Mode 1. Throws what
- * fileOfTrack and the reader throw, and a Fault, CANCELLED.
+ * fileOfTrack and the reader throw, and a Fault, `cancelled`.
  * @param {Pick<Engine, 'crew'>} engine
  * @param {Pick<OpenedTrack, 'part' | 'contents'>} opened
  * @param {FileEntry[]} entries of its path

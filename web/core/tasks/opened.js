@@ -13,7 +13,7 @@ import { fileOrder, filesOf, wholeFile } from '../iso/index.js';
 /** @typedef {import('../iso/files.js').VolumeFiles} VolumeFiles */
 /** @typedef {DiscTrack & { image: DiscImage, part: DiscImage }} DataTrack */
 /**
- * What a track contains: its volume, or the failure (VOLUME) to list one; its files, none without a volume; and the image and the part,
+ * What a track contains: its volume, or the failure (`volume`) to list one; its files, none without a volume; and the image and the part,
  * whose texts are read in the order of these files.
  * @typedef {{ volume: VolumeFiles | null, fault: Fault | null, files: FileEntry[], image: OrderedImage, part: OrderedImage }} TrackContents
  */
@@ -67,7 +67,7 @@ export class OpenedTrack {
 
 /**
  * The data track of a number, or the first. The first block of its image is `base`, or what the addresses of its sectors say. Throws a
- * Fault, DISC, if there is no such track.
+ * Fault, `disc`, if there is no such track.
  * @param {Disc} disc
  * @param {{ track?: number | null, base?: number }} options
  */
@@ -86,7 +86,7 @@ export function trackBeside(first, other) {
 }
 
 /**
- * A file of a track, and what else its volume names. Throws a Fault: VOLUME if there is no volume, or that the entries are not a file.
+ * A file of a track, and what else its volume names. Throws a Fault: `volume` if there is no volume, or that the entries are not a file.
  * @param {Pick<OpenedTrack, 'contents'>} opened
  * @param {FileEntry[]} entries all of one path
  */

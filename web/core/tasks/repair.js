@@ -42,7 +42,7 @@ const MOST_DIFFERENT = 100;
 /**
  * Repairs the image of a track by other dumps, in the blocks that both have: sectors that are not consistent in it and are in another one,
  * with the block's own address there, are taken whole. The tail stays as it is. The pieces of the repaired image are given to `take` as
- * they come, before it is known whether the repair is refused. Throws what the readers throw, and a Fault, CANCELLED.
+ * they come, before it is known whether the repair is refused. Throws what the readers throw, and a Fault, `cancelled`.
  * @param {Engine} engine
  * @param {OpenedTrack} opened
  * @param {OpenedTrack[]} dumps

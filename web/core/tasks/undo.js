@@ -86,7 +86,7 @@ class TakenBack {
 
 /**
  * Reverts a script: gives the one that makes the image of the track again from what the script makes of it. Throws what the reader throws,
- * and a Fault: SCRIPT, OTHER_BASE, or CANCELLED.
+ * and a Fault: `script/refused`, `script/other-base`, or `cancelled`.
  * @param {Pick<Engine, 'calls'> & { crew: Pick<Crew, 'given'> }} engine
  * @param {Pick<OpenedTrack, 'image'>} opened before the script is applied
  * @param {Pieces} script

@@ -75,7 +75,7 @@ function spelledAlike(encoding, character, loose) {
 }
 
 /**
- * The parts of a text as `Encoding.units` gives them, with the spellings that are one with its own. Throws a Fault, TEXT, that names the
+ * The parts of a text as `Encoding.units` gives them, with the spellings that are one with its own. Throws a Fault, `text`, that names the
  * first character without any.
  * @param {Encoding} encoding
  * @param {string} text

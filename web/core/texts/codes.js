@@ -43,7 +43,7 @@ export const LONGEST_TEXT = 1 << 16;
 const FIRST_ROWS = 5;
 
 /**
- * The parts of a cell, as `Encoding.units` gives them; a code is its bytes. Throws a Fault, TEXT, that names a character without bytes.
+ * The parts of a cell, as `Encoding.units` gives them; a code is its bytes. Throws a Fault, `text`, that names a character without bytes.
  * @param {Encoding} encoding
  * @param {string} cell
  */

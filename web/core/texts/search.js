@@ -14,7 +14,7 @@ import { joinFound, sectorsBeyond } from './find.js';
 
 /**
  * The encodings that have a text, the first of those in which it is the same bytes; the names of all that have it; and why others have
- * it not. Throws a Fault, TEXT, if none has it.
+ * it not. Throws a Fault, `text`, if none has it.
  * @param {Encoding[]} encodings
  * @param {string} text
  * @param {boolean} [loose] as `unitsAlike` takes it

@@ -76,7 +76,7 @@ export class RunningHash {
 }
 
 /**
- * The SHA-1 of an image. Throws a Fault, CANCELLED, and what reading throws.
+ * The SHA-1 of an image. Throws a Fault, `cancelled`, and what reading throws.
  * @param {Parts} parts
  * @param {Reader} reader
  * @param {{ aborted: boolean }} signal

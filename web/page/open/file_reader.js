@@ -75,7 +75,7 @@ function forwardReader(file, cut) {
 }
 
 /**
- * What comes of a work, or CANCELLED as soon as a signal says so.
+ * What comes of a work, or `cancelled` as soon as a signal says so.
  * @template T
  * @param {AbortSignal} signal
  * @param {Promise<T>} work

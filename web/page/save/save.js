@@ -85,7 +85,7 @@ class SinkWriter {
 }
 
 /**
- * Writes a patched image to a sink, and closes it only if all was written and is accepted. Throws a Fault, CANCELLED or UNWRITTEN,
+ * Writes a patched image to a sink, and closes it only if all was written and is accepted. Throws a Fault, `cancelled` or `unwritten`,
  * and what the reader, `make` and `accept` throw; then the sink was aborted.
  * @param {Sink} sink
  * @param {Reader} reader

@@ -29,7 +29,7 @@ export class SearchJob {
     }
 
     /**
-     * What a search finds; null if it was ended by another one, or its image was closed. Throws a Fault, CANCELLED, if it was cancelled.
+     * What a search finds; null if it was ended by another one, or its image was closed. Throws a Fault, `cancelled`, if it was cancelled.
      * @param {Image} image
      * @param {Pick<Search, 'text' | 'encoding'>} asked
      * @returns {Promise<Search | null>}
