@@ -39,9 +39,10 @@ test('a raw image that begins with another block', { skip }, () => inDirectory(a
 
 test('a raw image goes on to the last block with an address', () => inDirectory(async room => {
     write(room, { 'two.iso': Buffer.alloc(2 * 2048) });
-    assert.equal((await run(['raw', 'two.iso', 'last.bin', '--first', '449848'], { cwd: room })).status, 0);
+    assert.equal((await run(['raw', 'two.iso', 'last.bin', '--base', '449848'], { cwd: room })).status, 0);
     assert.match(tool(program, ['audit', '--base', '449848', 'last.bin'], { cwd: room }).toString(), /^sectors 2 mode1 2 damaged 0 tail 0\n$/);
     await fails(['raw', 'two.iso', 'out', '--first', '449849'], 'two.iso goes on after block 449849, the last one with an address', room);
+    await fails(['raw', 'two.iso', 'out', '--first', '1', '--base', '1'], '--base and --first exclude each other', room);
 }));
 
 test('what can not be made raw, or has no user data', { skip }, () => inDirectory(async room => {
@@ -123,12 +124,12 @@ test('user says how the way back goes', () => inDirectory(async room => {
     const image = imageOf(room, 20, 180);
     write(room, { 'one.bin': imageOf(room, 30), 'two.bin': image, 'game.cue': `${sheet('one.bin')}${sheet('two.bin').replace('01', '02')}` });
     const { status, errors } = await run(['user', '--track', '2', 'game.cue', 'two.iso'], { cwd: room });
-    assert.deepEqual([status, errors], [0, 'cdscript: for the way back: cdscript raw --first 180\n']);
+    assert.deepEqual([status, errors], [0, 'cdscript: to convert it back: cdscript raw --base 180\n']);
     await run(['raw', '--first', '180', 'two.iso', 'back.bin'], { cwd: room });
     sameFile(read(room, 'back.bin'), image, 'the raw image');
     assert.equal((await run(['user', 'one.bin', 'one.iso'], { cwd: room })).errors, '');
     write(room, { 'later.bin': imageOf(room, 30, 1) });
-    assert.equal((await run(['user', 'later.bin', 'later.iso'], { cwd: room })).errors, 'cdscript: for the way back: cdscript raw --first 1\n');
+    assert.equal((await run(['user', 'later.bin', 'later.iso'], { cwd: room })).errors, 'cdscript: to convert it back: cdscript raw --base 1\n');
 }));
 
 test('a cue sheet gives tracks, files and bases', () => inDirectory(async room => {

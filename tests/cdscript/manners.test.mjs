@@ -14,7 +14,6 @@ test('a mistyped job, option or encoding is answered by what was meant', async (
     const SAID = {
         'fnd x': "there is no job 'fnd'; did you mean find?; see cdscript --help",
         'Info x': "there is no job 'Info'; did you mean info?; see cdscript --help",
-        'repair x': "there is no job 'repair'; did you mean merge?; see cdscript --help",
         'rebuild x': "there is no job 'rebuild'; did you mean merge?; see cdscript --help",
         'Verify x': "there is no job 'Verify'; did you mean info?; see cdscript --help",
         'aplpy x': "there is no job 'aplpy'; did you mean apply?; see cdscript --help",

@@ -92,7 +92,7 @@ test('an image without a cue sheet is the track that is asked for', () => inDire
     const { status, out, errors } = await run(['diff', '--track', '3', 'game.cue', 'sea.bin'], { cwd: room });
     assert.deepEqual([status, errors], [0, '']);
     assert.match(out, /^cdpatch 1\n# base 180\nrebuild 185\nset 185 84 .. was ..\n$/);
-    const merged = await run(['merge', '--track', '3', 'game.cue', 'sea.bin', 'out'], { cwd: room });
+    const merged = await run(['repair', '--track', '3', 'game.cue', 'sea.bin', 'out'], { cwd: room });
     assert.deepEqual([merged.status, merged.errors], [0, '']);
     sameFile(read(room, 'out'), read(room, 'sea.bin'), 'the repaired track');
     const none = await run(['diff', '--track', '3', 'game.cue', 'short.cue'], { cwd: room });

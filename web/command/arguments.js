@@ -15,11 +15,14 @@ import { didYouMean } from './suggesting.js';
 /** Options of which only one is given. */
 const EXCLUDING = [
     ['encoding', 'table'], ['fields', 'skipDamaged'], ['fields', 'partial'], ['skipDamaged', 'partial'],
-    ['list', 'all'], ['list', 'inside'], ['list', 'loose'],
+    ['list', 'all'], ['list', 'inside'], ['list', 'loose'], ['base', 'first'],
 ];
 
 /** Options that may be given several times. */
 const REPEATED = ['dat', 'in'];
+
+/** Other names of jobs. */
+const ALIASES = new Map([['repair', 'merge']]);
 
 /** @type {Record<string, string>} */
 const SHORT_WORDS = { '-h': '--help', '-V': '--version' };
@@ -132,7 +135,8 @@ export function argumentsOf(words) {
     const { options, names: given } = sorted(words);
     if (given[0] === 'version' && given.length === 1) options.version = true;
     if (given[0] === 'help' && given.length <= 2) options.help = true;
-    const [job = '', ...names] = given[0] === 'help' ? given.slice(1) : given;
+    const [word = '', ...names] = given[0] === 'help' ? given.slice(1) : given;
+    const job = ALIASES.get(word) || word;
     if (options.version || options.notices || (options.help && job === '')) return { job: '', names: [], options };
     if (job === '') throw ownFault('a job is missing; see cdscript --help');
     if (!Object.keys(FORMS).includes(job)) {

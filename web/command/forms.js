@@ -37,7 +37,7 @@ export const OPTION_FORMS = {
     in: { word: '--in', value: 'PATH', does: 'search only this file or directory; may be given again' },
     min: { word: '--min', value: 'N', does: 'print texts of N characters or more; the default is 2' },
     limit: { word: '--limit', value: 'N', does: 'print the first N hits; the default is 1000' },
-    first: { word: '--first', value: 'BLOCK', does: 'the block of the first sector; the default is 0' },
+    first: { word: '--first', value: 'BLOCK', does: 'another name of --base' },
     carry: { word: '--carry', value: '', does: 'patch damaged sectors too, and keep their damage' },
     long: { word: '--long', value: '', does: 'accept a script of any length' },
     skipDamaged: { word: '--skip-damaged', value: '', does: 'leave out blocks that are damaged in NEW' },
@@ -167,8 +167,9 @@ export const FORMS = {
     'merge': {
         job: mergeJob, takes: ['OLD', 'OTHER..', 'OUT'], options: ['dat', 'track', 'base'],
         says: 'Repair an image from other dumps of the same disc',
-        does: 'OUT is OLD with its damaged sectors replaced by sound ones from the OTHERs. Status: 0 all tested sectors are sound, ' +
-            '1 some sectors are damaged or lost in all dumps, differ and were not tested, or have a different EDC than in OLD, 2 failed',
+        does: 'OUT is OLD with its damaged sectors replaced by sound ones from the OTHERs. `repair` is another name of this job. Status: ' +
+            '0 all tested sectors are sound, 1 some sectors are damaged or lost in all dumps, differ and were not tested, or have a ' +
+            'different EDC than in OLD, 2 failed',
         example: 'cdscript merge first.bin second.bin third.bin repaired.bin',
     },
     'rebuilds': {
@@ -184,7 +185,7 @@ export const FORMS = {
         example: 'cdscript undo game.cue english.txt -o back.txt',
     },
     'raw': {
-        job: rawJob, takes: ['ISO', 'OUT'], options: ['first'], says: 'Convert an ISO image to a raw image',
+        job: rawJob, takes: ['ISO', 'OUT'], options: ['base', 'first'], says: 'Convert an ISO image to a raw image',
         does: 'OUT must not exist. It gets 2352 bytes per sector.',
         example: 'cdscript raw game.iso game.bin',
     },

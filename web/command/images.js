@@ -127,7 +127,7 @@ export async function mergeJob(run) {
 
 /** @param {Run} run */
 export async function rawJob(run) {
-    const { first = 0 } = run.options;
+    const { first = 0, base = first } = run.options;
     const out = await run.files.make(run.names[1]);
     const { name, reader } = await run.files.image(run.names[0]);
     const kind = await kindOfFile(run.calls, reader);
@@ -135,10 +135,10 @@ export async function rawJob(run) {
     const what = sentenceOf({ code: 'kind/what', facts: { kind } });
     if (!['iso', 'audio', 'unknown'].includes(kind)) throw ownFault(`${name} is ${what}, and no ISO image`);
     if (!Number.isInteger(count)) throw ownFault(`${name} has ${reader.size} bytes, not 2048 for each sector`);
-    if (first + count > BLOCKS_WITH_ADDRESS) {
+    if (base + count > BLOCKS_WITH_ADDRESS) {
         throw ownFault(`${name} goes on after block ${BLOCKS_WITH_ADDRESS - 1}, the last one with an address`);
     }
-    await run.crew.share('raw', [reader], {}, { base: first, units: [USER_SIZE] }, bytes => out.write(bytes));
+    await run.crew.share('raw', [reader], {}, { base, units: [USER_SIZE] }, bytes => out.write(bytes));
     return 0;
 }
 
@@ -158,7 +158,7 @@ export async function userJob(run) {
     const { part } = await openTrackOf(run, run.names[0]);
     const how = { base: part.base };
     const has = sayOthers(run, await passUser(run.crew, part.reader, part.sectors * USER_SIZE, how, user => out.write(user)));
-    if (part.base > 0) run.say(`for the way back: cdscript raw --first ${part.base}`);
+    if (part.base > 0) run.say(`to convert it back: cdscript raw --base ${part.base}`);
     if (part.tail === 1) run.say('the byte after the last sector is left out');
     if (part.tail > 1) run.say(`the ${part.tail} bytes after the last sector are left out`);
     return Number(has || part.tail > 0);

@@ -42,7 +42,7 @@ export function nearest(word, known) {
 }
 
 /** Other words for what jobs do. */
-const OTHER_WORDS = new Map([['repair', 'merge'], ['rebuild', 'merge'], ['fix', 'merge'], ['verify', 'info'], ['hash', 'info'],
+const OTHER_WORDS = new Map([['rebuild', 'merge'], ['fix', 'merge'], ['verify', 'info'], ['hash', 'info'],
     ['patch', 'apply'], ['compare', 'diff'], ['search', 'find'], ['dump', 'texts'], ['collection', 'scan']]);
 
 /**
