@@ -34,15 +34,13 @@ WITHIN = [
     '^Continue␣*$', '^New game␣*$', r'^Set\.$', '^Cont$', '^much too long .*', '^also too long .*',
 ]
 
-# What the core says in English, or the module and the browser by it, by the function that says it.
+# What the module and the sentences of the core say in English, by what says it.
 CORE = {
     'Calls.faultLine': 'bad hex|offset over 2047|unknown verb|no cdpatch 1 line',
     'Calls.outcomeLine': r'(refused: )?old bytes differ at block \d+ offset \d+|no block \d+|block \d+ is damaged',
     'SectorCalls.auditLine': r'edc p=\d+ q=\d+',
-    'leftText of script/sector_lines.js, with blocksText of sectors/runs.js': r'is damaged in blocks [\d, ]+ and \d+ more',
-    'assertHasRoom of tasks/replace.js': r'the new text has \d+ bytes in CP932, and there is room for \d+: \d+ too many',
-    'fillsOf of encodings/encoding.js': '(wide )?space$',
-    'the label of encodings/hex.js': 'Bytes in hex',
+    'script/left of sentences/english.js, with blocksText of sentences/blocks.js': r'is damaged in blocks [\d, ]+ and \d+ more',
+    'replace/no-room of sentences/english.js': r'the new text has \d+ bytes in CP932, and there is room for \d+: \d+ too many',
 }
 
 # The tests look for English, and find it as if there were no marks, in what is shown and in selectors.

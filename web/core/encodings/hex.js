@@ -19,7 +19,7 @@ function notHex(text, at) {
 /** @type {Encoding} bytes in hexadecimal digits, with or without spaces and line ends between them */
 export const HEX = {
     name: 'hex',
-    label: 'Bytes in hex',
+    label: 'hex',
     aliases: [],
     searched: false,
     hasCharacters: false,

@@ -37,7 +37,8 @@ export function chosenEncoding({ encoding, tables }) {
  */
 export function encodingLabel(name) {
     const known = encodingOf(name);
-    return known === null ? shownName(name) : known.label;
+    if (known === null) return shownName(name);
+    return known.hasCharacters ? known.label : texts.hexEncoding;
 }
 
 /**

@@ -591,6 +591,7 @@ export const bytesTooMany = '{n} byte, {more} too many|{n} bytes, {more} too man
 export const forOldText = '{bytes} for the {size} of the old text';
 export const fillWith = 'Fill with';
 export const byteToFillWith = 'The byte to fill with, two digits';
+export const hexEncoding = 'Bytes in hex';
 export const spaceFill = 'space';
 export const wideSpaceFill = 'wide space';
 export const chooseFill = 'choose…';
