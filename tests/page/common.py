@@ -62,7 +62,7 @@ def folder(name: str) -> Path:
 def text(key: str) -> str:
     """A text of the page, by its key. A test that only waits for it does not repeat it."""
     english = (TOP / 'web/page/texts/english.js').read_text('utf-8')
-    found = re.search(rf"(?m)^export const {key} = ((?:'.*' \+\n *)*'.*');$", english)
+    found = re.search(rf"(?m)^export const {key} =\s+((?:'.*' \+\n *)*'.*');$", english)
     assert found, f'the page has no text {key}'
     return str(ast.literal_eval(re.sub(r'(?m) \+\n *', ' ', found[1])))
 

@@ -275,7 +275,7 @@ class States(PageTest):
     def to_script_undo(self) -> None:
         """The undo script was saved: that is said in the card of the script."""
         self.begin(discs.game(), discs.script())
-        self.press(common.text('undoScript'))
+        self.press(common.text('scriptUndoScript'))
         self.browser.wait('[aria-label=Script] .say.good', 'Saved: ')
 
     def to_script_faults(self) -> None:

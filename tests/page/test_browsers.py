@@ -52,7 +52,7 @@ class Browsers(unittest.TestCase):
         browser.run(NO_PICKER)
         browser.wait('#player h1', 'Starlit Detective in English')
         browser.give('#player-files', [files['game']])
-        browser.wait('#verdict', common.text('rightDisc'))
+        browser.wait('#verdict', common.text('playerRightDisc'))
         self.press(browser, 'Patch and save')
         self.assertEqual(browser.downloaded('Starlit (English).bin').read_bytes(), out)
 

@@ -113,7 +113,7 @@ class Files(PageTest):
         self.browser.click('#tab-disc')
         self.give(discs.messages())
         self.browser.wait('#findings .say', 'that replaced the file before')
-        self.assertIn(common.text('newFileIsSame'), self.browser.text('#findings .say'))
+        self.assertIn(common.text('discNewFileIsSame'), self.browser.text('#findings .say'))
 
     def test_a_file_that_is_replaced_in_a_later_session_has_the_lines_of_that_one_only(self) -> None:
         image = self.begin(discs.game())
@@ -146,12 +146,12 @@ class Files(PageTest):
         for data, why in ((bytes(5000), 'room for 4096, the new file 5000'), (discs.messages().replace(b'.', b'-'), 'is damaged in block')):
             self.give(data)
             self.browser.wait('#findings .say.bad', why)
-            self.assertIn(common.text('nothingAdded'), self.browser.text('#findings .say.bad'))
+            self.assertIn(common.text('discNothingAdded'), self.browser.text('#findings .say.bad'))
         self.setUp()
         self.begin(discs.game())
         self.choose(MESSAGES)
         self.give(discs.messages())
-        self.browser.wait('#findings .say', common.text('newFileIsSame'))
+        self.browser.wait('#findings .say', common.text('discNewFileIsSame'))
         self.assertTrue(self.browser.run('return document.querySelector("#count-script").hidden'))
 
     def test_cancel_ends_the_reading_of_a_file(self) -> None:

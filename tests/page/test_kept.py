@@ -222,7 +222,7 @@ class Kept(PageTest):
         self.open_image(files['game'])
         self.open_script(files['english'])
         self.browser.run(GATE)
-        self.press(common.text('undoScript'))
+        self.press(common.text('scriptUndoScript'))
         self.browser.wait('#panel-script .progress')
         self.browser.run('held = 0')
         self.open_script(files['other'])

@@ -53,7 +53,7 @@ class Messages(PageTest):
         self.browser.size(360)
         self.open_image(files['game'])
         self.open_script(files['english'])
-        self.press(common.text('undoScript'))
+        self.press(common.text('scriptUndoScript'))
         self.is_seen('[aria-label=Script] .say.good', 'Saved: english (undo).txt')
         self.browser.click('#tab-disc')
         self.browser.click('#tab-script')

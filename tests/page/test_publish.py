@@ -64,7 +64,7 @@ class Publish(PageTest):
         self.browser.open(saved)
         self.browser.wait('#player h1', HOSTILE)
         self.browser.give('#player-files', [discs.written(game=discs.game())['game']])
-        self.browser.wait('#verdict', common.text('rightDisc'))
+        self.browser.wait('#verdict', common.text('playerRightDisc'))
         self.assertIn('6 changes. The new file needs 0.4 MB of space.', self.browser.text('#player'))
         self.press('Patch and save')
         self.assertEqual(self.browser.downloaded('Starlit.bin').read_bytes(), result())
@@ -166,7 +166,7 @@ class Player(PageTest):
 
     def test_the_right_disc(self) -> None:
         self.play(discs.game())
-        self.browser.wait('#verdict', common.text('rightDisc'))
+        self.browser.wait('#verdict', common.text('playerRightDisc'))
         self.assertEqual(self.browser.run('return document.activeElement.innerText'), 'Patch and save…')
         self.press('Patch and save')
         self.assertEqual(self.browser.downloaded('Starlit (English).bin').read_bytes(), result())
@@ -191,7 +191,7 @@ class Player(PageTest):
         self.play(other)
         self.browser.wait('#verdict', 'This is a different dump, and the patch does not fit it.')
         self.assertIn('1 of 6 places holds other bytes.', self.browser.text('#player'))
-        self.assertIn(common.text('olderPatchPerhaps'), self.browser.text('#player'))
+        self.assertIn(common.text('playerOlderPatchPerhaps'), self.browser.text('#player'))
         self.press('Details')
         self.browser.wait('.hashes', f'refused: old bytes differ at block {block} offset 0')
         self.assertEqual(list(self.browser.downloads.iterdir()), [])
@@ -207,7 +207,7 @@ class Player(PageTest):
 
     def test_an_image_that_is_patched_already(self) -> None:
         self.play(result())
-        self.browser.wait('#verdict', common.text('imageIsPatched'))
+        self.browser.wait('#verdict', common.text('playerImageIsPatched'))
         self.assertIn('There is nothing to do.', self.browser.text('#player'))
 
     def test_an_image_that_is_patched_already_has_its_cue_sheet(self) -> None:
@@ -216,7 +216,7 @@ class Player(PageTest):
         sheet = image.with_suffix('.cue')
         sheet.write_text(discs.sheet_of(mine=discs.DATA))
         self.browser.drop('#player', [sheet, image])
-        self.browser.wait('#verdict', common.text('imageIsPatched'))
+        self.browser.wait('#verdict', common.text('playerImageIsPatched'))
         self.press('Save the cue sheet')
         saved = self.browser.downloaded('mine.cue')
         self.assertEqual(common.waited(saved.read_text, 'the cue sheet is empty'), sheet.read_text())
@@ -276,7 +276,7 @@ class Player(PageTest):
             self.browser.wait(said)
             self.browser.run('document.querySelector(arguments[0]).remove()', said)
             self.browser.drop('#player', [then])
-            self.browser.wait('#verdict', common.text('rightDisc'))
+            self.browser.wait('#verdict', common.text('playerRightDisc'))
             self.saves_sheet('Save the cue sheet', 'Starlit (English)')
 
     def test_on_a_phone_the_last_step_comes_into_view(self) -> None:
@@ -312,14 +312,14 @@ class Player(PageTest):
         made = applied(files['game'], files['script'])[2]
         self.open_patcher(patcher(discs.game(), made, script))
         self.browser.drop('#player', [discs.written(made=made)['made']])
-        self.browser.wait('#verdict', common.text('imageIsPatched'))
+        self.browser.wait('#verdict', common.text('playerImageIsPatched'))
 
     def test_the_right_disc_is_patched_with_the_base_of_the_author(self) -> None:
         script = f'cdpatch 1\nset {discs.first_block() + 100} 0 41\n'
         files = discs.written(game=discs.game(), script=script)
         made = applied(files['game'], files['script'], '--base', '100')[2]
         self.open_patcher(patcher(discs.game(), made, script, base=100))
-        for image, said in ((discs.game(), common.text('rightDisc')), (made, common.text('imageIsPatched'))):
+        for image, said in ((discs.game(), common.text('playerRightDisc')), (made, common.text('playerImageIsPatched'))):
             self.browser.drop('#player', [discs.written(mine=image)['mine']])
             self.browser.wait('#verdict', said)
 
@@ -329,7 +329,7 @@ class Player(PageTest):
         sheet = files['game'].with_suffix('.cue')
         sheet.write_text(discs.sheet_of(**dict.fromkeys(files, discs.DATA)))
         self.browser.drop('#player', [sheet, *files.values()])
-        self.browser.wait('#verdict', common.text('rightDisc'))
+        self.browser.wait('#verdict', common.text('playerRightDisc'))
 
     def test_the_image_that_was_dropped_last_is_judged(self) -> None:
         self.open_patcher(patcher(discs.game(), result(), discs.script()))
@@ -339,14 +339,14 @@ class Player(PageTest):
         self.browser.wait('#player .progress')
         common.waited(lambda: self.browser.run('return globalThis.reads') == 1, 'the first image is not read')
         self.browser.drop('#player', [files['mine']])
-        self.browser.wait('#verdict', common.text('rightDisc'))
+        self.browser.wait('#verdict', common.text('playerRightDisc'))
         self.browser.run('openGate(); return new Promise(done => setTimeout(done, 500))')
-        self.assertEqual(self.browser.text('#verdict'), common.text('rightDisc'))
+        self.assertEqual(self.browser.text('#verdict'), common.text('playerRightDisc'))
         self.assertIn('mine.bin', self.browser.text('#player'))
 
     def test_a_result_that_is_not_the_authors_is_not_saved(self) -> None:
         self.play(discs.game(), result='0' * 40)
-        self.browser.wait('#verdict', common.text('rightDisc'))
+        self.browser.wait('#verdict', common.text('playerRightDisc'))
         self.press('Patch and save')
         self.browser.wait('#player .say.bad', 'The patched image is not the one that the author made')
         self.assertEqual(list(self.browser.downloads.iterdir()), [])
@@ -368,7 +368,7 @@ class Player(PageTest):
     def test_an_altered_program_does_not_start(self) -> None:
         data = patcher(discs.game(), result(), discs.script())
         self.open_patcher(data.replace(b"'use strict';", b"'use strict' ;", 1))
-        self.browser.wait('#not-started', common.text('hasNotStarted'))
+        self.browser.wait('#not-started', common.text('frameHasNotStarted'))
         self.assertEqual(self.browser.text('#player'), '')
 
     def test_a_patcher_that_is_dropped_on_ones_own_page_is_compared_with_it(self) -> None:
@@ -381,7 +381,7 @@ class Player(PageTest):
             self.browser.wait('#player h1', 'Starlit Detective in English')
             self.assertEqual(self.browser.run('return location.href'), common.PAGE.as_uri())
         self.browser.drop('#player', [discs.written(mine=discs.game())['mine']])
-        self.browser.wait('#verdict', common.text('rightDisc'))
+        self.browser.wait('#verdict', common.text('playerRightDisc'))
 
     def test_a_patcher_is_compared_with_the_page_also_if_a_style_is_put_before_its_own(self) -> None:
         self.browser.run(FOREIGN, 'prepend')
@@ -390,7 +390,7 @@ class Player(PageTest):
 
     def test_the_full_page_opens_from_a_patcher(self) -> None:
         self.play(discs.game())
-        self.browser.wait('#verdict', common.text('rightDisc'))
+        self.browser.wait('#verdict', common.text('playerRightDisc'))
         self.press('Open this in the full cdpatch')
         self.browser.wait('#disc-line .name', 'mine.bin')
         self.browser.click('#tab-script')
@@ -418,7 +418,7 @@ class Player(PageTest):
         made = applied(files['game'], files['script'], '--base', '100')[2]
         self.open_patcher(patcher(discs.game(), made, script, base=100))
         self.browser.drop('#player', [discs.written(mine=discs.game())['mine']])
-        self.browser.wait('#verdict', common.text('rightDisc'))
+        self.browser.wait('#verdict', common.text('playerRightDisc'))
         self.assertEqual(data_of(self.republished())['base'], 100)
 
     def test_a_patcher_with_carry_is_published_again(self) -> None:
@@ -427,7 +427,7 @@ class Player(PageTest):
         made = applied(files['image'], files['script'], '--carry')[2]
         self.open_patcher(patcher(image, made, discs.script(), carry=True))
         self.browser.drop('#player', [discs.written(mine=image)['mine']])
-        self.browser.wait('#verdict', common.text('rightDisc'))
+        self.browser.wait('#verdict', common.text('playerRightDisc'))
         data = data_of(self.republished())
         self.assertEqual([data['carry'], data['result']], [True, common.sha1(made)])
 
@@ -438,7 +438,7 @@ class Streamed(PageTest):
     def test_what_is_dropped_while_an_image_is_saved_is_refused_by_name(self) -> None:
         self.browser.open(self.written_page(patcher(discs.game(), result(), discs.script())))
         self.browser.give('#player-files', [discs.written(mine=discs.game())['mine']])
-        self.browser.wait('#verdict', common.text('rightDisc'))
+        self.browser.wait('#verdict', common.text('playerRightDisc'))
         self.begins('Patch and save')
         self.browser.wait('#player .progress')
         self.assertEqual(self.focused(), 'steps: Cancel')
@@ -452,7 +452,7 @@ class Streamed(PageTest):
         for wanted, state in ((common.sha1(result()), 'closed'), ('0' * 40, 'aborted')):
             self.browser.open(self.written_page(patcher(discs.game(), result(), discs.script(), result=wanted)))
             self.browser.give('#player-files', [discs.written(mine=discs.game())['mine']])
-            self.browser.wait('#verdict', common.text('rightDisc'))
+            self.browser.wait('#verdict', common.text('playerRightDisc'))
             self.press('Patch and save')
             common.waited(lambda: self.browser.run('return chosen.state') == state, f'not {state}')
             if state == 'closed':

@@ -342,7 +342,7 @@ class Script(PageTest):
     def test_the_undo_script_of_carried_damage_says_that_it_wants_carry(self) -> None:
         files = self.open_both(discs.scratched(), discs.script())
         self.browser.click('#panel-script input[type=checkbox]')
-        self.press(common.text('undoScript'))
+        self.press(common.text('scriptUndoScript'))
         self.browser.wait('#panel-script .said .say', 'Apply it with carry, as this script.')
         undo = self.browser.downloaded('english (undo).txt')
         _, _, patched = applied(files['game'], files['english'], '--carry')
@@ -352,7 +352,7 @@ class Script(PageTest):
     def test_an_undo_script_can_be_cancelled(self) -> None:
         self.open_both(discs.game(), discs.script())
         self.browser.run(GATE)
-        self.press(common.text('undoScript'))
+        self.press(common.text('scriptUndoScript'))
         self.browser.wait('#panel-script .progress')
         self.press('Cancel')
         self.browser.run('openGate()')
@@ -362,17 +362,17 @@ class Script(PageTest):
     def test_the_undo_script_can_be_made_of_an_image_that_is_opened_later(self) -> None:
         files = discs.written(game=discs.game(), english=discs.script())
         self.open_script(files['english'])
-        self.assertTrue(self.is_off(common.text('undoScript')))
+        self.assertTrue(self.is_off(common.text('scriptUndoScript')))
         self.open_image(files['game'])
         self.browser.click('#tab-script')
-        self.assertFalse(self.is_off(common.text('undoScript')))
+        self.assertFalse(self.is_off(common.text('scriptUndoScript')))
 
     def test_a_file_that_shrinks_saves_nothing(self) -> None:
         files = self.open_both(discs.game(), discs.script())
         files['game'].write_bytes(discs.game()[:100000])
         self.press_save()
         self.browser.wait('#panel-script .say.bad', 'cannot be read any more')
-        self.assertIn(common.text('noImageKept'), self.browser.text('#panel-script .side'))
+        self.assertIn(common.text('saveNoImageKept'), self.browser.text('#panel-script .side'))
         self.assertEqual(list(self.browser.downloads.glob('game*')), [])
 
     def test_a_base_that_is_not_0_is_that_of_the_image(self) -> None:
@@ -432,7 +432,7 @@ class Streaming(PageTest):
             self.browser.run('Object.assign(chosen, { writes: [], state: "none", failing: arguments[0], removed: false })', failing)
             self.press_save()
             self.browser.wait('#panel-script .say.bad', 'The disk is full')
-            self.assertIn(common.text('noImageKept'), self.browser.text('#panel-script .side'))
+            self.assertIn(common.text('saveNoImageKept'), self.browser.text('#panel-script .side'))
             self.assertEqual(self.browser.run('return [chosen.state, chosen.removed]'), ['aborted', True], f'write {failing}')
 
     def test_cancel_in_the_middle_keeps_no_image(self) -> None:
@@ -441,7 +441,7 @@ class Streaming(PageTest):
         self.press('Cancel')
         self.browser.run('chosen.release()')
         self.browser.wait('#panel-script .say', 'Cancelled.')
-        self.assertIn(common.text('noImageKept'), self.browser.text('#panel-script .side'))
+        self.assertIn(common.text('saveNoImageKept'), self.browser.text('#panel-script .side'))
         self.assertEqual(self.browser.run('return [chosen.state, chosen.removed]'), ['aborted', True])
 
     def test_the_open_image_is_never_written_over(self) -> None:

@@ -249,10 +249,10 @@ class Second(PageTest):
     def test_a_tail_that_differs_is_said(self) -> None:
         image = with_faults()
         self.pair(image + b'tail', image + b'tall')
-        self.browser.wait('#second-body .say.warn', text('tailsDiffer'))
+        self.browser.wait('#second-body .say.warn', text('secondTailsDiffer'))
         self.browser.wait('#second-body .say.good', 'Both images are the same, sector for sector.')
         self.press('Repair from it')
-        self.browser.wait('#second-body .say.warn', text('tailsDiffer'))
+        self.browser.wait('#second-body .say.warn', text('secondTailsDiffer'))
 
     def test_audio_that_differs_is_no_script(self) -> None:
         self.pair(with_faults(), discs.game() + AUDIO[:-1] + bytes([AUDIO[-1] ^ 1]))

@@ -71,7 +71,7 @@ class Sending(PageTest):
         self.assertEqual(self.browser.attempts(), [])
         self.browser.open(self.browser.downloads / 'Title.html')
         self.browser.give('#player-files', [discs.written(game=discs.game())['game']])
-        self.browser.wait('#verdict', common.text('rightDisc'))
+        self.browser.wait('#verdict', common.text('playerRightDisc'))
         self.assertEqual(self.browser.attempts(), [])
 
     def test_a_server_is_asked_only_for_the_page(self) -> None:
@@ -113,7 +113,7 @@ class Policy(PageTest):
         path.write_bytes(patcher(discs.game(), b'', 'cdpatch 1\nrebuild 0\n').replace(b"'use strict';", tries + b"'use strict';", 1))
         browser = chromium.shared()
         browser.open(path)
-        browser.wait('#not-started', common.text('hasNotStarted'))
+        browser.wait('#not-started', common.text('frameHasNotStarted'))
         found = browser.attempts()
         self.assertEqual([it for it in found if it.startswith('request') or it == 'RTCPeerConnection'], [])
         self.assertTrue(any('script-src' in it for it in found), found)

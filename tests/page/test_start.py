@@ -107,4 +107,4 @@ class Start(PageTest):
         files = discs.written(game=discs.game(), english=discs.script())
         page = self.written_page(patcher(discs.game(), applied(files['game'], files['english'])[2], discs.script()))
         self.browser.drop('#drop', [files['game'], page])
-        self.browser.wait('#verdict', common.text('rightDisc'))
+        self.browser.wait('#verdict', common.text('playerRightDisc'))

@@ -78,7 +78,7 @@ class Fitting(Stranger):
     def test_another_disc_is_not_told_that_a_patch_without_old_bytes_fits(self) -> None:
         disc = common.image_of([b'another disc'] * 100)
         self.play(disc, 'cdpatch 1\nset 3 0 4142\nfill 4 0 100 00\nrebuild 5\n')
-        self.browser.wait('#verdict', common.text('notAuthorsDisc'))
+        self.browser.wait('#verdict', common.text('playerNotAuthorsDisc'))
         said = self.browser.text('#player')
         self.assertIn('3 of 3 changes name no old bytes, so nothing shows whether they fit.', said)
         self.assertIn(f'Your image has {len(disc):,} bytes, and the author’s has {len(discs.game()):,}.', said)
@@ -91,7 +91,7 @@ class Fitting(Stranger):
 
     def test_a_dump_of_the_same_length_is_not_told_so_if_one_line_names_no_old_bytes(self) -> None:
         self.play(common.damaged(discs.game(), 150), discs.script())
-        self.browser.wait('#verdict', common.text('notAuthorsDisc'))
+        self.browser.wait('#verdict', common.text('playerNotAuthorsDisc'))
         self.assertIn('2 of 6 changes name no old bytes, so nothing shows whether they fit.', self.browser.text('#player'))
 
     def test_only_the_hash_says_that_an_image_is_patched(self) -> None:
@@ -120,7 +120,7 @@ class Names(Stranger):
         for name in ('Play the game.html', 'Game\u202enib.exe', 'CON.bin', 'game'):
             self.browser.open(self.written_page(patcher(discs.game(), result(discs.named()), discs.named(), name=name)))
             self.browser.give('#player-files', [discs.written(mine=discs.game())['mine']])
-            self.browser.wait('#verdict', common.text('rightDisc'))
+            self.browser.wait('#verdict', common.text('playerRightDisc'))
             self.press('Patch and save')
             saved = self.browser.downloaded('patched.bin')
             self.assertEqual([it.name for it in self.browser.downloads.iterdir()], ['patched.bin'])
@@ -147,7 +147,7 @@ class Names(Stranger):
         other = 'FILE "\\\\evil.example\\share\\track2.bin" BINARY\n  TRACK 02 AUDIO\n    INDEX 01 00:00:00\n'
         for cue, offered in ((sheet, True), (sheet + other, False), (sheet.replace('INDEX 01', 'INDEX 00'), False)):
             self.play(discs.game(), discs.named(), cue=cue)
-            self.browser.wait('#verdict', common.text('rightDisc'))
+            self.browser.wait('#verdict', common.text('playerRightDisc'))
             self.press('Patch and save')
             self.browser.wait('#saved')
             self.assertEqual('Save the cue sheet' in self.browser.text('#player'), offered)
@@ -217,7 +217,7 @@ class Chosen(Stranger):
         (place / 'Game (Track 02).bin').write_bytes(bytes(2352 * 4))
         (place / 'game.cue').write_text(discs.sheet_of(**{'game': discs.DATA, 'Game (Track 02)': 'AUDIO'}))
         self.browser.drop('#player', sorted(place.iterdir()))
-        self.browser.wait('#verdict', common.text('rightDisc'))
+        self.browser.wait('#verdict', common.text('playerRightDisc'))
         self.press('Patch and save')
         self.browser.wait('#player .say.bad', 'Another open file has this name: Game (Track 02).bin')
         self.assertEqual(self.browser.run('return [chosen.state, chosen.writes.length]'), ['none', 0])
@@ -242,7 +242,7 @@ class Coming(Stranger):
         self.browser.open(self.written_page(b''.join(self.whole(f'{discs.named()}{lines}'))))
         self.browser.wait('#player h1', 'Starlit Detective in English')
         self.browser.drop('#player', [discs.written(mine=discs.game())['mine']])
-        self.browser.wait('#verdict', common.text('rightDisc'))
+        self.browser.wait('#verdict', common.text('playerRightDisc'))
 
     def test_a_patcher_that_would_inflate_to_gigabytes_is_refused(self) -> None:
         self.dropped(self.whole(discs.named())[0] + bomb(2 << 30))

@@ -139,7 +139,7 @@ class TextsTable(PageTest):
         self.browser.press('z', held=Keys.CONTROL)
         self.browser.click('#tab-text')
         self.give(self.table(image, {}))
-        self.browser.wait('#panel-text .say.warn', common.text('nothingAdded'))
+        self.browser.wait('#panel-text .say.warn', common.text('discNothingAdded'))
         self.browser.wait('#panel-text .say.warn', 'The table has no new text for the lines 2, 3, 4, 5 of the script.')
         # One that does not fit has a new text, and so has what a second row of the place does not name.
         mine = self.table(image, {2: 'The game begins.', 3: 'much too long ' * 9})
@@ -175,7 +175,7 @@ class TextsTable(PageTest):
             wrong.write_text(text)
             self.browser.drop('#panel-text', [wrong])
             self.browser.wait('#panel-text .say.bad', why)
-            self.assertIn(common.text('nothingAdded'), self.browser.text('#panel-text .say.bad'))
+            self.assertIn(common.text('discNothingAdded'), self.browser.text('#panel-text .say.bad'))
         self.assertTrue(self.browser.run('return document.querySelector("#count-script").hidden'))
 
     def test_cancel_ends_the_making_of_lines(self) -> None:

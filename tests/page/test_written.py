@@ -71,5 +71,5 @@ class Written(PageTest):
             file.truncate(20_000_000)
         self.browser.run('chosen.release()')
         self.browser.wait('#panel-script .say.bad', 'This file cannot be read any more: long.bin. Was it moved or changed')
-        self.assertIn(common.text('noImageKept'), self.browser.text('#panel-script .side'))
+        self.assertIn(common.text('saveNoImageKept'), self.browser.text('#panel-script .side'))
         self.assertEqual(self.kept(), [])

@@ -43,7 +43,7 @@ export async function startPage(awaited) {
 
 /** Another page could lie over this one, and have its buttons pressed by a user who does not see them. */
 function refuseFrame() {
-    fill(byId('not-started'), element('b', {}, texts.notInsideAnother), texts.openTheFile);
+    fill(byId('not-started'), element('b', {}, texts.frameNotInsideAnother), texts.frameOpenTheFile);
     return null;
 }
 

@@ -68,18 +68,18 @@ export class FilesList {
         this.filter = element('input', { type: 'text', class: 'slim', id: 'files-filter', autocomplete: 'off', spellcheck: 'false',
             input: () => this.filtered() });
         /** @type {HTMLInputElement} */
-        this.input = element('input', { type: 'file', class: 'hide', tabindex: -1, 'aria-label': texts.theNewFile,
+        this.input = element('input', { type: 'file', class: 'hide', tabindex: -1, 'aria-label': texts.discTheNewFile,
             change: () => void this.replace() });
         this.pages = element('span', { class: 'row small quiet to-end' });
         this.actions = element('div', { class: 'row' });
         this.job = element('div', { class: 'stack' });
         this.said = element('div', { role: 'status' });
         this.tools = element('div', { class: 'pad stack tight', hidden: true },
-            element('div', { class: 'row' }, element('label', { class: 'row small' }, texts.filterFiles, this.filter), this.pages),
+            element('div', { class: 'row' }, element('label', { class: 'row small' }, texts.discFilterFiles, this.filter), this.pages),
             this.actions, this.job, this.said, this.input);
         this.table = element('tbody');
-        const head = element('tr', {}, element('th', {}, texts.fileNameColumn), element('th', { class: 'n' }, texts.bytesColumn),
-            element('th', { class: 'n' }, term('block', texts.blockColumn)));
+        const head = element('tr', {}, element('th', {}, texts.discFileNameColumn), element('th', { class: 'n' }, texts.discBytesColumn),
+            element('th', { class: 'n' }, term('block', texts.discBlockColumn)));
         this.part = element('table', { class: 'files' }, element('thead', {}, head), this.table);
     }
 
@@ -124,9 +124,9 @@ export class FilesList {
 
     /** Why no file is listed. */
     noneText() {
-        if (!this.looked) return texts.filesBeingListed;
-        if (!this.known) return texts.noVolumeFound;
-        return this.all.length === 0 ? texts.volumeHasNoFiles : texts.noNameHasThis;
+        if (!this.looked) return texts.discFilesBeingListed;
+        if (!this.known) return texts.discNoVolumeFound;
+        return this.all.length === 0 ? texts.discVolumeHasNoFiles : texts.discNoNameHasThis;
     }
 
     /** @param {Listed} file */
@@ -135,8 +135,8 @@ export class FilesList {
         const open = element('button', { type: 'button', class: 'fold', click: () => this.choose(file) }, element('bdi', {}, shown));
         return keyed(path, element('tr', { 'aria-selected': file === this.chosen ? 'true' : null },
             element('td', { class: 'wide path' }, open, fault !== null && element('span', { class: 'tag warn' }, seen(remarkText(fault)))),
-            element('td', { class: 'n', 'data-l': texts.bytesLabel }, counted(size)),
-            element('td', { class: 'n', 'data-l': texts.blockLabel }, block)));
+            element('td', { class: 'n', 'data-l': texts.discBytesLabel }, counted(size)),
+            element('td', { class: 'n', 'data-l': texts.discBlockLabel }, block)));
     }
 
     /** @param {number} count how many files are listed */
@@ -149,19 +149,19 @@ export class FilesList {
             if (body) body.scrollTop = 0;
         };
         const to = Math.min(from + ROWS, count);
-        const all = told(texts.filesCounted, { n: this.all.length });
-        const shown = count === this.all.length ? all : told(texts.filesOfAll, { count, all });
-        fill(this.pages, element('span', {}, count > ROWS ? told(texts.filesFromTo, { from: from + 1, to, all: shown }) : shown),
-            from > 0 && keyed('back', button('slim', () => turn(Math.max(from - ROWS, 0)), texts.previousFiles)),
-            to < count && keyed('on', button('slim', () => turn(to), texts.nextFiles)));
+        const all = told(texts.discFilesCounted, { n: this.all.length });
+        const shown = count === this.all.length ? all : told(texts.discFilesOfAll, { count, all });
+        fill(this.pages, element('span', {}, count > ROWS ? told(texts.discFilesFromTo, { from: from + 1, to, all: shown }) : shown),
+            from > 0 && keyed('back', button('slim', () => turn(Math.max(from - ROWS, 0)), texts.discPreviousFiles)),
+            to < count && keyed('on', button('slim', () => turn(to), texts.discNextFiles)));
     }
 
     drawActions() {
         const { chosen } = this;
-        if (chosen === null) return fill(this.actions, this.all.length > 0 && element('p', { class: 'small quiet' }, texts.chooseFile));
+        if (chosen === null) return fill(this.actions, this.all.length > 0 && element('p', { class: 'small quiet' }, texts.discChooseFile));
         return fill(this.actions, element('b', { class: 'mono' }, nameOf(chosen.path)),
-            keyed('extract', button('slim', () => this.extract(chosen), texts.extractFile)),
-            keyed('replace', button('slim', () => this.input.click(), texts.replaceFile)));
+            keyed('extract', button('slim', () => this.extract(chosen), texts.discExtractFile)),
+            keyed('replace', button('slim', () => this.input.click(), texts.discReplaceFile)));
     }
 
     /** @param {Listed} file */
@@ -192,7 +192,7 @@ export class FilesList {
                 });
                 if (app.image === image) fill(this.said, said);
             } catch (error) {
-                if (app.image === image) fill(this.said, isCancelled(error) ? notice('plain', texts.jobCancelled, unmade)
+                if (app.image === image) fill(this.said, isCancelled(error) ? notice('plain', texts.discJobCancelled, unmade)
                     : notice('bad', unmade, ...messageParts(error, [image.name])));
             } finally {
                 fill(this.job);
@@ -202,7 +202,7 @@ export class FilesList {
 
     /** @param {Listed} file */
     extract(file) {
-        return this.work(texts.readingFile, texts.noFileSaved, async ({ opened }, watch) => {
+        return this.work(texts.discReadingFile, texts.discNoFileSaved, async ({ opened }, watch) => {
             /** @type {Blob[]} */
             const pieces = [];
             const names = this.app.files;
@@ -210,10 +210,10 @@ export class FilesList {
             const others = await extractFile(this.app, opened, file.entries, take, watch);
             const name = fileStem(file.path);
             downloadBytes(pieces, name);
-            const doubt = others.length > 0 && told(texts.sectorsNotModeOne, { n: blocksIn(others) });
+            const doubt = others.length > 0 && told(texts.discSectorsNotModeOne, { n: blocksIn(others) });
             const isChanged = names !== null && linesIn(this.app.script, placesOfFile(names, file.entries)).length > 0;
-            return notice(doubt ? 'warn' : 'good', say(texts.fileSaved, { name: nameOf(name) }), doubt,
-                isChanged && element('p', {}, texts.fileAsOnDisc));
+            return notice(doubt ? 'warn' : 'good', say(texts.discFileSaved, { name: nameOf(name) }), doubt,
+                isChanged && element('p', {}, texts.discFileAsOnDisc));
         });
     }
 
@@ -223,11 +223,11 @@ export class FilesList {
         this.input.value = '';
         const { chosen, app: { files } } = this;
         if (!fresh || chosen === null || files === null) return;
-        await this.work(texts.makingLines, texts.nothingAdded, async (image, watch) => {
+        await this.work(texts.discMakingLines, texts.discNothingAdded, async (image, watch) => {
             const { app, app: { script } } = this;
             const made = await replaceFile(app, image.opened, { entries: chosen.entries, wanted: fileReader(fresh) }, watch);
             if (made.script === null) throw new Fault('script/left', { runs: made.left, image: image.part.name, most: MOST_RUNS });
-            if (made.script.long) throw ownFault(texts.scriptTooLongToReplace);
+            if (made.script.long) throw ownFault(texts.discScriptTooLongToReplace);
             const places = placesOfFile(files, chosen.entries);
             const earlier = await linesReplacing(script, image, places, watch.signal);
             const come = linesMade(made.script);
@@ -248,18 +248,18 @@ export class FilesList {
         const { app } = this;
         const fresh = new Set(come);
         const others = linesIn(app.script, places).filter(({ text }) => !fresh.has(text));
-        const words = [gone > 0 && told(texts.earlierLinesGone, { n: gone }), others.length > 0 && told(texts.otherLinesWrite,
+        const words = [gone > 0 && told(texts.discEarlierLinesGone, { n: gone }), others.length > 0 && told(texts.discOtherLinesWrite,
             { n: others.length, line: String(others[0].number) }),
         ...sharing.slice(0, MOST_RUNS).map(other => sharingWords(path, other))].flatMap(it => it || []);
         const rest = words.map(text => element('p', {}, text));
-        if (come.length === 0) return notice('plain', texts.newFileIsSame, ...gone > 0 ? rest : [texts.nothingAdded, ...rest]);
-        const head = told(texts.linesAdded, { n: come.length });
+        if (come.length === 0) return notice('plain', texts.discNewFileIsSame, ...gone > 0 ? rest : [texts.discNothingAdded, ...rest]);
+        const head = told(texts.discLinesAdded, { n: come.length });
         announce([head, ...words].join(' '));
-        const length = size === before ? [] : say(texts.fileChangesLength, { name: nameOf(path), before, after: size });
+        const length = size === before ? [] : say(texts.discFileChangesLength, { name: nameOf(path), before, after: size });
         const go = others.length > 0 && button('slim', () => app.goToLine(others[0].number - 1),
-            told(texts.goToLine, { line: String(others[0].number) }));
+            told(texts.scriptGoToLine, { line: String(others[0].number) }));
         return notice(others.length + sharing.length > 0 ? 'warn' : 'good', head, ...length, ...rest,
-            element('div', { class: 'row' }, go, button('slim', () => app.showPanel('script'), texts.openScriptPanel)));
+            element('div', { class: 'row' }, go, button('slim', () => app.showPanel('script'), texts.discOpenScriptPanel)));
     }
 }
 

@@ -34,13 +34,14 @@ export class Findings {
         this.hidden = false;
         /** @type {Set<number>} the first sectors of the places that are open */
         this.opened = new Set();
-        this.tabs = element('div', { class: 'seg', role: 'tablist', 'aria-label': texts.findingsTabs });
+        this.tabs = element('div', { class: 'seg', role: 'tablist', 'aria-label': texts.discFindingsTabs });
         this.body = element('div', { class: 'scroll fit', id: 'findings-body', role: 'tabpanel' });
         this.foot = element('p', { class: 'foot' });
         this.files = new FilesList(app);
         const tools = element('span', { class: 'row to-end' }, copyButton('slim bare', () => this.report(), texts.copy,
-            texts.copyReportWhat), button('slim bare', () => downloadText(this.report(), `${this.reportName()}.txt`), texts.saveReport));
-        this.part = element('section', { class: 'card', id: 'findings', 'aria-label': texts.findingsCard },
+            texts.discCopyReportWhat), button('slim bare', () => downloadText(this.report(), `${this.reportName()}.txt`),
+                texts.discSaveReport));
+        this.part = element('section', { class: 'card', id: 'findings', 'aria-label': texts.discFindingsCard },
             element('header', {}, this.tabs, tools), this.files.tools, this.body, this.foot);
         oneStop(this.tabs, '[role=tab]', tab => this.choose(/** @type {FindingsTab} */ (tab.dataset.tab)));
         oneStop(this.body, 'tbody button');
@@ -99,8 +100,9 @@ export class Findings {
      */
     drawTabs(findings, runs) {
         /** @type {[FindingsTab, string, string][]} */
-        const all = [['files', texts.filesTab, this.files.count()], ['runs', texts.runsTab, runs], ['text', texts.asTextTab, '']];
-        if (findings > 0) all.unshift(['findings', texts.findingsTab, counted(findings)]);
+        const all = [['files', texts.discFilesTab, this.files.count()], ['runs', texts.discRunsTab, runs], ['text', texts.discAsTextTab,
+            '']];
+        if (findings > 0) all.unshift(['findings', texts.discFindingsTab, counted(findings)]);
         const [shown] = all.filter(([name]) => name === this.shown());
         setAttribute(this.body, 'aria-label', shown[1]);
         fill(this.tabs, ...all.map(([name, label, count]) => keyed(name, element('button', {
@@ -111,12 +113,12 @@ export class Findings {
 
     /** @param {Surveyed} survey */
     drawFindings(survey) {
-        const head = element('tr', {}, element('th', {}, ...say(texts.placeColumn, { blocks: term('block', texts.blocksTerm) })),
-            element('th', { class: 'n' }, texts.sectorsColumn), element('th', {}, texts.whatColumn),
-            element('th', {}, texts.looksLikeColumn));
+        const head = element('tr', {}, element('th', {}, ...say(texts.discPlaceColumn, { blocks: term('block', texts.discBlocksTerm) })),
+            element('th', { class: 'n' }, texts.discSectorsColumn), element('th', {}, texts.discWhatColumn),
+            element('th', {}, texts.discLooksLikeColumn));
         const rows = placesOf(survey.marks).flatMap(place => this.placeRows(survey, place));
         this.fillTable('findings', head, rows);
-        fill(this.foot, element('span', {}, texts.looksLikeIsGuess));
+        fill(this.foot, element('span', {}, texts.discLooksLikeIsGuess));
     }
 
     /**
@@ -141,7 +143,7 @@ export class Findings {
         const fold = element('button', { type: 'button', class: 'fold', 'aria-expanded': String(open), 'data-place': place.first },
             open ? '▾ ' : '▸ ', range);
         const row = element('tr', {}, element('td', { class: 'num nowrap' }, fold),
-            element('td', { class: 'n', 'data-l': texts.sectorsLabel }, counted(place.sectors.length)),
+            element('td', { class: 'n', 'data-l': texts.discSectorsLabel }, counted(place.sectors.length)),
             element('td', {}, dotOf(lookOf(mark).colour), words),
             element('td', { class: 'wide' }, placeGuess(place, survey.marks.isElsewhere(), survey.known)));
         return open ? [row, ...this.sectorRows(survey, place)] : [row];
@@ -162,13 +164,13 @@ export class Findings {
             const range = from === sectors[i] ? String(block) : `${block}–${survey.block + sectors[i]}`;
             const here = this.app.place.block >= block && this.app.place.block <= survey.block + sectors[i];
             const open = element('button', { type: 'button', class: 'fold', 'data-block': block }, range);
-            const words = lost ? texts.lostInModeOne : findingAt(this.app.calls, survey, from);
+            const words = lost ? texts.discLostInModeOne : findingAt(this.app.calls, survey, from);
             rows.push(element('tr', { class: 'sub', 'aria-selected': here ? 'true' : null }, element('td', { class: 'nowrap' }, open),
                 element('td'), element('td', { colspan: 2 }, words)));
         }
         const left = sectors.length - rows.length;
         if (rows.length === MOST_ROWS && left > 0) {
-            rows.push(element('tr', { class: 'sub' }, element('td', { colspan: 4 }, told(texts.moreFindings, { n: left }))));
+            rows.push(element('tr', { class: 'sub' }, element('td', { colspan: 4 }, told(texts.discMoreFindings, { n: left }))));
         }
         return rows;
     }
@@ -182,23 +184,23 @@ export class Findings {
     drawFiles() {
         this.files.draw();
         fill(this.body, this.files.part);
-        fill(this.foot, this.files.all.length > 0 && element('span', {}, texts.filesByBlocks));
+        fill(this.foot, this.files.all.length > 0 && element('span', {}, texts.discFilesByBlocks));
     }
 
     /** @param {{ first: number, last: number, kind: number }[]} runs */
     drawRuns(runs) {
-        const head = element('tr', {}, element('th', {}, term('block', texts.runBlocksColumn)),
-            element('th', { class: 'n' }, texts.sectorsColumn), element('th', {}, texts.kindColumn),
-            element('th', {}, texts.beginsAtColumn));
+        const head = element('tr', {}, element('th', {}, term('block', texts.discRunBlocksColumn)),
+            element('th', { class: 'n' }, texts.discSectorsColumn), element('th', {}, texts.discKindColumn),
+            element('th', {}, texts.discBeginsAtColumn));
         const rows = runs.slice(0, MOST_ROWS).map(({ first, last, kind }) => element('tr', {},
             element('td', { class: 'num nowrap' }, element('button', { type: 'button', class: 'fold', 'data-block': first },
                 first === last ? String(first) : `${first}–${last}`)),
-            element('td', { class: 'n', 'data-l': texts.sectorsLabel }, counted(last - first + 1)),
+            element('td', { class: 'n', 'data-l': texts.discSectorsLabel }, counted(last - first + 1)),
             element('td', {}, ...this.kindWords(first, kind)),
-            element('td', { class: 'num', 'data-l': texts.beginsAtLabel }, addressOf(this.app, first))));
+            element('td', { class: 'num', 'data-l': texts.discBeginsAtLabel }, addressOf(this.app, first))));
         this.fillTable('runs', head, rows);
         const left = runs.length - rows.length;
-        fill(this.foot, element('span', {}, left > 0 && `${told(texts.moreRuns, { n: left })} `, texts.runIsNeighbours));
+        fill(this.foot, element('span', {}, left > 0 && `${told(texts.discMoreRuns, { n: left })} `, texts.discRunIsNeighbours));
     }
 
     /**
@@ -214,7 +216,7 @@ export class Findings {
     }
 
     drawText() {
-        const choice = element('select', { class: 'slim', 'aria-label': texts.whichText },
+        const choice = element('select', { class: 'slim', 'aria-label': texts.discWhichText },
             ...['audit', 'list'].map(name => element('option', { value: name, selected: name === this.text }, `cdpatch ${name}`)));
         choice.addEventListener('change', () => {
             this.text = choice.value === 'list' ? 'list' : 'audit';
@@ -223,10 +225,10 @@ export class Findings {
         const lines = this.report().split('\n');
         const shown = lines.slice(0, MOST_TEXT_LINES).join('\n');
         const more = lines.length - 1 - MOST_TEXT_LINES;
-        const label = told(texts.whatProgramPrints, { verb: this.text });
+        const label = told(texts.discWhatProgramPrints, { verb: this.text });
         fill(this.body, element('pre', { class: 'report', tabindex: 0, 'aria-label': label }, shown,
-            more > 0 && `\n${told(texts.moreLinesPrinted, { n: more })}`));
-        fill(this.foot, choice, element('span', {}, texts.printedToTheByte));
+            more > 0 && `\n${told(texts.discMoreLinesPrinted, { n: more })}`));
+        fill(this.foot, choice, element('span', {}, texts.discPrintedToTheByte));
     }
 
     /** @param {HTMLElement} target in a row, all of which does what its button does */

@@ -24,9 +24,10 @@ export const USER_END = USER_OFFSET + USER_SIZE;
 
 /** @type {Record<number, string>} what begins at a byte of a Mode 1 sector */
 const CUTS = {
-    0: texts.syncAndHeader,
-    [USER_OFFSET]: told(texts.userDataOffsets, { last: String(USER_SIZE - 1), first: String(USER_OFFSET), end: String(USER_END - 1) }),
-    [USER_END]: texts.edcZerosParity,
+    0: texts.sectorSyncAndHeader,
+    [USER_OFFSET]: told(texts.sectorUserDataOffsets, { last: String(USER_SIZE - 1), first: String(USER_OFFSET),
+        end: String(USER_END - 1) }),
+    [USER_END]: texts.sectorEdcZerosParity,
 };
 
 /**
@@ -36,7 +37,7 @@ const CUTS = {
  */
 export function headLine({ label }, { columns, hexadecimal }) {
     const numbers = Array.from({ length: columns }, (_, i) => element('i', {}, hexadecimal ? i.toString(16).toUpperCase() : i));
-    return element('div', { class: 'head', 'aria-hidden': 'true' }, element('span', { class: 'o' }, texts.offsetWord),
+    return element('div', { class: 'head', 'aria-hidden': 'true' }, element('span', { class: 'o' }, texts.sectorOffsetWord),
         element('span', { class: 'b' }, ...numbers), element('span', { class: 't' }, columnLabel(label, columns)));
 }
 
@@ -83,13 +84,14 @@ function hexLine(shown, from, to, letters, { hexadecimal }) {
  * @param {number} at
  */
 export function placeName({ mode1 }, at) {
-    return mode1 && at >= USER_OFFSET && at < USER_END ? told(texts.offsetIs, { offset: texts.offsetWord, at: String(at - USER_OFFSET) })
+    return mode1 && at >= USER_OFFSET && at < USER_END ? told(texts.sectorOffsetIs, { offset: texts.sectorOffsetWord,
+        at: String(at - USER_OFFSET) })
         : byteWords(at);
 }
 
 /** @param {number} at */
 export function byteWords(at) {
-    return told(texts.byteOfSector, { at: String(at) });
+    return told(texts.sectorByteOfSector, { at: String(at) });
 }
 
 /**
@@ -115,7 +117,7 @@ function byteCell({ bytes, old, other, fields, crossings }, at) {
 function otherLine({ old, other }, from, to) {
     if (other === null || old.subarray(from, to).every((byte, i) => byte === other[from + i])) return [];
     const cells = Array.from(other.subarray(from, to), (byte, i) => element('i', {}, byte === old[from + i] ? '' : digitsOf(byte)));
-    return [element('div', { class: 'line second', 'aria-hidden': 'true' }, element('span', { class: 'o' }, texts.ofSecondImage),
+    return [element('div', { class: 'line second', 'aria-hidden': 'true' }, element('span', { class: 'o' }, texts.sectorOfSecondImage),
         element('span', { class: 'b' }, ...cells))];
 }
 

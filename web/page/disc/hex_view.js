@@ -26,7 +26,7 @@ export class HexView {
         this.dragging = false;
         this.pressed = pressed;
         this.columns = 16;
-        this.hex = element('div', { class: 'hex', tabindex: 0, role: 'grid', 'aria-label': texts.bytesOfSector,
+        this.hex = element('div', { class: 'hex', tabindex: 0, role: 'grid', 'aria-label': texts.sectorBytesOfSector,
             'aria-multiselectable': 'true' });
         this.strip = element('canvas', { width: 16, height: SECTOR_SIZE / 16 });
         this.frame = element('span');
@@ -117,7 +117,7 @@ export class HexView {
         this.hex.classList.toggle('texts', this.column === 'text');
         for (const it of this.hex.querySelectorAll(`[data-at="${this.at}"]`)) it.classList.add('at');
         const place = placeName(this.shown, this.at);
-        cell.setAttribute('aria-label', told(texts.placeHolds, { place, digits: String(cell.textContent) }));
+        cell.setAttribute('aria-label', told(texts.sectorPlaceHolds, { place, digits: String(cell.textContent) }));
         this.hex.setAttribute('aria-activedescendant', cell.id);
     }
 

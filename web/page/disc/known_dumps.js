@@ -36,13 +36,13 @@ async function takeList(app, file) {
         await known.add(piecesOf(file));
         app.addDumps(known);
         const use = () => {
-            const next = app.image === null ? texts.openToLookUp : texts.imageIsLookedUp;
-            showNotice('good', say(texts.fileLoaded, { name: nameOf(file.name) }),
-                `${told(texts.dumpsListed, { n: known.dumps.size })} ${next}`);
+            const next = app.image === null ? texts.discOpenToLookUp : texts.discImageIsLookedUp;
+            showNotice('good', say(texts.discFileLoaded, { name: nameOf(file.name) }),
+                `${told(texts.discDumpsListed, { n: known.dumps.size })} ${next}`);
         };
         return { needsImage: false, use };
     } catch (error) {
-        const use = () => showNotice('bad', say(texts.notAListOfDumps, { name: nameOf(file.name) }), messageOf(error));
+        const use = () => showNotice('bad', say(texts.discNotAListOfDumps, { name: nameOf(file.name) }), messageOf(error));
         return { needsImage: false, use };
     }
 }
@@ -57,9 +57,9 @@ export function dumpWords({ dumps }, { name: own, reader, sha1, crc32 }) {
     const found = dumps.flatMap(known => known.find(reader.size, { sha1, crc32 }, own) || []);
     if (found.length === 0) {
         const hasSize = dumps.some(known => known.hasSize(reader.size));
-        return element('span', { class: 'tag warn' }, hasSize ? texts.sizeInListOfDumps : texts.inNoListOfDumps);
+        return element('span', { class: 'tag warn' }, hasSize ? texts.discSizeInListOfDumps : texts.discInNoListOfDumps);
     }
     const [{ name, isBad }] = found;
-    const words = isBad ? texts.knownBadDump : texts.verifiedDump;
+    const words = isBad ? texts.discKnownBadDump : texts.discVerifiedDump;
     return element('span', { class: `tag ${isBad ? 'bad' : 'good'} dump` }, told(words, { name: seen(name) }));
 }

@@ -14,7 +14,7 @@ export class Legend {
         /** The name of the entry that is pressed, whose sectors alone are shown, or ''. */
         this.alone = '';
         this.shown = '';
-        this.part = element('div', { class: 'legend', role: 'group', 'aria-label': texts.pressLegendEntry });
+        this.part = element('div', { class: 'legend', role: 'group', 'aria-label': texts.discPressLegendEntry });
         oneStop(this.part, 'button');
     }
 

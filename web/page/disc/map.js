@@ -28,7 +28,7 @@ export class DiscMap {
         this.alone = -1;
         this.layout = layoutOf(1, 1, 1);
         this.waiting = 0;
-        this.canvas = element('canvas', { id: 'map', tabindex: 0, role: 'slider', 'aria-label': texts.mapOfDisc });
+        this.canvas = element('canvas', { id: 'map', tabindex: 0, role: 'slider', 'aria-label': texts.discMapOfDisc });
         this.ring = element('div', { class: 'ring', 'aria-hidden': 'true', hidden: true });
         this.tip = element('div', { class: 'tip', 'aria-hidden': 'true', hidden: true });
         this.ruler = element('div', { class: 'ruler', 'aria-hidden': 'true' });
@@ -86,8 +86,8 @@ export class DiscMap {
         canvas.style.width = `${layout.width}px`;
         canvas.style.height = `${layout.height}px`;
         paintMap(canvas, model, layout, this.alone);
-        const shared = layout.per > 1 ? told(texts.pixelIsSectors, { n: layout.per }) : texts.pixelIsSector;
-        this.per.textContent = layout.cell > 1 ? texts.squareIsSector : shared;
+        const shared = layout.per > 1 ? told(texts.discPixelIsSectors, { n: layout.per }) : texts.discPixelIsSector;
+        this.per.textContent = layout.cell > 1 ? texts.discSquareIsSector : shared;
         this.drawRuler(model, layout);
         this.drawPlace();
     }
@@ -103,7 +103,7 @@ export class DiscMap {
         for (let minute = Math.ceil(base / SECTORS_A_MINUTE / step) * step; layout.height > 60; minute += step) {
             const sector = minute * SECTORS_A_MINUTE - base;
             if (sector >= marks.length) break;
-            const label = element('span', {}, told(texts.minutesOnRuler, { minute: String(minute) }));
+            const label = element('span', {}, told(texts.discMinutesOnRuler, { minute: String(minute) }));
             label.style.top = `${Math.min(layout.height - 4, Math.max(6, rowsOf(sector / SECTORS_A_MINUTE)))}px`;
             labels.push(label);
         }
@@ -118,7 +118,7 @@ export class DiscMap {
         canvas.setAttribute('aria-valuemin', String(base));
         canvas.setAttribute('aria-valuemax', String(base + marks.length - 1));
         canvas.setAttribute('aria-valuenow', String(base + Math.max(at, 0)));
-        canvas.setAttribute('aria-valuetext', at < 0 ? texts.noSectorChosen : this.owner.spoken(at));
+        canvas.setAttribute('aria-valuetext', at < 0 ? texts.discNoSectorChosen : this.owner.spoken(at));
         ring.hidden = at < 0;
         if (at < 0) return fill(this.loupe);
         const size = layout.cell > 1 ? layout.cell + 3 : 18;

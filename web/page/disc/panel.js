@@ -44,9 +44,9 @@ class DiscPanel {
         this.findings = new Findings(app);
         this.sector = new SectorCard(app);
         this.words = element('span', { class: 'row' });
-        this.steps = element('span', { class: 'row' }, button('slim', () => this.map.chooseFinding(-1), texts.toPreviousFinding),
-            button('slim', () => this.map.chooseFinding(1), texts.toNextFinding));
-        const header = element('header', {}, element('h2', { id: 'map-title' }, texts.mapOfDisc), this.map.per);
+        this.steps = element('span', { class: 'row' }, button('slim', () => this.map.chooseFinding(-1), texts.discToPreviousFinding),
+            button('slim', () => this.map.chooseFinding(1), texts.discToNextFinding));
+        const header = element('header', {}, element('h2', { id: 'map-title' }, texts.discMapOfDisc), this.map.per);
         this.card = element('section', { class: 'card', 'aria-labelledby': 'map-title' }, header, this.legend.part, this.map.part,
             element('div', { class: 'readout' }, this.words, this.steps));
         this.left = element('div', { class: 'side' }, this.card, this.findings.part);
@@ -128,12 +128,12 @@ function spokenOf(app, sector) {
     if (app.survey === null) return '';
     const { kind, finding } = sectorWords(app, app.survey, sector);
     const block = String(app.survey.block + sector);
-    return finding === '' ? told(texts.spokenSector, { block, kind }) : told(texts.spokenFinding, { block, kind, finding });
+    return finding === '' ? told(texts.discSpokenSector, { block, kind }) : told(texts.discSpokenFinding, { block, kind, finding });
 }
 
 /** @param {number} block */
 function blockWords(block) {
-    return told(texts.blockNumber, { block: String(block) });
+    return told(texts.discBlockNumber, { block: String(block) });
 }
 
 /**
@@ -143,7 +143,7 @@ function blockWords(block) {
  */
 function fileWords({ files }, block) {
     const [file] = files === null ? [] : filesAt(files.files, block, 0);
-    return file ? told(texts.fileIs, { name: shownName(file.path) }) : '';
+    return file ? told(texts.discFileIs, { name: shownName(file.path) }) : '';
 }
 
 /**
@@ -156,7 +156,7 @@ function tipOf(app, sector) {
     const block = survey.block + sector;
     const { kind, finding, codes, damaged } = sectorWords(app, survey, sector);
     const file = fileWords(app, block);
-    return [`${blockWords(block)} · ${finding === '' ? kind : damaged ? texts.isDamaged : finding}`,
-        [...damaged ? [codes] : [], told(texts.addressOfSector, { address: addressOf(app, block) })].join(' · '),
+    return [`${blockWords(block)} · ${finding === '' ? kind : damaged ? texts.discIsDamaged : finding}`,
+        [...damaged ? [codes] : [], told(texts.discAddressOfSector, { address: addressOf(app, block) })].join(' · '),
         ...file === '' ? [] : [file]];
 }

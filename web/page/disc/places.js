@@ -48,13 +48,14 @@ export function placesOf({ marks, known }) {
 export function placeWords({ counts }) {
     const damage = counts[MARK.EDC] + counts[MARK.PARITY];
     const words = [];
-    if (counts[MARK.EDC] > 0) words.push(counts[MARK.PARITY] > 0 ? texts.dataAndParityFound : texts.dataFound);
-    else if (counts[MARK.PARITY] > 0) words.push(texts.onlyParityFound);
-    if (counts[MARK.LOST] > 0) words.push(told(texts.lostFound, { count: String(counts[MARK.LOST]) }));
+    if (counts[MARK.EDC] > 0) words.push(counts[MARK.PARITY] > 0 ? texts.discDataAndParityFound : texts.discDataFound);
+    else if (counts[MARK.PARITY] > 0) words.push(texts.discOnlyParityFound);
+    if (counts[MARK.LOST] > 0) words.push(told(texts.discLostFound, { count: String(counts[MARK.LOST]) }));
     const count = String(counts[MARK.ADDRESS]);
-    if (counts[MARK.ADDRESS] > 0) words.push(damage + counts[MARK.LOST] > 0 ? told(texts.addressesFound, { count }) : texts.addressFound);
+    if (counts[MARK.ADDRESS] > 0) words.push(damage + counts[MARK.LOST] > 0 ? told(texts.discAddressesFound, { count })
+        : texts.discAddressFound);
     const mark = [MARK.EDC, MARK.PARITY, MARK.LOST, MARK.ADDRESS].find(it => counts[it] > 0) || MARK.ADDRESS;
-    return { mark, words: words.join(texts.foundJoint) };
+    return { mark, words: words.join(texts.discFoundJoint) };
 }
 
 /**
@@ -86,13 +87,13 @@ export function placeGuess(place, isElsewhere, known) {
     const count = sectors.length;
     const inRow = count === last - first + 1;
     const row = { count: String(count) };
-    if (isElsewhere) return texts.anotherBase;
-    if (counts[MARK.ADDRESS] === count) return inRow && count > 1 ? told(texts.rowSpliced, row) : texts.notDamage;
-    if (count === 1) return counts[MARK.PARITY] === 1 ? texts.singleSectorUserDataFit : texts.singleSector;
-    if (inRow && count >= 8) return told(texts.rowOnPurpose, row);
+    if (isElsewhere) return texts.discAnotherBase;
+    if (counts[MARK.ADDRESS] === count) return inRow && count > 1 ? told(texts.discRowSpliced, row) : texts.discNotDamage;
+    if (count === 1) return counts[MARK.PARITY] === 1 ? texts.discSingleSectorUserDataFit : texts.discSingleSector;
+    if (inRow && count >= 8) return told(texts.discRowOnPurpose, row);
     const allOver = isAllOver(place, known);
-    const what = inRow ? told(texts.sectorsInRow, row) : allOver ? texts.singleSectorsAllOver : texts.singleSectors;
-    return distanceGuess(place, allOver) || (counts[MARK.PARITY] === count ? told(texts.userDataFit, { what }) : what);
+    const what = inRow ? told(texts.discSectorsInRow, row) : allOver ? texts.discSingleSectorsAllOver : texts.discSingleSectors;
+    return distanceGuess(place, allOver) || (counts[MARK.PARITY] === count ? told(texts.discUserDataFit, { what }) : what);
 }
 
 /**
@@ -109,12 +110,12 @@ function distanceGuess({ sectors, first }, allOver) {
     const alike = distances.filter(it => Math.abs(it - median) <= 1).length;
     if (median > 3 && 2 * alike > distances.length) {
         const isTurn = median > 0.75 * turn && median < 1.5 * turn;
-        const what = told(allOver ? texts.everySectorAllOver : texts.everySector, { ordinal: ordinal(median) });
-        return isTurn ? told(texts.looksScratched, { what }) : what;
+        const what = told(allOver ? texts.discEverySectorAllOver : texts.discEverySector, { ordinal: ordinal(median) });
+        return isTurn ? told(texts.discLooksScratched, { what }) : what;
     }
     const turns = (sectors[sectors.length - 1] - first) / turn;
     const perTurn = sectors.length / turns;
-    return perTurn > 0.5 && perTurn < 1.5 && turns > 8 ? texts.scratchInEachTurn : '';
+    return perTurn > 0.5 && perTurn < 1.5 && turns > 8 ? texts.discScratchInEachTurn : '';
 }
 
 /** @param {number} sector */
@@ -125,7 +126,7 @@ function sectorsATurn(sector) {
 
 /** @param {number} number */
 function ordinal(number) {
-    const forms = texts.ordinals.split('|');
+    const forms = texts.discOrdinals.split('|');
     const form = ['one', 'two', 'few', 'other'].indexOf(ordinals.select(number));
     return told(/** @type {'{n}'} */ (forms[Math.min(form, forms.length - 1)]), { n: String(number) });
 }

@@ -37,18 +37,19 @@ export class SectorCard {
         this.view.hex.addEventListener('copy', () => this.sayCopied());
         this.title = element('h2', { id: 'sector-title' });
         this.said = element('div');
-        this.fields = element('div', { class: 'fields', role: 'group', 'aria-label': texts.pressFieldToGo });
+        this.fields = element('div', { class: 'fields', role: 'group', 'aria-label': texts.sectorPressFieldToGo });
         this.keys = element('p', { class: 'small quiet keys-line if-mouse' });
         this.foot = element('p', { class: 'foot', 'aria-live': 'polite' });
-        const copies = element('div', { class: 'row copies' }, copyButton('slim bare tiny', () => this.edit.selectedHex(), texts.copyAsHex),
-            copyButton('slim bare tiny', () => this.edit.selectedText(), texts.copyAsText));
+        const copies = element('div', { class: 'row copies' }, copyButton('slim bare tiny', () => this.edit.selectedHex(),
+            texts.sectorCopyAsHex),
+            copyButton('slim bare tiny', () => this.edit.selectedText(), texts.sectorCopyAsText));
         this.goTo = element('input', { type: 'text', id: 'go-to', class: 'num slim', inputmode: 'numeric', autocomplete: 'off' });
         this.noBlock = element('div');
         this.choice = element('select', { class: 'slim' });
         bindEncodings(app, this.choice, ({ hasCharacters }) => hasCharacters);
         this.body = element('div', {}, this.said, this.fields, this.keys, this.view.part, copies, this.foot);
-        this.empty = element('p', { class: 'pad quiet' }, ...say(texts.howToOpenSector,
-            { tab: element('kbd', {}, texts.tabKey), enter: element('kbd', {}, texts.enterKey) }));
+        this.empty = element('p', { class: 'pad quiet' }, ...say(texts.sectorHowToOpenSector,
+            { tab: element('kbd', {}, texts.sectorTabKey), enter: element('kbd', {}, texts.sectorEnterKey) }));
         this.part = element('section', { class: 'card', 'aria-labelledby': 'sector-title' },
             element('header', {}, this.title, this.tools()), this.noBlock, this.empty, this.body);
         oneStop(this.fields, 'button');
@@ -62,12 +63,12 @@ export class SectorCard {
     /** The row of tools: to another block, and how bytes and offsets are shown. */
     tools() {
         const form = element('form', { submit: (/** @type {Event} */ event) => this.goToBlock(event) },
-            element('label', { class: 'row small' }, texts.goToBlock, this.goTo));
+            element('label', { class: 'row small' }, texts.sectorGoToBlock, this.goTo));
         const offsets = button('slim bare', () => {
             this.view.setOffsets(!this.view.hexadecimal);
-            fill(offsets, this.view.hexadecimal ? texts.offsetsHexadecimal : texts.offsetsDecimal);
-        }, texts.offsetsDecimal);
-        const encoding = element('label', { class: 'row small' }, texts.encodingOfBytes, this.choice);
+            fill(offsets, this.view.hexadecimal ? texts.sectorOffsetsHexadecimal : texts.sectorOffsetsDecimal);
+        }, texts.sectorOffsetsDecimal);
+        const encoding = element('label', { class: 'row small' }, texts.sectorEncodingOfBytes, this.choice);
         return element('div', { class: 'row' }, form, encoding, offsets);
     }
 
@@ -92,7 +93,7 @@ export class SectorCard {
 
     close() {
         this.sayBlock('');
-        fill(this.title, texts.noSectorOpen);
+        fill(this.title, texts.sectorNoSectorOpen);
         this.empty.hidden = false;
         this.body.hidden = true;
     }
@@ -142,7 +143,7 @@ export class SectorCard {
         const found = mode1 ? crossingsOf(app.calls, old) : null;
         this.empty.hidden = true;
         this.body.hidden = false;
-        fill(this.title, ...say(texts.sectorOfBlock, { block: term('block', texts.blockLabel), number: String(block) }));
+        fill(this.title, ...say(texts.sectorOfBlock, { block: term('block', texts.discBlockLabel), number: String(block) }));
         if (document.activeElement !== this.goTo) { // else a block is being typed there
             this.goTo.value = String(block);
             this.sayBlock('');
@@ -163,7 +164,7 @@ export class SectorCard {
 
     /** @param {Field[]} fields */
     drawFields(fields) {
-        const bytes = element('span', { class: 'small quiet' }, texts.bytesColumn);
+        const bytes = element('span', { class: 'small quiet' }, texts.discBytesColumn);
         fill(this.fields, bytes, ...fields.map(({ name, label, from, to }) => element('button', {
             type: 'button', class: `x-${name}`, click: () => {
                 this.view.moveTo(from);
@@ -184,28 +185,28 @@ export class SectorCard {
             isUser && element('span', {}, byteWords(at)), element('span', { class: 'mono' }, typed),
             isUser && this.fileAt(at - USER_OFFSET), ...this.selectionWords()];
         if (shown.bytes[at] !== shown.old[at]) {
-            parts.push(element('span', { class: 'good-ink' }, told(texts.changedByScript, { digits: digitsOf(shown.old[at]) })));
+            parts.push(element('span', { class: 'good-ink' }, told(texts.sectorChangedByScript, { digits: digitsOf(shown.old[at]) })));
         }
         if (shown.other !== null && shown.other[at] !== shown.old[at]) {
-            parts.push(element('b', {}, told(texts.inSecondImage, { digits: digitsOf(shown.other[at]) })));
+            parts.push(element('b', {}, told(texts.sectorInSecondImage, { digits: digitsOf(shown.other[at]) })));
         }
         this.drawKeys(isUser);
-        const hint = isUser ? `${texts.changeIsLine}${this.damageHint()}`
-            : shown.mode1 ? texts.edcFollowsFromData : texts.onlyModeOneChanges;
+        const hint = isUser ? `${texts.sectorChangeIsLine}${this.damageHint()}`
+            : shown.mode1 ? texts.sectorEdcFollowsFromData : texts.sectorOnlyModeOneChanges;
         fill(this.foot, fault !== '' && element('b', { class: 'bad-ink' }, fault), ...parts, element('span', {}, hint));
     }
 
     /** @param {boolean} isUser whether the chosen byte can be typed over */
     drawKeys(isUser) {
-        const keys = this.view.column === 'text' ? texts.keysOfTexts : texts.keysOfDigits;
+        const keys = this.view.column === 'text' ? texts.sectorKeysOfTexts : texts.sectorKeysOfDigits;
         fill(this.keys, ...this.copied !== '' ? [element('b', { class: 'good-ink' }, this.copied)]
-            : keysIn(isUser ? keys : texts.keysOfOthers));
+            : keysIn(isUser ? keys : texts.sectorKeysOfOthers));
     }
 
     /** Says over the bytes that they were copied by a key. */
     sayCopied() {
         const { first, end } = this.view.selection();
-        this.copied = told(texts.bytesCopied, { n: end - first });
+        this.copied = told(texts.sectorBytesCopied, { n: end - first });
         this.drawFoot();
     }
 
@@ -214,14 +215,14 @@ export class SectorCard {
         const { view } = this;
         const { first, end } = view.selection();
         if (view.shown === null || end - first === 1) return [];
-        return [element('span', {}, told(texts.bytesSelected, { n: end - first, place: placeName(view.shown, first) }))];
+        return [element('span', {}, told(texts.sectorBytesSelected, { n: end - first, place: placeName(view.shown, first) }))];
     }
 
     /** What becomes of bytes that are typed in a damaged sector. */
     damageHint() {
         const { shown } = this.view;
         if (shown === null || isSound(this.app.calls.survey(shown.old, 0), 0)) return '';
-        return ` ${texts.changeWillBeRefused}`;
+        return ` ${texts.sectorChangeWillBeRefused}`;
     }
 
     /** @param {number} offset */
@@ -229,9 +230,9 @@ export class SectorCard {
         const { files, place } = this.app;
         if (files === null) return false;
         const [file] = filesAt(files.files, place.block, offset);
-        if (file === undefined) return element('span', {}, texts.inNoFile);
+        if (file === undefined) return element('span', {}, texts.sectorInNoFile);
         const position = (place.block - file.block) * USER_SIZE + offset;
-        return element('span', {}, ...say(texts.fileAt, { name: element('span', { class: 'mono' }, nameOf(file.path)), position }));
+        return element('span', {}, ...say(texts.sectorFileAt, { name: element('span', { class: 'mono' }, nameOf(file.path)), position }));
     }
 
     /** @param {Event} event */
@@ -241,7 +242,7 @@ export class SectorCard {
         const block = Number(this.goTo.value.trim().replace(/,/g, '') || NaN);
         const isIn = image !== null && Number.isInteger(block) && block >= image.base && block < image.base + image.sectors;
         this.sayBlock(isIn || image === null ? ''
-            : told(texts.blocksOfImage, { first: String(image.base), last: String(image.base + image.sectors - 1) }));
+            : told(texts.sectorBlocksOfImage, { first: String(image.base), last: String(image.base + image.sectors - 1) }));
         if (isIn) this.app.goTo(block);
     }
 

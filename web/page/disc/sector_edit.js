@@ -41,7 +41,7 @@ export class SectorEdit {
             event.clipboardData.setData('text/plain', view.column === 'text' ? this.selectedText() : this.selectedHex());
             event.preventDefault();
             const { first, end } = view.selection();
-            announce(told(texts.bytesCopied, { n: end - first }));
+            announce(told(texts.sectorBytesCopied, { n: end - first }));
         });
         view.hex.addEventListener('paste', event => {
             const text = event.clipboardData ? event.clipboardData.getData('text/plain') : '';
@@ -132,7 +132,7 @@ export class SectorEdit {
         if (digit !== '') return this.changed();
         const done = app.takeBackBytes();
         if (done && typing.block === app.place.block) view.moveTo(USER_OFFSET + typing.offset);
-        return announce(done ? texts.bytesTakenBack : texts.notTypedHere);
+        return announce(done ? texts.sectorBytesTakenBack : texts.sectorNotTypedHere);
     }
 
     /** @param {string} digit of a byte */
@@ -160,7 +160,7 @@ export class SectorEdit {
             this.fault = this.faultOf(bytes.length);
             if (this.fault === '' && bytes.length > 0) {
                 const old = shown.bytes.slice(first, first + bytes.length);
-                announce(told(texts.inTheScript, { line: this.typing.type(shown.block, first - USER_OFFSET, bytes, old) }));
+                announce(told(texts.sectorInTheScript, { line: this.typing.type(shown.block, first - USER_OFFSET, bytes, old) }));
                 shown.bytes = shown.bytes.slice();
                 shown.bytes.set(bytes, first);
                 return view.moveTo(Math.min(first + bytes.length, USER_END - 1));
@@ -180,9 +180,9 @@ export class SectorEdit {
         const { view } = this;
         if (view === null || view.shown === null) return '';
         const { first } = view.selection();
-        if (!view.shown.mode1 || first < USER_OFFSET || first >= USER_END) return texts.onlyUserDataTyped;
+        if (!view.shown.mode1 || first < USER_OFFSET || first >= USER_END) return texts.sectorOnlyUserDataTyped;
         const room = USER_END - first;
-        return count > room ? told(texts.tooManyBytes, { n: count, room: String(room) }) : '';
+        return count > room ? told(texts.sectorTooManyBytes, { n: count, room: String(room) }) : '';
     }
 }
 
@@ -192,6 +192,6 @@ export class SectorEdit {
  */
 function pastedBytes(text) {
     const digits = text.replace(/\s+/g, '');
-    if (!/^(?:[0-9a-fA-F]{2})+$/.test(digits)) throw ownFault(texts.noHexDigits);
+    if (!/^(?:[0-9a-fA-F]{2})+$/.test(digits)) throw ownFault(texts.sectorNoHexDigits);
     return bytesOfHex(digits);
 }

@@ -28,13 +28,13 @@ export function sectorFault(app, block, sector, found) {
     const [edc, zeros, parity] = [record[RECORD.EDC] > 0, record[RECORD.ZEROS] > 0, record[RECORD.P] + record[RECORD.Q] > 0];
     if (!edc && !zeros && !parity) return line === '' ? soundSector() : elsewhere(app, block, sector, line);
     const sentences = [
-        edc && say(texts.edcDoesNotFit, { edc: term('edc', texts.edcField) }),
-        zeros && [texts.zerosDoNotFit],
+        edc && say(texts.sectorEdcDoesNotFit, { edc: term('edc', texts.sectorEdcField) }),
+        zeros && [texts.sectorZerosDoNotFit],
         parity && crossingWords(found, edc),
-        record[RECORD.ADDRESS] > 0 && say(texts.headerHasOtherAddress, { address: addressText(addressIn(sector, 0)) }),
+        record[RECORD.ADDRESS] > 0 && say(texts.sectorHeaderHasOtherAddress, { address: addressText(addressIn(sector, 0)) }),
     ].flatMap(it => it ? [...it, ' '] : []);
     return keyed(`damage of ${block}`, element('div', { class: `say ${edc ? 'bad' : 'warn'} thin` },
-        element('b', {}, ...say(edc ? texts.dataAreDamaged : texts.otherBytesDamaged, { line: mono(line) })),
+        element('b', {}, ...say(edc ? texts.sectorDataAreDamaged : texts.sectorOtherBytesDamaged, { line: mono(line) })),
         ...sentences, ...remedies(app, block)));
 }
 
@@ -49,14 +49,16 @@ function mono(text) {
  * @returns {Child[]}
  */
 function crossingWords({ crossings, ...counts }, either) {
-    const codes = told(either ? texts.codesDoNotFitEither : texts.codesDoNotFit, counts);
+    const codes = told(either ? texts.sectorCodesDoNotFitEither : texts.sectorCodesDoNotFit, counts);
     const [count, first, last] = [crossings.length, crossings[0], crossings[crossings.length - 1]];
-    if (count === 0) return say(texts.theyCrossNowhere, { codes });
+    if (count === 0) return say(texts.sectorTheyCrossNowhere, { codes });
     const isUser = first >= USER_OFFSET && last < USER_OFFSET + USER_SIZE;
     const [from, to] = [first, last].map(at => String(isUser ? at - USER_OFFSET : at));
-    const at = count > 1 ? told(texts.bytesFromTo, { first: from, last: to }) : from;
-    const place = isUser ? say(texts.offsetIs, { offset: term('offset', texts.offsetWord), at }) : told(texts.byteOfSector, { at });
-    return count > 1 ? say(texts.theyCross, { codes, count: String(count), place }) : say(texts.theyCrossOnce, { codes, place });
+    const at = count > 1 ? told(texts.sectorBytesFromTo, { first: from, last: to }) : from;
+    const place = isUser ? say(texts.sectorOffsetIs, { offset: term('offset', texts.sectorOffsetWord), at })
+        : told(texts.sectorByteOfSector, { at });
+    return count > 1 ? say(texts.sectorTheyCross, { codes, count: String(count), place }) : say(texts.sectorTheyCrossOnce, { codes,
+        place });
 }
 
 /**
@@ -70,10 +72,10 @@ function remedies(app, block) {
     const said = rebuildWords(app, block);
     const verb = () => ({ verb: mono('rebuild') });
     const rebuild = button('slim', () => addRebuild(app, block),
-        element('span', {}, ...say(said === '' ? texts.addToScript : texts.isInScript, verb())));
+        element('span', {}, ...say(said === '' ? texts.sectorAddToScript : texts.sectorIsInScript, verb())));
     setDisabled(rebuild, said !== '');
     return [noCopy(app, copies), element('div', { class: 'row' }, repairButton(app), rebuild), said !== '' && element('p', {}, said),
-        element('p', { class: 'small quiet' }, ...say(texts.rebuildHidesDamage, verb()))];
+        element('p', { class: 'small quiet' }, ...say(texts.sectorRebuildHidesDamage, verb()))];
 }
 
 /**
@@ -83,9 +85,9 @@ function remedies(app, block) {
  */
 function soundCopy({ second }, copies) {
     const name = second && nameOf(second.name);
-    const doubt = copies === 'doubtful' && texts.copyIsDoubtful;
+    const doubt = copies === 'doubtful' && texts.sectorCopyIsDoubtful;
     return element('p', {}, element('b', { class: copies === 'taken' ? 'good-ink' : 'warn-ink' },
-        ...say(texts.hasSoundCopy, { name }), ' '), doubt);
+        ...say(texts.sectorHasSoundCopy, { name }), ' '), doubt);
 }
 
 /**
@@ -93,7 +95,7 @@ function soundCopy({ second }, copies) {
  * @param {ReturnType<typeof repairOf>} copies
  */
 function noCopy({ second }, copies) {
-    return copies === 'none' && second !== null && element('p', {}, ...say(texts.hasNoSoundCopy, { name: nameOf(second.name) }), ' ');
+    return copies === 'none' && second !== null && element('p', {}, ...say(texts.sectorHasNoSoundCopy, { name: nameOf(second.name) }), ' ');
 }
 
 /**
@@ -102,8 +104,8 @@ function noCopy({ second }, copies) {
  */
 function repairButton(app) {
     const { second, repair } = app;
-    if (second === null || repair !== null) return button('slim main', () => app.choose('repair'), texts.repairFromOther);
-    const words = say(texts.repairFrom, { name: nameOf(second.name) });
+    if (second === null || repair !== null) return button('slim main', () => app.choose('repair'), texts.imageRepairFromOther);
+    const words = say(texts.sectorRepairFrom, { name: nameOf(second.name) });
     return button('slim main', () => app.setSecond(second, 'repair'), element('span', {}, ...words));
 }
 
@@ -115,7 +117,8 @@ function repairButton(app) {
 function rebuildWords({ script }, block) {
     const { rebuilds, writes } = firstLinesOf(script, block);
     if (rebuilds === 0 || (writes > 0 && writes < rebuilds)) return '';
-    return told(writes > 0 ? texts.rebuildsBeforeChange : texts.rebuildsNow, { line: String(rebuilds), patch: rebuildLine(block) });
+    return told(writes > 0 ? texts.sectorRebuildsBeforeChange : texts.sectorRebuildsNow, { line: String(rebuilds),
+        patch: rebuildLine(block) });
 }
 
 /** @param {number} block */
@@ -131,11 +134,11 @@ function rebuildLine(block) {
 function addRebuild(app, block) {
     if (rebuildWords(app, block) !== '') return;
     app.addLines([rebuildLine(block)], '', firstLinesOf(app.script, block).writes);
-    announce(rebuildWords(app, block) || told(texts.inTheScript, { line: rebuildLine(block) }));
+    announce(rebuildWords(app, block) || told(texts.sectorInTheScript, { line: rebuildLine(block) }));
 }
 
 function soundSector() {
-    return element('div', { class: 'say good thin' }, element('b', {}, texts.sectorIsSound), texts.edcAndParityFit);
+    return element('div', { class: 'say good thin' }, element('b', {}, texts.sectorIsSound), texts.sectorEdcAndParityFit);
 }
 
 /**
@@ -146,9 +149,9 @@ function soundSector() {
  */
 function elsewhere(app, block, sector, line) {
     const [has, wants] = [addressText(addressIn(sector, 0)), addressOf(app, block)];
-    return element('div', { class: 'say warn thin' }, element('b', {}, ...say(texts.soundElsewhere, { line: mono(line) })),
-        ...say(texts.headerSays, { has, block: String(block), wants }), ' ',
-        ...say(texts.elsewhereIsNoDamage, { base: term('base', texts.baseTerm) }));
+    return element('div', { class: 'say warn thin' }, element('b', {}, ...say(texts.sectorSoundElsewhere, { line: mono(line) })),
+        ...say(texts.sectorHeaderSays, { has, block: String(block), wants }), ' ',
+        ...say(texts.sectorElsewhereIsNoDamage, { base: term('base', texts.sectorBaseTerm) }));
 }
 
 /**
@@ -161,12 +164,12 @@ function otherKind(app, block, sector) {
     const lost = survey !== null && survey.marks.marks[block - survey.block] === MARK.LOST;
     const noSync = app.calls.kind(sector.subarray(0, SECTOR_SIZE)) === SECTOR_KIND.NOSYNC;
     if (!lost) {
-        return element('div', { class: 'say thin' }, element('b', {}, noSync ? texts.hasNoSync : texts.isNotModeOne),
-            noSync && `${texts.isAudioOrUnknown} `, texts.onlyLookedAt);
+        return element('div', { class: 'say thin' }, element('b', {}, noSync ? texts.sectorHasNoSync : texts.sectorIsNotModeOne),
+            noSync && `${texts.sectorIsAudioOrUnknown} `, texts.sectorOnlyLookedAt);
     }
     const copies = repairOf(app, block);
-    return element('div', { class: 'say bad thin' }, element('b', {}, noSync ? texts.hasLostSync : texts.hasLostMode),
-        texts.noPatchRepairsThat,
+    return element('div', { class: 'say bad thin' }, element('b', {}, noSync ? texts.sectorHasLostSync : texts.sectorHasLostMode),
+        texts.sectorNoPatchRepairsThat,
         ...copies === 'taken' || copies === 'doubtful' ? [soundCopy(app, copies)]
             : [noCopy(app, copies), element('div', { class: 'row' }, repairButton(app))]);
 }

@@ -11,20 +11,20 @@ const Q_PARITY = SECTOR_SIZE - 2 * DIAGONALS;
 
 /** @type {Field[]} */
 const MODE1_FIELDS = [
-    { name: 'sync', label: texts.syncField, from: AT.sync, to: AT.header },
-    { name: 'header', label: texts.headerField, from: AT.header, to: AT.user },
-    { name: 'user', label: texts.userDataField, from: AT.user, to: AT.edc },
-    { name: 'edc', label: texts.edcField, from: AT.edc, to: AT.zeros },
-    { name: 'zeros', label: texts.zerosField, from: AT.zeros, to: AT.parity },
-    { name: 'p', label: texts.parityPField, from: AT.parity, to: Q_PARITY },
-    { name: 'q', label: texts.parityQField, from: Q_PARITY, to: SECTOR_SIZE },
+    { name: 'sync', label: texts.sectorSyncField, from: AT.sync, to: AT.header },
+    { name: 'header', label: texts.sectorHeaderField, from: AT.header, to: AT.user },
+    { name: 'user', label: texts.sectorUserDataField, from: AT.user, to: AT.edc },
+    { name: 'edc', label: texts.sectorEdcField, from: AT.edc, to: AT.zeros },
+    { name: 'zeros', label: texts.sectorZerosField, from: AT.zeros, to: AT.parity },
+    { name: 'p', label: texts.sectorParityPField, from: AT.parity, to: Q_PARITY },
+    { name: 'q', label: texts.sectorParityQField, from: Q_PARITY, to: SECTOR_SIZE },
 ];
 
 /** @type {Field[]} */
-const DATA_FIELDS = [...MODE1_FIELDS.slice(0, 2), { name: 'user', label: texts.allElseField, from: AT.user, to: SECTOR_SIZE }];
+const DATA_FIELDS = [...MODE1_FIELDS.slice(0, 2), { name: 'user', label: texts.sectorAllElseField, from: AT.user, to: SECTOR_SIZE }];
 
 /** @type {Field[]} */
-const PLAIN_FIELDS = [{ name: 'user', label: texts.bytesLabel, from: 0, to: SECTOR_SIZE }];
+const PLAIN_FIELDS = [{ name: 'user', label: texts.discBytesLabel, from: 0, to: SECTOR_SIZE }];
 
 /**
  * The fields of a sector of a kind.

@@ -27,12 +27,12 @@ export function findingAt(calls, { block, records }, sector) {
  * @param {number} sector
  */
 export function sectorWords(app, survey, sector) {
-    if (sector >= survey.known) return { kind: texts.sectorNotRead, finding: '', codes: '', bad: false, damaged: false };
+    if (sector >= survey.known) return { kind: texts.discSectorNotRead, finding: '', codes: '', bad: false, damaged: false };
     const { name, words: kind = name } = lookOfKind(survey.records[sector * RECORD_SIZE + RECORD.KIND]);
     const mark = survey.marks.marks[sector];
-    const codes = mark === MARK.LOST ? texts.lostInModeOne : findingAt(app.calls, survey, sector);
+    const codes = mark === MARK.LOST ? texts.discLostInModeOne : findingAt(app.calls, survey, sector);
     const damaged = mark === MARK.EDC || mark === MARK.PARITY;
-    const finding = damaged ? told(texts.isDamagedBy, { codes }) : codes;
+    const finding = damaged ? told(texts.discIsDamagedBy, { codes }) : codes;
     return { kind, finding, codes, bad: codes !== '', damaged: damaged || mark === MARK.LOST };
 }
 
@@ -51,5 +51,5 @@ export function addressOf({ calls }, block) {
  * @param {number} count
  */
 export function modeOneSectors(count) {
-    return told(texts.modeOneSectors, { n: count });
+    return told(texts.discModeOneSectors, { n: count });
 }

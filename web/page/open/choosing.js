@@ -10,9 +10,9 @@ import { announce, byId, element, fill, nameOf, setAttribute } from '../ui/index
 
 /** What is to be chosen for each job, as the start says it. */
 const WANTED = {
-    play: texts.chooseWithPatch,
-    translate: texts.chooseImage,
-    repair: texts.chooseBothDumps,
+    play: texts.openChooseWithPatch,
+    translate: texts.openChooseImage,
+    repair: texts.openChooseBothDumps,
 };
 
 /** No browser says of each drag that it has ended: one of which nothing was heard for so many milliseconds has. */
@@ -44,7 +44,7 @@ class Chooser {
         const words = aim in WANTED ? WANTED[/** @type {keyof typeof WANTED} */ (aim)] : '';
         const wanted = byId('wanted');
         wanted.classList.toggle('if-mouse', words === '');
-        fill(wanted, words || texts.dropHere);
+        fill(wanted, words || texts.openDropHere);
         if (words !== '' && this.app.image === null) announce(words);
     }
 
@@ -89,10 +89,10 @@ export function mountChoosing(app) {
  * @returns {Child[]}
  */
 function dropSays({ image, saves, script }) {
-    if (saves > 0) return [texts.savedFirst];
-    if (image === null) return [texts.dropToOpen];
-    return [element('span', {}, ...say(texts.dropImage, { name: nameOf(image.name) })),
-        element('span', {}, script.isNew() ? texts.dropScript : texts.dropScriptInPlace)];
+    if (saves > 0) return [texts.openSavedFirst];
+    if (image === null) return [texts.openDropToOpen];
+    return [element('span', {}, ...say(texts.openDropImage, { name: nameOf(image.name) })),
+        element('span', {}, script.isNew() ? texts.openDropScript : texts.openDropScriptInPlace)];
 }
 
 /**

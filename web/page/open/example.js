@@ -2,7 +2,7 @@
 
 import { CP932, encodeText } from '../../core/encodings/index.js';
 import { SECTOR_SIZE, USER_SIZE } from '../../core/module/index.js';
-import { exampleName } from '../texts/index.js';
+import { openExampleName } from '../texts/index.js';
 
 /** @typedef {import('../../core/module/calls.js').Calls} Calls */
 
@@ -102,7 +102,7 @@ export function exampleFile(calls) {
     }
     for (let at = FIRST_AUDIO * SECTOR_SIZE; at < image.length; at++) image[at] = Math.round(40 * Math.sin(at / 37)) & 255;
     for (let block = 97; block < 240; block += 9) scratch(image, block);
-    return new File([image], exampleName);
+    return new File([image], openExampleName);
 }
 
 /**

@@ -21,7 +21,7 @@ const PASSED_OVER = 1 << 20;
  * @param {string} name
  */
 function fileGone(name) {
-    return ownFault(told(texts.fileIsGone, { name: shownName(name) }));
+    return ownFault(told(texts.openFileIsGone, { name: shownName(name) }));
 }
 
 /**

@@ -36,8 +36,8 @@ export function mountOpening(app) {
     app.serve({ open: (files, aim) => openFiles(app, files, aim, waiting) });
     mountChoosing(app);
     const example = element('button', { type: 'button', class: 'plain-link', id: 'open-example',
-        click: () => app.open([exampleFile(app.calls)]) }, texts.tryExample);
-    fill(byId('example'), ...say(texts.orTryExample, { example, text: element('span', { lang: 'ja' }, 'スタート') }));
+        click: () => app.open([exampleFile(app.calls)]) }, texts.frameTryExample);
+    fill(byId('example'), ...say(texts.frameOrTryExample, { example, text: element('span', { lang: 'ja' }, 'スタート') }));
 }
 
 /**
@@ -90,8 +90,8 @@ async function useWaiting(app, waiting) {
  */
 function sayWaiting(app, waiting) {
     const [names, n] = [waiting.map(({ name }) => name), waiting.length];
-    showNotice('plain', say(texts.waitForImage, { names: namesOf(names), n }), told(texts.thenTheyAreUsed, { n }),
-        element('div', { class: 'row' }, button('slim', () => app.choose(''), texts.openTheImage)));
+    showNotice('plain', say(texts.openWaitForImage, { names: namesOf(names), n }), told(texts.openThenTheyAreUsed, { n }),
+        element('div', { class: 'row' }, button('slim', () => app.choose(''), texts.scriptOpenTheImage)));
 }
 
 /**
@@ -144,17 +144,17 @@ async function takenAs(app, file, waiting) {
     app.setScript(whole, file.name, !marked, known);
     app.showPanel('script');
     if (marked) {
-        showNotice('warn', say(texts.fileIsEncoded, { encoding: marked.name, name: nameOf(file.name) }),
-            texts.wasReadHere, element('div', { class: 'row' }, button('slim', () => {
+        showNotice('warn', say(texts.openFileIsEncoded, { encoding: marked.name, name: nameOf(file.name) }),
+            texts.openWasReadHere, element('div', { class: 'row' }, button('slim', () => {
                 endMessages();
                 app.services.saveScript();
-            }, texts.saveAsUtf8)));
+            }, texts.openSaveAsUtf8)));
     }
     return 'script';
 }
 
 /** How editors mark the encoding of a text. */
-const MARKS = [{ name: texts.utf8WithMark, bytes: [0xEF, 0xBB, 0xBF] }, { name: 'UTF-16', bytes: [0xFF, 0xFE] },
+const MARKS = [{ name: texts.openUtf8WithMark, bytes: [0xEF, 0xBB, 0xBF] }, { name: 'UTF-16', bytes: [0xFF, 0xFE] },
     { name: 'UTF-16', bytes: [0xFE, 0xFF] }];
 
 /** That no image was opened of a cue sheet, and none as a second one. */
@@ -169,11 +169,11 @@ async function openImages(app, files) {
     const names = files.map(file => file.name);
     if (refuseWhileSaving(app, names)) return NOTHING;
     const different = new Set(names.map(name => name.toLowerCase())).size;
-    if (different < names.length) throw new Fault('disc/own', { sentence: texts.sameName });
+    if (different < names.length) throw new Fault('disc/own', { sentence: texts.openSameName });
     const two = files.length === 2 && (await Promise.all(files.map(file => isRawImage(app, file)))).every(it => it);
     if (two && app.image !== null) {
         const [one, other] = names;
-        throw new Fault('disc/own', { sentence: told(texts.isOpenAlready, { name: app.image.name, one, other }) });
+        throw new Fault('disc/own', { sentence: told(texts.openIsOpenAlready, { name: app.image.name, one, other }) });
     }
     const images = [];
     for (const group of two ? [[files[0]], [files[1]]] : [files]) images.push(await openedImage(app, group));
@@ -193,7 +193,7 @@ function sayLeftOut(files, image) {
     const names = files.map(file => file.name).filter(name => !taken.includes(name));
     if (names.length === 0) return;
     showNotice('warn', say(texts.notOpened, { names: namesOf(names) }),
-        ...say(texts.sheetLacks, { n: names.length, sheet: nameOf(image.from) }));
+        ...say(texts.openSheetLacks, { n: names.length, sheet: nameOf(image.from) }));
 }
 
 /**
@@ -227,7 +227,7 @@ export function imageOfTrack(disc, sheet, number, renamed = new Map()) {
     const opened = audio === null ? openTrack(disc, { track: number }) : new OpenedTrack(disc, audio);
     const { image, part, track } = opened;
     if (imageTooLong(image.reader.size)) {
-        throw new Fault('disc/own', { sentence: told(texts.tooManySectors, { most: MOST_SECTORS, name: image.name }) });
+        throw new Fault('disc/own', { sentence: told(texts.openTooManySectors, { most: MOST_SECTORS, name: image.name }) });
     }
     return { ...image, opened, part, from: disc.sheet || '', sheet, disc, number: track.number, sha1: '', crc32: '', renamed };
 }
@@ -254,12 +254,12 @@ async function showOpeningFailure(app, files, error) {
     const kinds = files.map(file => kindOfFile(app.calls, fileReader(file)).catch(() => 'unknown'));
     const packed = files[failedBy(error, 'disc') ? (await Promise.all(kinds)).indexOf('chd') : -1];
     if (packed) {
-        return showNotice('bad', say(texts.compressedImage, { name: nameOf(packed.name) }), texts.makeRawImage,
+        return showNotice('bad', say(texts.openCompressedImage, { name: nameOf(packed.name) }), texts.openMakeRawImage,
             ...commandFor(packed.name));
     }
     if (failedBy(error, 'disc/missing-files')) return showFailure(error);
     const names = [...files.map(file => file.name), app.image ? app.image.name : ''];
-    return showNotice('bad', texts.notOpenedYet, ...messageParts(error, names));
+    return showNotice('bad', texts.openNotOpenedYet, ...messageParts(error, names));
 }
 
 /**
@@ -268,6 +268,6 @@ async function showOpeningFailure(app, files, error) {
  */
 function commandFor(name) {
     const plain = /^[\p{L}\p{N}_(][\p{L}\p{N} ._()[\]-]*$/u.test(name);
-    return [!plain && element('p', {}, texts.renameToDisc),
+    return [!plain && element('p', {}, texts.openRenameToDisc),
         ...copyable(`chdman extractcd -i "${plain ? name : 'disc.chd'}" -o disc.cue -ob disc.bin`)];
 }

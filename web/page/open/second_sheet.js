@@ -51,16 +51,16 @@ export function swapImages(app, second) {
  */
 function askFor({ survey }, image, second, words) {
     /** @type {[PairJob | 'swap' | 'instead', Child[]][]} */
-    const jobs = [['repair', say(texts.repairItFrom, { name: nameOf(image.name) })],
-        ['swap', say(texts.repairOtherFrom, { name: nameOf(second.name), other: nameOf(image.name) })],
-        ['compare', [texts.compareIt]], ['instead', [texts.openItInstead]]];
+    const jobs = [['repair', say(texts.openRepairItFrom, { name: nameOf(image.name) })],
+        ['swap', say(texts.openRepairOtherFrom, { name: nameOf(second.name), other: nameOf(image.name) })],
+        ['compare', [texts.openCompareIt]], ['instead', [texts.openItInstead]]];
     const isDamaged = survey !== null && survey.marks.damaged() > 0;
     const { from, to } = commonPart(image, second);
     const canRepair = from < to && !isSameImage(image, second);
     const isPossible = { repair: canRepair, swap: canRepair, compare: isSameRange(image, second), instead: true };
     const possible = jobs.filter(([job]) => isPossible[job]);
     const main = isPossible.repair && isDamaged ? 'repair' : isPossible.compare ? 'compare' : 'instead';
-    return asked(say(texts.whatToDoWith, { name: nameOf(second.name) }), words, possible, main);
+    return asked(say(texts.openWhatToDoWith, { name: nameOf(second.name) }), words, possible, main);
 }
 
 /**
@@ -80,12 +80,12 @@ function isSameImage(image, second) {
  * @returns {Child[]}
  */
 function whyNoPair(image, second) {
-    if (isSameImage(image, second)) return [texts.isImageItself];
+    if (isSameImage(image, second)) return [texts.openIsImageItself];
     if (isSameRange(image, second)) return [];
     const { from, to, later } = commonPart(image, second);
     const [name, more] = [nameOf(image.name), second.sectors - image.sectors];
-    if (from === to) return say(texts.isAnotherPart, { name });
-    const length = more === 0 ? texts.hasAnotherTail : more > 0 ? texts.hasMoreSectors : texts.hasFewerSectors;
-    const shift = later > 0 ? texts.later : texts.earlier;
-    return [...say(later === 0 ? length : shift, { name, n: Math.abs(later || more) }), ` ${texts.repairUsesCommon}`];
+    if (from === to) return say(texts.openIsAnotherPart, { name });
+    const length = more === 0 ? texts.openHasAnotherTail : more > 0 ? texts.openHasMoreSectors : texts.openHasFewerSectors;
+    const shift = later > 0 ? texts.openLater : texts.openEarlier;
+    return [...say(later === 0 ? length : shift, { name, n: Math.abs(later || more) }), ` ${texts.openRepairUsesCommon}`];
 }

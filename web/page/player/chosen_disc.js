@@ -68,7 +68,7 @@ export class ChosenDisc {
         const names = files.map(file => file.name);
         const kinds = await this.kinds(files);
         const iso = names[kinds.indexOf('iso')];
-        return iso === undefined ? notice('bad', texts.notOpenedYet, ...messageParts(error, names))
-            : notice('bad', say(texts.isoOfPartSectors, { name: nameOf(iso) }), texts.needsFullDump);
+        return iso === undefined ? notice('bad', texts.openNotOpenedYet, ...messageParts(error, names))
+            : notice('bad', say(texts.playerIsoOfPartSectors, { name: nameOf(iso) }), texts.playerNeedsFullDump);
     }
 }

@@ -31,14 +31,14 @@ export async function mountPatchers(app) {
     try {
         showPlayer(app, await readPatcherText(app.calls, text), { note: null, back: null });
     } catch (error) {
-        showNotice('bad', texts.patcherUnusable, told(texts.getPatcherAgain, { fault: sentence(error) }));
+        showNotice('bad', texts.playerPatcherUnusable, told(texts.playerGetPatcherAgain, { fault: sentence(error) }));
     }
 }
 
 /** Waits until the browser has all of this page: the data of a patcher stand after the script, and come later. */
 async function wholeDocument() {
     if (document.readyState !== 'loading') return;
-    showNotice('plain', texts.pageStillLoading, texts.opensIfPatcher);
+    showNotice('plain', texts.playerPageStillLoading, texts.playerOpensIfPatcher);
     await new Promise(done => document.addEventListener('DOMContentLoaded', done, { once: true }));
     clearNotices();
 }
@@ -53,7 +53,7 @@ async function takePatcher(app, file) {
     if (refuseWhileSaving(app, [file.name])) return true;
     const compared = file.size > LARGEST_PATCHER ? null : comparedWithPage(new Uint8Array(await file.arrayBuffer()), pageSource(app.calls));
     const release = compared === null || compared.same ? '' : await releaseOf(compared.program);
-    if (compared === null) showNotice('bad', say(texts.notThisCdpatch, { name: nameOf(file.name) }), texts.pageButNoPatcher);
+    if (compared === null) showNotice('bad', say(texts.playerNotThisCdpatch, { name: nameOf(file.name) }), texts.playerPageButNoPatcher);
     else if (compared.text.trim() === '') sayWithoutPatch(compared, release, nameOf(file.name));
     else await showCompared(app, compared, release, file);
     return true;
@@ -77,12 +77,14 @@ async function isPage(app, file) {
  */
 function sayWithoutPatch({ same, text }, release, name) {
     const whole = text === '\n';
-    if (same && whole) return showNotice('good', say(texts.thisVeryPage, { name }), texts.holdsNoPatch);
-    if (same) return showNotice('warn', say(texts.thisPageAndSpace, { name }), texts.holdsNoPatch);
+    if (same && whole) return showNotice('good', say(texts.playerThisVeryPage, { name }), texts.playerHoldsNoPatch);
+    if (same) return showNotice('warn', say(texts.playerThisPageAndSpace, { name }), texts.playerHoldsNoPatch);
     if (release && whole) {
-        return showNotice('good', say(texts.releaseOfCdpatch, { release, name }), `${texts.earlierRelease} ${texts.holdsNoPatch}`);
+        return showNotice('good', say(texts.playerReleaseOfCdpatch, { release, name }),
+            `${texts.playerEarlierRelease} ${texts.playerHoldsNoPatch}`);
     }
-    return showNotice('warn', say(texts.notThisCdpatch, { name }), `${texts.otherVersionOrChanged} ${texts.holdsNoPatch}`);
+    return showNotice('warn', say(texts.playerNotThisCdpatch, { name }),
+        `${texts.playerOtherVersionOrChanged} ${texts.playerHoldsNoPatch}`);
 }
 
 /**
@@ -95,12 +97,14 @@ async function showCompared(app, { same, text }, release, file) {
     const name = nameOf(file.name);
     try {
         const data = await readPatcherText(app.calls, text);
-        const note = same ? notice('good', say(texts.thisCdpatch, { name }), `${texts.onlyPatchRead} ${texts.comparisonSaysNothing}`)
-            : release !== '' ? notice('good', say(texts.releaseOfCdpatch, { release, name }),
-                `${texts.earlierRelease} ${texts.onlyPatchReadHere} ${texts.comparisonSaysNothing}`)
-            : notice('warn', say(texts.notThisCdpatch, { name }), `${texts.otherVersionOrChanged} ${texts.onlyPatchReadHere}`);
+        const note = same ? notice('good', say(texts.playerThisCdpatch, { name }),
+            `${texts.playerOnlyPatchRead} ${texts.playerComparisonSaysNothing}`)
+            : release !== '' ? notice('good', say(texts.playerReleaseOfCdpatch, { release, name }),
+                `${texts.playerEarlierRelease} ${texts.playerOnlyPatchReadHere} ${texts.playerComparisonSaysNothing}`)
+            : notice('warn', say(texts.playerNotThisCdpatch, { name }),
+                `${texts.playerOtherVersionOrChanged} ${texts.playerOnlyPatchReadHere}`);
         showPlayer(app, data, { note: element('div', { id: 'compared' }, note), back: null });
     } catch (error) {
-        showNotice('bad', say(texts.patcherFileUnusable, { name }), `${sentence(error)}.`);
+        showNotice('bad', say(texts.playerPatcherFileUnusable, { name }), `${sentence(error)}.`);
     }
 }

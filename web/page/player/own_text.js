@@ -32,7 +32,7 @@ function ownParts(calls) {
     const styles = [...document.querySelectorAll('style')].map(it => it.textContent || '');
     const policies = [...document.querySelectorAll('meta[http-equiv]')].map(it => it.getAttribute('content') || '');
     const [style, policy] = [styles.findIndex(it => isOwnStyle(calls, it)), policies.findIndex(isOwnPolicy)];
-    if (style < 0 || policy < 0) throw ownFault(texts.pageWasChanged);
+    if (style < 0 || policy < 0) throw ownFault(texts.playerPageWasChanged);
     return { style: styles[style], policy: policies[policy], first: style === 0 && policy === 0 };
 }
 
@@ -51,6 +51,6 @@ export function pageSource(calls) {
  * @param {Calls} calls
  */
 export function publishedSource(calls) {
-    if (!ownParts(calls).first) throw ownFault(texts.pageWasChanged);
+    if (!ownParts(calls).first) throw ownFault(texts.playerPageWasChanged);
     return pageSource(calls);
 }

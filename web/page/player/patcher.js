@@ -45,7 +45,7 @@ async function streamBytes(stream, most) {
         bytes.push(next.value);
         if (bytes.size > most) {
             await reader.cancel();
-            throw patcherFault(texts.dataTooLong);
+            throw patcherFault(texts.playerDataTooLong);
         }
     }
     return bytes.bytes();
@@ -91,7 +91,7 @@ export function checksum(calls, bytes) {
  * @param {PatcherData} data
  */
 export async function patcherText(calls, { script, ...head }) {
-    const fault = headFault(head) || (isImageName(head.name) ? '' : texts.nameOfNoImage);
+    const fault = headFault(head) || (isImageName(head.name) ? '' : texts.playerNameOfNoImage);
     if (fault) throw patcherFault(fault);
     const stream = new Blob([`${JSON.stringify(head)}\n`, script]).stream().pipeThrough(new CompressionStream('deflate'));
     const packed = await streamBytes(stream, MOST_SCRIPT_BYTES + LARGEST_HEAD);
@@ -106,17 +106,17 @@ export async function patcherText(calls, { script, ...head }) {
  */
 export async function readPatcherText(calls, text) {
     const found = FORM.exec(text);
-    if (!found) throw patcherFault(texts.dataOfWrongForm);
-    if (found[3].length % 4 !== 0) throw patcherFault(texts.dataCut);
+    if (!found) throw patcherFault(texts.playerDataOfWrongForm);
+    if (found[3].length % 4 !== 0) throw patcherFault(texts.playerDataCut);
     const packed = bytesOfBase64(found[3]);
-    if (packed.length !== Number(found[1])) throw patcherFault(texts.dataCut);
-    if (checksum(calls, packed) !== found[2]) throw patcherFault(texts.dataChanged);
+    if (packed.length !== Number(found[1])) throw patcherFault(texts.playerDataCut);
+    if (checksum(calls, packed) !== found[2]) throw patcherFault(texts.playerDataChanged);
     const inflating = inSmallPieces(packed).pipeThrough(new DecompressionStream('deflate'));
     const bytes = await streamBytes(inflating, MOST_SCRIPT_BYTES + LARGEST_HEAD).catch(error => {
-        throw failedBy(error, 'patcher') ? error : patcherFault(texts.dataNotUnpacked);
+        throw failedBy(error, 'patcher') ? error : patcherFault(texts.playerDataNotUnpacked);
     });
     const end = bytes.indexOf(10);
-    if (end < 0 || end > LARGEST_HEAD) throw patcherFault(texts.dataWithoutHead);
+    if (end < 0 || end > LARGEST_HEAD) throw patcherFault(texts.playerDataWithoutHead);
     const head = jsonOf(bytes.subarray(0, end));
     const fault = headFault(head);
     if (fault) throw patcherFault(fault);
@@ -128,7 +128,7 @@ function jsonOf(bytes) {
     try {
         return JSON.parse(new TextDecoder('utf-8', { fatal: true }).decode(bytes));
     } catch {
-        throw patcherFault(texts.headNotJson);
+        throw patcherFault(texts.playerHeadNotJson);
     }
 }
 

@@ -73,9 +73,9 @@ function hasMembers(value, names) {
  * @param {any} head
  */
 export function headFault(head) {
-    if (!hasMembers(head, Object.keys(HEAD_FORM))) return texts.headWithOtherMembers;
+    if (!hasMembers(head, Object.keys(HEAD_FORM))) return texts.playerHeadWithOtherMembers;
     const wrong = Object.keys(HEAD_FORM).find(name => !HEAD_FORM[name](head[name]));
-    return wrong ? told(texts.headWithWrongMember, { member: wrong }) : '';
+    return wrong ? told(texts.playerHeadWithWrongMember, { member: wrong }) : '';
 }
 
 /**

@@ -24,8 +24,9 @@ export function sheetFor(name, sheet, image, { cue, name: own }) {
  * @returns {Child[]}
  */
 export function playWords(name, sheet) {
-    return [element('p', {}, ...say(texts.saveSheetBeside, { name: element('b', {}, nameOf(name)) })), copyWords(otherFiles(sheet, name)),
-        ...sheetSaver(name, sheet, texts.saveTheCueSheet)];
+    return [element('p', {}, ...say(texts.playerSaveSheetBeside, { name: element('b', {}, nameOf(name)) })), copyWords(otherFiles(sheet,
+        name)),
+        ...sheetSaver(name, sheet, texts.playerSaveTheCueSheet)];
 }
 
 /**
@@ -37,10 +38,10 @@ export function playWords(name, sheet) {
  */
 export function wordsWithoutSheet(name, sheet, take) {
     const image = { name: element('b', {}, nameOf(name)) };
-    const own = [element('p', {}, texts.oldSheetStartsOld), ...sheetChooser(take)];
-    if (sheet === '') return [element('p', {}, ...say(texts.openInEmulator, image)), ...own];
-    return [element('p', {}, ...say(texts.saveOneSheetBeside, image)), ...sheetSaver(name, sheet, texts.saveCueSheet),
-        element('p', { class: 'small quiet' }, texts.sheetOfOneTrack), ...own];
+    const own = [element('p', {}, texts.playerOldSheetStartsOld), ...sheetChooser(take)];
+    if (sheet === '') return [element('p', {}, ...say(texts.playerOpenInEmulator, image)), ...own];
+    return [element('p', {}, ...say(texts.playerSaveOneSheetBeside, image)), ...sheetSaver(name, sheet, texts.saveCueSheet),
+        element('p', { class: 'small quiet' }, texts.playerSheetOfOneTrack), ...own];
 }
 
 /**
@@ -51,13 +52,13 @@ export function wordsWithoutSheet(name, sheet, take) {
 function sheetChooser(take) {
     const said = element('div', { role: 'status' });
     /** @type {HTMLInputElement} */
-    const input = element('input', { type: 'file', id: 'player-sheet', class: 'hide', tabindex: -1, 'aria-label': texts.yourCueSheet,
+    const input = element('input', { type: 'file', id: 'player-sheet', class: 'hide', tabindex: -1, 'aria-label': texts.playerYourCueSheet,
         change: async () => {
             const [file] = [...input.files || []];
             input.value = '';
-            if (file && !await take(file)) fill(said, notice('bad', say(texts.isNoSheetOfImage, { name: nameOf(file.name) })));
+            if (file && !await take(file)) fill(said, notice('bad', say(texts.playerIsNoSheetOfImage, { name: nameOf(file.name) })));
         } });
-    return [button('slim', () => input.click(), texts.chooseYourSheet), input, said];
+    return [button('slim', () => input.click(), texts.playerChooseYourSheet), input, said];
 }
 
 /**
@@ -73,6 +74,6 @@ function sheetSaver(name, sheet, label) {
     return [button('main big', () => {
         downloadText(sheet, sheetName);
         fill(saved, element('p', { class: 'verdict good-ink' }, icon('tick'),
-            element('span', {}, ...say(texts.sheetSaved, { name: nameOf(sheetName) }))));
+            element('span', {}, ...say(texts.playerSheetSaved, { name: nameOf(sheetName) }))));
     }, label), saved];
 }

@@ -51,11 +51,11 @@ export class Player {
         askBeforeLeaving(() => this.leaving);
         /** @type {HTMLInputElement} */
         this.input = element('input', { type: 'file', id: 'player-files', class: 'hide', multiple: true, tabindex: -1,
-            'aria-label': texts.yourDiscImage,
-            change: () => this.open([...this.input.files || []]) });
+            'aria-label': texts.playerYourDiscImage, change: () => this.open([...this.input.files || []]) });
         this.steps = element('ol', { class: 'steps' });
         fill(place, how.note, authorsWords(data), this.steps, element('p', { class: 'safe left' }, icon('lock'),
-            element('span', {}, element('b', {}, texts.nothingLeavesYourComputer), ' ', texts.newFileIsSaved)), moreOf(data), this.input);
+            element('span', {}, element('b', {}, texts.frameNothingLeavesYourComputer), ' ', texts.playerNewFileIsSaved)),
+        moreOf(data), this.input);
         this.start();
     }
 
@@ -79,16 +79,16 @@ export class Player {
      * @param {HTMLElement} [second]
      * @param {HTMLElement} [third]
      */
-    show(first, second = this.step('2', 'later', texts.patchIt), third = this.step('3', 'later', texts.stepPlay)) {
+    show(first, second = this.step('2', 'later', texts.playerPatchIt), third = this.step('3', 'later', texts.playerStepPlay)) {
         fill(this.steps, first, second, third);
     }
 
     /** @param {Child} [fault] */
     start(fault = null) {
-        const choose = button('main big', () => this.input.click(), texts.chooseTheImage);
-        this.show(this.step('1', 'now', texts.yourDisc, fault, element('div', { class: 'drop' }, icon('disc'),
-            element('p', { class: 'what if-mouse' }, texts.dropDiscImage), choose,
-            element('p', { class: 'small quiet' }, texts.binOrCueAndBins))));
+        const choose = button('main big', () => this.input.click(), texts.playerChooseTheImage);
+        this.show(this.step('1', 'now', texts.playerYourDisc, fault, element('div', { class: 'drop' }, icon('disc'),
+            element('p', { class: 'what if-mouse' }, texts.playerDropDiscImage), choose,
+            element('p', { class: 'small quiet' }, texts.playerBinOrCueAndBins))));
     }
 
     /** @param {File[]} files */
@@ -113,8 +113,9 @@ export class Player {
     /** @param {DiscImage} image */
     async judge(image) {
         await this.app.run(async (signal, cancel) => {
-            const bar = jobBar(texts.checkingYourImage, cancel);
-            this.show(this.step('1', 'now', texts.checkingYourImage, element('p', { class: 'mono' }, nameOf(image.name)), ...bar.parts));
+            const bar = jobBar(texts.playerCheckingYourImage, cancel);
+            this.show(this.step('1', 'now', texts.playerCheckingYourImage, element('p', { class: 'mono' }, nameOf(image.name)),
+                ...bar.parts));
             this.stop = cancel;
             const judged = await judgeImage(this.app, this.data, image, { signal, progress: bar.at });
             if (signal.aborted) return;
@@ -135,18 +136,18 @@ export class Player {
             icon(tone === 'good' ? 'tick' : 'warn'), element('span', {}, head));
         const isChosen = tone === 'good' || verdict === 'fits';
         const name = element('p', {}, element('span', { class: 'mono' }, nameOf(image.name)), ' ',
-            isChosen && button('slim bare tiny', () => this.input.click(), texts.chooseAnother));
+            isChosen && button('slim bare tiny', () => this.input.click(), texts.playerChooseAnother));
         if (tone === 'bad') return this.showOther(name, said, image, judged);
         if (!isChosen) return this.showUnknown(name, said, image, judged);
-        const first = this.step('1', 'done', texts.yourDisc, name, said, reasonForPlayer(judged, image.reader.size, this.data.image.size),
-            this.details(image, judged));
-        if (verdict === 'patched') return this.show(first, this.step('2', 'done', texts.stepPatched, texts.nothingLeftToDo),
+        const first = this.step('1', 'done', texts.playerYourDisc, name, said,
+            reasonForPlayer(judged, image.reader.size, this.data.image.size), this.details(image, judged));
+        if (verdict === 'patched') return this.show(first, this.step('2', 'done', texts.playerStepPatched, texts.playerNothingLeftToDo),
             this.playStep(image.name));
-        const patch = button('main big', () => this.patch(image, judged, first), texts.patchAndSave);
+        const patch = button('main big', () => this.patch(image, judged, first), texts.playerPatchAndSave);
         const space = megabytes(image.reader.size);
-        this.show(first, this.step('2', 'now', texts.patchIt,
-            element('p', {}, told(texts.changesNeedSpace, { n: judged.patches, space })),
-            this.data.carry && element('p', {}, texts.authorPatchesDamaged), patch));
+        this.show(first, this.step('2', 'now', texts.playerPatchIt,
+            element('p', {}, told(texts.playerChangesNeedSpace, { n: judged.patches, space })),
+            this.data.carry && element('p', {}, texts.playerAuthorPatchesDamaged), patch));
         return patch.focus();
     }
 
@@ -158,17 +159,17 @@ export class Player {
      */
     showOther(name, said, image, judged) {
         const { patches, refused } = judged;
-        const carries = this.data.carry ? [texts.authorPatchesDamaged] : [];
+        const carries = this.data.carry ? [texts.playerAuthorPatchesDamaged] : [];
         const reasons = refusalForPlayer(judged, image.reader.size, this.data.image.size);
-        const why = [...reasons, ...carries, texts.nothingWasSaved].map(text => element('p', {}, text));
+        const why = [...reasons, ...carries, texts.playerNothingWasSaved].map(text => element('p', {}, text));
         const box = element('div', { class: 'say bad' }, said, ...why, element('div', { class: 'row' },
-            button('main', () => this.input.click(), texts.chooseAnotherImage)));
+            button('main', () => this.input.click(), texts.playerChooseAnotherImage)));
         const fitting = patches - refused.length;
-        const some = button('slim bare', () => this.patch(image, judged, this.step('1', 'done', texts.yourDisc, name)),
-            told(texts.saveWithFitting, { n: fitting }));
+        const some = button('slim bare', () => this.patch(image, judged, this.step('1', 'done', texts.playerYourDisc, name)),
+            told(texts.playerSaveWithFitting, { n: fitting }));
         const details = this.details(image, judged);
-        if (fitting > 0) details.append(element('p', { class: 'small' }, some, ' ', texts.gameMayStop));
-        this.show(this.step('1', 'now', texts.yourDisc, name, box, details));
+        if (fitting > 0) details.append(element('p', { class: 'small' }, some, ' ', texts.playerGameMayStop));
+        this.show(this.step('1', 'now', texts.playerYourDisc, name, box, details));
     }
 
     /**
@@ -181,14 +182,14 @@ export class Player {
     showUnknown(name, said, image, judged) {
         const patch = () => {
             const done = element('p', { class: 'verdict warn-ink' }, icon('warn'), element('span', {}, VERDICTS.unknown[1]));
-            return this.patch(image, judged, this.step('1', 'done', texts.yourDisc, name, done));
+            return this.patch(image, judged, this.step('1', 'done', texts.playerYourDisc, name, done));
         };
         const isOpen = judged.verdict === 'unknown';
         const box = element('div', { class: 'say warn' }, said, reasonForPlayer(judged, image.reader.size, this.data.image.size),
-            isOpen && this.data.carry && element('p', {}, texts.authorPatchesDamaged),
-            element('div', { class: 'row' }, button('', () => this.input.click(), texts.chooseAnotherImage),
-                isOpen && button('', patch, texts.patchAllTheSame)));
-        this.show(this.step('1', 'now', texts.yourDisc, name, box, this.details(image, judged)));
+            isOpen && this.data.carry && element('p', {}, texts.playerAuthorPatchesDamaged),
+            element('div', { class: 'row' }, button('', () => this.input.click(), texts.playerChooseAnotherImage),
+                isOpen && button('', patch, texts.playerPatchAllTheSame)));
+        this.show(this.step('1', 'now', texts.playerYourDisc, name, box, this.details(image, judged)));
     }
 
     /**
@@ -199,11 +200,12 @@ export class Player {
         const { image } = this.data;
         const row = (/** @type {string} */ name, /** @type {Child[]} */ ...value) => value.length === 0 || value[0] === '' ? []
             : [element('dt', {}, name), element('dd', {}, ...value)];
-        const size = reader.size === image.size ? told(texts.sizeAsExpected, { n: reader.size })
-            : told(texts.sizeNotAuthors, { n: reader.size, wanted: image.size });
-        return element('details', {}, element('summary', {}, texts.detailsOfImage),
-            element('dl', { class: 'hashes' }, ...row(texts.madeFor, ...hashParts(image.sha1)),
-            ...row(texts.yourImage, ...hashParts(sha1)), ...row(texts.sizeOfImage, size), ...row(texts.firstPlace, words)));
+        const size = reader.size === image.size ? told(texts.playerSizeAsExpected, { n: reader.size })
+            : told(texts.playerSizeNotAuthors, { n: reader.size, wanted: image.size });
+        return element('details', {}, element('summary', {}, texts.playerDetailsOfImage),
+            element('dl', { class: 'hashes' }, ...row(texts.playerMadeFor, ...hashParts(image.sha1)),
+            ...row(texts.playerYourImage, ...hashParts(sha1)), ...row(texts.playerSizeOfImage, size),
+            ...row(texts.playerFirstPlace, words)));
     }
 
     /**
@@ -215,8 +217,8 @@ export class Player {
         const { app, data } = this;
         try {
             const saved = await app.runSave((signal, cancel) => {
-                const bar = jobBar(texts.savingImage, cancel, { saves: true });
-                this.show(first, this.step('2', 'now', say(texts.savingFile, { name: nameOf(data.name) }), ...bar.parts));
+                const bar = jobBar(texts.saveSavingImage, cancel, { saves: true });
+                this.show(first, this.step('2', 'now', say(texts.saveSavingFile, { name: nameOf(data.name) }), ...bar.parts));
                 this.leaving = this.saving = true;
                 this.stop = cancel;
                 const wanted = verdict === 'right' ? data.result : '';
@@ -226,7 +228,7 @@ export class Player {
             this.leaving = saved !== null && !saved.streamed;
             if (saved !== null) return this.saved(saved, verdict, first);
             return this.show(first, this.again(image, { work, verdict }, first,
-                notice('plain', texts.noFileChosen, texts.nothingWasSaved)));
+                notice('plain', texts.playerNoFileChosen, texts.playerNothingWasSaved)));
         } catch (error) {
             clearNotices();
             this.leaving = false;
@@ -244,8 +246,9 @@ export class Player {
      */
     again(image, judged, first, said) {
         const isFit = judged.verdict === 'right' || judged.verdict === 'fits';
-        const again = button(isFit ? 'main big' : '', () => this.patch(image, /** @type {Judged} */ (judged), first), texts.patchAndSave);
-        return this.step('2', 'now', texts.patchIt, said, again);
+        const again = button(isFit ? 'main big' : '', () => this.patch(image, /** @type {Judged} */ (judged), first),
+            texts.playerPatchAndSave);
+        return this.step('2', 'now', texts.playerPatchIt, said, again);
     }
 
     /**
@@ -255,17 +258,17 @@ export class Player {
      */
     saved({ made, name, size, streamed, sha1 }, verdict, first) {
         const refused = made.outcomes.filter(it => it.result !== RESULT.OK).length;
-        const head = say(streamed ? texts.fileSaved : texts.browserIsSaving, { name: nameOf(name) });
-        const same = sha1 !== '' && texts.exactlyAuthorsImage;
-        const wait = !streamed && told(texts.keepPageOpen, { size: megabytes(size) });
-        const left = refused > 0 && told(texts.changesLeftOut, { n: refused });
-        const unknown = verdict === 'unknown' && texts.nothingShowedFit;
+        const head = say(streamed ? texts.discFileSaved : texts.saveBrowserIsSaving, { name: nameOf(name) });
+        const same = sha1 !== '' && texts.playerExactlyAuthorsImage;
+        const wait = !streamed && told(texts.secondKeepPageOpen, { size: megabytes(size) });
+        const left = refused > 0 && told(texts.playerChangesLeftOut, { n: refused });
+        const unknown = verdict === 'unknown' && texts.playerNothingShowedFit;
         const tone = refused > 0 || unknown ? 'warn' : 'good';
         const said = element('p', { class: `verdict ${tone}-ink`, role: 'status', id: 'saved' },
             icon(tone === 'good' ? 'tick' : 'warn'), element('span', {}, ...head));
         const rest = [same, wait, left, unknown].map(text => text && element('p', {}, text));
         const third = this.playStep(name);
-        this.show(first, this.step('2', 'done', texts.stepPatched, said, ...rest), third);
+        this.show(first, this.step('2', 'done', texts.playerStepPatched, said, ...rest), third);
         // Without a main button the step itself has the focus, which else went back to the first one.
         if (!third.querySelector('.main') && this.steps.contains(document.activeElement)) {
             third.tabIndex = -1;
@@ -290,7 +293,7 @@ export class Player {
         };
         const words = sheet() !== '' ? playWords(name, sheet())
             : wordsWithoutSheet(name, this.oneTrack ? sheetOfOneTrack(name) : '', take);
-        const step = this.step('3', 'now', texts.stepPlay, ...words);
+        const step = this.step('3', 'now', texts.playerStepPlay, ...words);
         return step;
     }
 }

@@ -9,21 +9,21 @@ import { element } from '../ui/index.js';
 
 /** @type {Record<import('./verdict.js').Verdict, ['good' | 'warn' | 'bad', string]>} */
 export const VERDICTS = {
-    right: ['good', texts.rightDisc],
-    fits: ['warn', texts.otherDumpFits],
-    unknown: ['warn', texts.notAuthorsDisc],
-    other: ['bad', texts.otherDumpFitsNot],
-    damaged: ['bad', texts.dumpDamaged],
-    patched: ['good', texts.imageIsPatched],
-    changed: ['warn', texts.placesHoldNewBytes],
+    right: ['good', texts.playerRightDisc],
+    fits: ['warn', texts.playerOtherDumpFits],
+    unknown: ['warn', texts.playerNotAuthorsDisc],
+    other: ['bad', texts.playerOtherDumpFitsNot],
+    damaged: ['bad', texts.playerDumpDamaged],
+    patched: ['good', texts.playerImageIsPatched],
+    changed: ['warn', texts.playerPlacesHoldNewBytes],
 };
 
 /** Why a place or several refuse their patch, and what to think of it. */
 const VERDICT_REASONS = /** @type {const} */ ([
-    [RESULT.DIFFERS, texts.holdOtherBytes, texts.otherReleaseProbably],
-    [RESULT.DAMAGED, texts.areDamaged, texts.tryAnotherDump],
-    [RESULT.NOT_MODE1, texts.holdNoData, texts.otherTrackOrDisc],
-    [RESULT.NO_BLOCK, texts.notInThisImage, texts.otherTrackOrCut],
+    [RESULT.DIFFERS, texts.playerHoldOtherBytes, texts.playerOtherReleaseProbably],
+    [RESULT.DAMAGED, texts.playerAreDamaged, texts.playerTryAnotherDump],
+    [RESULT.NOT_MODE1, texts.playerHoldNoData, texts.playerOtherTrackOrDisc],
+    [RESULT.NO_BLOCK, texts.playerNotInThisImage, texts.playerOtherTrackOrCut],
 ]);
 
 /**
@@ -33,7 +33,7 @@ const VERDICT_REASONS = /** @type {const} */ ([
  * @param {Record<number, string>} [advices] what to think of each result, if not what players are told
  */
 export function reasonsOf(patches, refused, advices = {}) {
-    const places = told(texts.placesOfPatch, { n: patches });
+    const places = told(texts.playerPlacesOfPatch, { n: patches });
     return VERDICT_REASONS.flatMap(([result, words, advice]) => {
         const count = refused.filter(it => it === result).length;
         return count === 0 ? [] : [`${told(words, { n: count, places })} ${advices[result] ?? advice}`.trimEnd()];
@@ -48,7 +48,7 @@ export function reasonsOf(patches, refused, advices = {}) {
  */
 export function refusalForPlayer({ patches, refused }, size, wanted) {
     const isOlder = size === wanted && refused.every(it => it === RESULT.DIFFERS);
-    return [...reasonsOf(patches, refused), ...isOlder ? [texts.olderPatchPerhaps] : []];
+    return [...reasonsOf(patches, refused), ...isOlder ? [texts.playerOlderPatchPerhaps] : []];
 }
 
 /**
@@ -58,15 +58,16 @@ export function refusalForPlayer({ patches, refused }, size, wanted) {
  * @param {number} wanted that of the author's
  */
 export function reasonForPlayer({ verdict, patches, without, damaged }, size, wanted) {
-    const sizes = size === wanted ? '' : told(texts.sizesDiffer, { n: size, wanted });
-    const hurt = damaged === 0 ? '' : told(texts.sectorsOfImageDamaged, { n: damaged });
-    const named = without === 0 ? told(texts.placesMatchRestUnknown, { n: patches })
-        : told(texts.namesNoOldBytes, { n: without, changes: told(texts.changesOfPatch, { n: patches }) });
+    const sizes = size === wanted ? '' : told(texts.playerSizesDiffer, { n: size, wanted });
+    const hurt = damaged === 0 ? '' : told(texts.playerSectorsOfImageDamaged, { n: damaged });
+    const named = without === 0 ? told(texts.playerPlacesMatchRestUnknown, { n: patches })
+        : told(texts.playerNamesNoOldBytes, { n: without, changes: told(texts.playerChangesOfPatch, { n: patches }) });
     /** @type {Record<string, string[]>} */
     const reasons = {
-        fits: [told(texts.placesMatch, { n: patches }), hurt === '' ? texts.musicShiftedPerhaps : texts.restDiffers, hurt],
+        fits: [told(texts.playerPlacesMatch, { n: patches }), hurt === '' ? texts.playerMusicShiftedPerhaps : texts.playerRestDiffers,
+            hurt],
         unknown: [named, sizes, hurt],
-        changed: [texts.notAuthorsResult, sizes],
+        changed: [texts.playerNotAuthorsResult, sizes],
     };
     return reasons[verdict] ? element('p', {}, reasons[verdict].filter(it => it !== '').join(' ')) : null;
 }

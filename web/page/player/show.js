@@ -19,9 +19,9 @@ export function showPlayer(app, data, how) {
     const place = byId('player');
     const home = /** @type {Text} */ (byId('home').lastChild);
     document.body.classList.add('player');
-    home.data = texts.patcherMadeWith;
+    home.data = texts.playerPatcherMadeWith;
     const player = new Player(app, data, how, place);
-    const dropSays = () => [texts.dropToBeChecked];
+    const dropSays = () => [texts.playerDropToBeChecked];
     const giveBack = app.serve({ open: files => player.open(files), dropSays });
     const refused = said();
     const leave = async (/** @type {boolean} */ full) => {
@@ -44,7 +44,7 @@ export function showPlayer(app, data, how) {
         return player.base !== null && app.image && app.image.base !== player.base ? changeBase(app, player.base) : undefined;
     };
     document.title = seenTitle(data.title);
-    place.append(element('p', { class: 'row center' }, how.back && button('slim', () => void leave(false), texts.backToPublish),
-        button('slim bare', () => void leave(true), texts.openInFullCdpatch)), refused);
+    place.append(element('p', { class: 'row center' }, how.back && button('slim', () => void leave(false), texts.playerBackToPublish),
+        button('slim bare', () => void leave(true), texts.playerOpenInFullCdpatch)), refused);
     window.scrollTo(0, 0);
 }

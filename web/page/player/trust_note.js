@@ -14,19 +14,20 @@ const MOST_SCRIPT_SHOWN = 200000;
  * @param {PatcherData} data
  */
 export function authorsWords({ title, author, note }) {
-    return element('section', { class: 'authors stack tight', 'aria-label': texts.whatAuthorWrites },
-        element('p', { class: 'small quiet' }, texts.authorWrites),
+    return element('section', { class: 'authors stack tight', 'aria-label': texts.playerWhatAuthorWrites },
+        element('p', { class: 'small quiet' }, texts.playerAuthorWrites),
         element('div', {}, element('h1', { dir: 'auto' }, seenTitle(title)),
-            element('p', { class: 'by', dir: 'auto' }, author === '' ? '' : told(texts.byAuthor, { author: seenTitle(author) }))),
+            element('p', { class: 'by', dir: 'auto' }, author === '' ? '' : told(texts.playerByAuthor, { author: seenTitle(author) }))),
         note.trim() === '' ? null : element('p', { class: 'author', dir: 'auto' }, note));
 }
 
 /** @param {PatcherData} data */
 export function moreOf({ script }) {
-    const shown = element('pre', { class: 'log', tabindex: 0, 'aria-label': texts.theScriptItself }, script.slice(0, MOST_SCRIPT_SHOWN));
-    return element('div', { class: 'stack' }, element('details', { id: 'player-script' }, element('summary', {}, texts.readTheScript),
+    const shown = element('pre', { class: 'log', tabindex: 0, 'aria-label': texts.playerTheScriptItself }, script.slice(0,
+        MOST_SCRIPT_SHOWN));
+    return element('div', { class: 'stack' }, element('details', { id: 'player-script' }, element('summary', {}, texts.playerReadTheScript),
         shown,
-        script.length > MOST_SCRIPT_SHOWN && element('p', {}, texts.onlyItsBeginning),
-        button('slim', () => downloadText(script, 'script.txt'), texts.saveTheScript)),
-    element('details', {}, element('summary', {}, texts.canITrustIt), element('p', { class: 'small' }, texts.howToTrustIt)));
+        script.length > MOST_SCRIPT_SHOWN && element('p', {}, texts.playerOnlyItsBeginning),
+        button('slim', () => downloadText(script, 'script.txt'), texts.secondSaveTheScript)),
+    element('details', {}, element('summary', {}, texts.playerCanITrustIt), element('p', { class: 'small' }, texts.playerHowToTrustIt)));
 }

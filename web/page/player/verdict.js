@@ -39,7 +39,7 @@ import { told } from '../texts/index.js';
 export function imageOfSize(disc, size) {
     const [file] = disc.files;
     if (disc.sheet === null && disc.tracks[0].image === null) {
-        throw new Fault('disc/own', { sentence: told(texts.isMusicTrack, { name: file.name }) });
+        throw new Fault('disc/own', { sentence: told(texts.playerIsMusicTrack, { name: file.name }) });
     }
     const track = disc.tracks.find(it => it.image !== null && it.image.reader.size === size);
     return (track || openTrack(disc)).image;

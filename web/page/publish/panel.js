@@ -49,10 +49,10 @@ class PublishPanel {
         this.list = element('div', { class: 'stack tight', role: 'status' });
         this.state = element('div', { class: 'stack' });
         this.said = said();
-        this.save = button('main', () => this.publish(true), texts.saveAsPatcher);
-        this.see = button('', () => this.publish(false), texts.seeAsPlayer);
+        this.save = button('main', () => this.publish(true), texts.publishSaveAsPatcher);
+        this.see = button('', () => this.publish(false), texts.publishSeeAsPlayer);
         panel.append(element('div', { class: 'two even' }, this.form(), element('div', { class: 'side' }, this.savingCard())));
-        askBeforeLeaving(() => this.edited, texts.nothingInPatcherYet);
+        askBeforeLeaving(() => this.edited, texts.publishNothingInPatcherYet);
         app.on('panel', () => this.shown());
         app.on('patcher', data => this.take(data));
         app.on('closed', () => this.take({ title: '', author: '', note: '', name: '', cue: 'offered', carry: false }));
@@ -63,22 +63,22 @@ class PublishPanel {
     form() {
         const row = (/** @type {string} */ label, /** @type {HTMLElement} */ field) => element('div', {},
             element('label', { for: field.id }, label), field);
-        this.cueRow = element('label', { class: 'check' }, this.sheet, element('span', {}, texts.offerCueSheet));
+        this.cueRow = element('label', { class: 'check' }, this.sheet, element('span', {}, texts.publishOfferCueSheet));
         this.carryRow = element('label', { class: 'check', hidden: true }, this.carry,
-            element('span', {}, ...say(texts.damagedTooAsOpened, { carry: term('carry', 'carry') })));
-        return element('section', { class: 'card', 'aria-label': texts.patcherForPlayers },
-            element('header', {}, element('h2', {}, texts.patcherForPlayers)),
-            element('div', { class: 'pad stack' }, row(texts.patcherTitle, this.title), row(texts.patcherAuthor, this.author),
-                row(texts.noteForPlayers, this.note), row(texts.patchedImageName, this.name), this.cueRow, this.carryRow));
+            element('span', {}, ...say(texts.publishDamagedTooAsOpened, { carry: term('carry', 'carry') })));
+        return element('section', { class: 'card', 'aria-label': texts.publishPatcherForPlayers },
+            element('header', {}, element('h2', {}, texts.publishPatcherForPlayers)),
+            element('div', { class: 'pad stack' }, row(texts.publishPatcherTitle, this.title), row(texts.publishPatcherAuthor, this.author),
+                row(texts.publishNoteForPlayers, this.note), row(texts.publishPatchedImageName, this.name), this.cueRow, this.carryRow));
     }
 
     savingCard() {
-        return element('section', { class: 'card', 'aria-label': texts.beforeYouSave },
-            element('header', {}, element('h2', {}, texts.beforeYouSave)),
+        return element('section', { class: 'card', 'aria-label': texts.publishBeforeYouSave },
+            element('header', {}, element('h2', {}, texts.publishBeforeYouSave)),
             element('div', { class: 'pad stack' }, this.list, this.state, element('div', { class: 'row' }, this.save, this.see), this.said,
-                element('p', { class: 'small quiet' }, texts.patcherIsOneFile),
-                !OWN.licensed && element('p', { class: 'say warn thin', id: 'no-licence' }, texts.noLicenceYet),
-                element('p', { class: 'small quiet' }, texts.scriptSavedElsewhere)));
+                element('p', { class: 'small quiet' }, texts.publishPatcherIsOneFile),
+                !OWN.licensed && element('p', { class: 'say warn thin', id: 'no-licence' }, texts.publishNoLicenceYet),
+                element('p', { class: 'small quiet' }, texts.publishScriptSavedElsewhere)));
     }
 
     /** @param {...Child} parts of how far a patcher has come */
@@ -147,17 +147,19 @@ class PublishPanel {
     rows() {
         const { app, tried, fault } = this;
         const { image, survey } = app;
-        if (image === null) return [['bad', texts.openImageOfScript]];
+        if (image === null) return [['bad', texts.publishOpenImageOfScript]];
         if (fault !== '') return [['bad', fault]];
-        if (tried === null) return [['quiet', texts.tryingOnImage]];
-        const title = button('slim bare tiny', () => this.title.focus(), texts.writeTitle);
+        if (tried === null) return [['quiet', texts.publishTryingOnImage]];
+        const title = button('slim bare tiny', () => this.title.focus(), texts.publishWriteTitle);
         const was = element('span', { class: 'mono small' }, 'was');
         return [this.fitRow(image, tried),
-            tried.without === 0 ? ['good', texts.allNameOldBytes] : ['warn', ...say(texts.withoutOldBytes, { n: tried.without, was })],
+            tried.without === 0 ? ['good', texts.publishAllNameOldBytes] : ['warn', ...say(texts.publishWithoutOldBytes,
+                { n: tried.without, was })],
             soundRow(survey),
-            image.sha1 === '' ? ['quiet', texts.calculatingOwnSha1]
-                : ['good', ...say(texts.comparedWithSha1, { sha1: element('span', { class: 'mono small' }, ...hashParts(image.sha1)) })],
-            ...isSeen(this.title.value) ? [] : [/** @type {Row} */ (['bad', texts.titleMissing, ' ', title])],
+            image.sha1 === '' ? ['quiet', texts.publishCalculatingOwnSha1]
+                : ['good', ...say(texts.publishComparedWithSha1, { sha1: element('span', { class: 'mono small' },
+                    ...hashParts(image.sha1)) })],
+            ...isSeen(this.title.value) ? [] : [/** @type {Row} */ (['bad', texts.publishTitleMissing, ' ', title])],
             ...this.warnings(image, tried),
         ];
     }
@@ -172,9 +174,9 @@ class PublishPanel {
         const fit = { all: patches, named: patches, refused: new Array(refused).fill(RESULT.DIFFERS), namedRefused: refused };
         const { head } = fitWords(this.app.script.name, name, fit);
         const go = first > 0 && button('slim bare tiny', () => this.app.goToLine(first - 1),
-            told(texts.goToLine, { line: String(first) }));
+            told(texts.scriptGoToLine, { line: String(first) }));
         return [patches > 0 && refused === 0 ? 'good' : 'bad', ...head, ' ', go,
-            damaged > 0 && ` ${told(texts.changesForDamage, { n: damaged })}`];
+            damaged > 0 && ` ${told(texts.publishChangesForDamage, { n: damaged })}`];
     }
 
     /**
@@ -185,10 +187,10 @@ class PublishPanel {
     warnings(image, tried) {
         /** @type {[boolean, 'bad' | 'warn', string][]} */
         const all = [
-            [!isImageName(this.name.value.trim()), 'bad', told(texts.patchedNameRule, { signs: SIGNS_OF_PATHS })],
-            [image.sheet !== '' && this.cueOf(image) === '', 'warn', texts.cueSheetNotOffered],
-            [this.carry.checked, 'warn', texts.damagedPatchedToo],
-            [tried.old > 0, 'warn', told(texts.oldBytesFromGame, { n: tried.old })],
+            [!isImageName(this.name.value.trim()), 'bad', told(texts.publishPatchedNameRule, { signs: SIGNS_OF_PATHS })],
+            [image.sheet !== '' && this.cueOf(image) === '', 'warn', texts.publishCueSheetNotOffered],
+            [this.carry.checked, 'warn', texts.publishDamagedPatchedToo],
+            [tried.old > 0, 'warn', told(texts.publishOldBytesFromGame, { n: tried.old })],
         ];
         return all.flatMap(([is, tone, words]) => is ? [[tone, words]] : []);
     }
@@ -202,8 +204,8 @@ class PublishPanel {
         fill(this.said);
         try {
             await app.run(async (signal, cancel) => {
-                const bar = jobBar(texts.calculatingResultSha1, cancel);
-                this.say(element('p', {}, texts.calculatingForPlayers), ...bar.parts);
+                const bar = jobBar(texts.publishCalculatingResultSha1, cancel);
+                this.say(element('p', {}, texts.publishCalculatingForPlayers), ...bar.parts);
                 const result = await sha1Of(app.parts, tried.result, signal, done => bar.at(done, tried.result.size));
                 const data = this.data(image, tried.script, result);
                 this.say();
@@ -212,8 +214,8 @@ class PublishPanel {
             });
         } catch (error) {
             this.say();
-            sayAt(this.said, isCancelled(error) ? notice('plain', texts.jobCancelled, texts.noPatcherSaved)
-                : notice('bad', sentence(error), texts.noPatcherSaved));
+            sayAt(this.said, isCancelled(error) ? notice('plain', texts.discJobCancelled, texts.publishNoPatcherSaved)
+                : notice('bad', sentence(error), texts.publishNoPatcherSaved));
         } finally {
             this.busy = false;
         }
@@ -247,7 +249,7 @@ class PublishPanel {
         const name = `${stemOf(data.title) || 'patcher'}.html`;
         download(new Blob([publishedSource(this.app.calls), await patcherText(this.app.calls, data)], { type: 'text/html' }), name);
         this.edited = false;
-        sayAt(this.said, notice('good', say(texts.fileSaved, { name: nameOf(name) }), texts.playersOpenIt));
+        sayAt(this.said, notice('good', say(texts.discFileSaved, { name: nameOf(name) }), texts.publishPlayersOpenIt));
     }
 }
 
@@ -256,10 +258,10 @@ class PublishPanel {
  * @returns {Row}
  */
 function soundRow(survey) {
-    if (survey === null || !survey.over) return ['quiet', texts.readingYourImage];
-    if (survey.ended === 0) return ['bad', texts.notReadToEnd];
+    if (survey === null || !survey.over) return ['quiet', texts.publishReadingYourImage];
+    if (survey.ended === 0) return ['bad', texts.publishNotReadToEnd];
     const findings = survey.marks.findings();
-    return findings === 0 ? ['good', texts.yourImageSound] : ['warn', told(texts.yourImageHasFindings, { n: findings })];
+    return findings === 0 ? ['good', texts.publishYourImageSound] : ['warn', told(texts.publishYourImageHasFindings, { n: findings })];
 }
 
 /** @type {Record<string, string>} */

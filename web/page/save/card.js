@@ -94,9 +94,9 @@ export class SaveCard {
         const oneTrack = image.sheet === '' ? isOneTrack(this.app.calls, image.part).catch(() => false) : Promise.resolve(false);
         try {
             const saved = await this.app.runSave((signal, cancel) => {
-                const bar = jobBar(texts.savingImage, cancel, { saves: true });
-                this.show(say(texts.savingFile, { name: nameOf(name) }), ...bar.parts,
-                    element('p', { class: 'small quiet' }, texts.afterCancel));
+                const bar = jobBar(texts.saveSavingImage, cancel, { saves: true });
+                this.show(say(texts.saveSavingFile, { name: nameOf(name) }), ...bar.parts,
+                    element('p', { class: 'small quiet' }, texts.saveAfterCancel));
                 this.leaving = true;
                 const watch = { signal, progress: bar.at, accept: async () => void await oneTrack };
                 return saveWork(this.app, { ...work, opened: this.app.openFiles() }, name, '', watch);
@@ -106,8 +106,8 @@ export class SaveCard {
             return saved && saved.made;
         } catch (error) {
             this.leaving = false;
-            this.show(texts.imageNotSaved, failureOfSaving(error, work.reader.size),
-                element('div', { class: 'row' }, button('back next', () => this.close(), texts.backFromSaving)));
+            this.show(texts.saveImageNotSaved, failureOfSaving(error, work.reader.size),
+                element('div', { class: 'row' }, button('back next', () => this.close(), texts.saveBackFromSaving)));
             return null;
         } finally {
             this.running = false;
@@ -125,22 +125,22 @@ export class SaveCard {
         this.leaving = !streamed;
         const refused = made.outcomes.filter(it => it.result !== RESULT.OK).length;
         const what = () => refused === 0 ? nameOf(name)
-            : say(texts.fileWithout, { name: nameOf(name), refused: String(refused), n: made.outcomes.length });
+            : say(texts.saveFileWithout, { name: nameOf(name), refused: String(refused), n: made.outcomes.length });
         const tone = refused === 0 ? 'good' : 'warn';
-        this.sayWhole = () => fill(this.said, notice(tone, say(texts.fileSaved, { name: what() }), texts.otherBytesAsBefore));
+        this.sayWhole = () => fill(this.said, notice(tone, say(texts.discFileSaved, { name: what() }), texts.saveOtherBytesAsBefore));
         if (streamed) this.sayWhole();
-        else fill(this.said, notice(tone, say(texts.browserIsSaving, { name: what() }), texts.keepPageOpenOnly));
+        else fill(this.said, notice(tone, say(texts.saveBrowserIsSaving, { name: what() }), texts.saveKeepPageOpenOnly));
         this.app.noteSaved(image, name);
         const sheet = oneTrack ? sheetOfOneTrack(name) : sheetNaming(image.sheet, image.renamed);
         const sheetName = image.disc.files.length > 1 ? patchedName(image.from) : name.replace(/(\.[^.]*)?$/, '.cue');
-        fill(this.checked, !streamed && element('p', { class: 'small quiet' }, texts.dropToCheck));
-        this.show(streamed ? texts.imageSaved : texts.savingByBrowser, this.said,
-            element('dl', { class: 'hashes' }, element('dt', {}, texts.sizeOfSaved), element('dd', {}, counted(size)),
+        fill(this.checked, !streamed && element('p', { class: 'small quiet' }, texts.saveDropToCheck));
+        this.show(streamed ? texts.saveImageSaved : texts.saveSavingByBrowser, this.said,
+            element('dl', { class: 'hashes' }, element('dt', {}, texts.saveSizeOfSaved), element('dd', {}, counted(size)),
                 ...this.sumsOf(saved)),
             this.checked, ...sheetWords(image, name, sheet),
             element('div', { class: 'row' }, sheet !== '' && button('main next', () => downloadText(sheet, sheetName), texts.saveCueSheet),
-                file && button('', () => this.openNew(file), texts.openNewImage),
-                button(sheet === '' ? 'next' : '', () => this.close(), texts.backToCheck)));
+                file && button('', () => this.openNew(file), texts.saveOpenNewImage),
+                button(sheet === '' ? 'next' : '', () => this.close(), texts.saveBackToCheck)));
     }
 
     /**
@@ -161,11 +161,11 @@ export class SaveCard {
         const [sha1, crc32] = ['saved-sha1', 'saved-crc32'].map(id => element('dd', { id }, '…'));
         const { file } = saved;
         if (file === null) {
-            sha1.textContent = texts.sumNotRead;
+            sha1.textContent = texts.saveSumNotRead;
             return [element('dt', {}, 'SHA-1'), sha1];
         }
         const sums = sumsOf(this.app, fileReader(file), { aborted: false }, done => {
-            sha1.textContent = told(texts.hashPercent, { percent: Math.floor(100 * done / saved.size) });
+            sha1.textContent = told(texts.saveHashPercent, { percent: Math.floor(100 * done / saved.size) });
         });
         this.sum = sums.then(it => it.sha1);
         sums.then(it => {
@@ -173,7 +173,7 @@ export class SaveCard {
             crc32.textContent = it.crc32;
         }, error => {
             sha1.textContent = messageOf(error);
-            crc32.textContent = texts.hashNotKnown;
+            crc32.textContent = texts.imageHashNotKnown;
         });
         return [element('dt', {}, 'SHA-1'), sha1, element('dt', {}, 'CRC-32'), crc32];
     }
@@ -186,22 +186,22 @@ export class SaveCard {
         const { saved } = this;
         if (saved === null || !this.shown() || file.name.replace(/ ?\(\d+\)(?=\.|$)/, '') !== saved.name) return false;
         const wrong = file.size === saved.size ? ''
-            : told(texts.notSavedToEnd, { size: file.size, wanted: saved.size });
+            : told(texts.saveNotSavedToEnd, { size: file.size, wanted: saved.size });
         const sha1 = wrong ? '' : await sha1Of(this.app.parts, fileReader(file), { aborted: false }, () => {});
         const right = sha1 !== '' && sha1 === await this.sum;
         if (this.saved !== saved) return true;
         const open = button('slim', () => {
             this.close();
             this.app.open([file]);
-        }, texts.openSavedFile);
+        }, texts.saveOpenSavedFile);
         const name = nameOf(file.name);
         fill(this.checked, right
-            ? notice('good', say(texts.savedFileRight, { name }), texts.sumsMatch, element('div', { class: 'row' }, open))
-            : notice('bad', say(texts.savedFileWrong, { name }), wrong || texts.sumDiffersSaveAgain));
+            ? notice('good', say(texts.saveSavedFileRight, { name }), texts.saveSumsMatch, element('div', { class: 'row' }, open))
+            : notice('bad', say(texts.saveSavedFileWrong, { name }), wrong || texts.saveSumDiffersSaveAgain));
         this.leaving = this.leaving && !right;
         if (right) {
             this.sayWhole();
-            this.title = [texts.imageSaved];
+            this.title = [texts.saveImageSaved];
             this.drawTitle();
         }
         return true;
@@ -217,10 +217,11 @@ export class SaveCard {
  */
 function sheetWords({ sheet: own, renamed }, name, sheet) {
     const quiet = (/** @type {Child[]} */ ...said) => element('p', { class: 'small quiet' }, ...said);
-    if (sheet === '') return [own === '' && quiet(texts.oldSheetNamesOld)];
+    if (sheet === '') return [own === '' && quiet(texts.saveOldSheetNamesOld)];
     const saved = [...renamed.values()].filter(it => it !== name);
-    return [element('p', {}, texts.emulatorOpensSheet), own === '' && quiet(texts.sheetOfOneTrack, ' ', texts.oldSheetNamesOld),
-        saved.length > 0 && quiet(...say(texts.sheetNamesOthers, { names: namesOf(saved) })),
+    return [element('p', {}, texts.saveEmulatorOpensSheet), own === '' && quiet(texts.playerSheetOfOneTrack, ' ',
+        texts.saveOldSheetNamesOld),
+        saved.length > 0 && quiet(...say(texts.saveSheetNamesOthers, { names: namesOf(saved) })),
         copyWords(otherFiles(sheet, name).filter(it => !saved.includes(it)))];
 }
 
@@ -230,12 +231,13 @@ function sheetWords({ sheet: own, renamed }, name, sheet) {
  * @param {number} size
  */
 export function failureOfSaving(error, size) {
-    if (isCancelled(error)) return notice('plain', texts.jobCancelled, texts.noImageKept);
+    if (isCancelled(error)) return notice('plain', texts.discJobCancelled, texts.saveNoImageKept);
     if (failedBy(error, 'unwritten')) {
         const { full, done = 0 } = error.facts;
         const percent = size === 0 ? 0 : Math.floor(100 * done / size);
-        return notice('bad', full ? told(texts.diskIsFull, { percent }) : told(texts.writingFailed, { percent, why: messageOf(error) }),
-            texts.noImageKept);
+        return notice('bad', full ? told(texts.saveDiskIsFull, { percent }) : told(texts.saveWritingFailed, { percent,
+            why: messageOf(error) }),
+            texts.saveNoImageKept);
     }
-    return notice('bad', messageOf(error), adviceOf(error, texts.noImageKept));
+    return notice('bad', messageOf(error), adviceOf(error, texts.saveNoImageKept));
 }

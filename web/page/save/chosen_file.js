@@ -28,7 +28,7 @@ export async function chosenOther(name, readers, opened) {
     const alike = own && sameName(own, chosen) ? [] : opened.filter(it => sameName(it, chosen));
     if (alike.length === 0) return chosen;
     if (before.size === 0 && chosen.remove && alike.every(it => it.size > 0)) await chosen.remove().catch(() => {});
-    throw workRefused(told(texts.openFileHasName, { name: shownName(chosen.name) }), texts.nothingSavedChooseName);
+    throw workRefused(told(texts.saveOpenFileHasName, { name: shownName(chosen.name) }), texts.saveNothingSavedChooseName);
 }
 
 /**
@@ -47,6 +47,6 @@ function sameName(one, other) {
 function assertOther(chosen, reader) {
     const own = fileOf(reader);
     if (own && isSameFile(chosen, own)) {
-        throw workRefused(told(texts.isOpenImage, { name: shownName(own.name) }), texts.neverWrittenOver);
+        throw workRefused(told(texts.saveIsOpenImage, { name: shownName(own.name) }), texts.saveNeverWrittenOver);
     }
 }

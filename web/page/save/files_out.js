@@ -42,7 +42,7 @@ export async function chosenFile(name) {
     } catch (error) {
         const kind = error instanceof DOMException ? error.name : '';
         if (kind === 'AbortError') return null;
-        throw kind === 'SecurityError' ? ownFault(texts.asksAfterClick) : error;
+        throw kind === 'SecurityError' ? ownFault(texts.saveAsksAfterClick) : error;
     }
 }
 

@@ -51,15 +51,15 @@ async function readWork({ calls }, script) {
  * @returns {never}
  */
 function refuse(error) {
-    if (failedBy(error, 'script/other-base')) throw workRefused(`${capital(remarkText(error))}.`, texts.setSaidBase);
+    if (failedBy(error, 'script/other-base')) throw workRefused(`${capital(remarkText(error))}.`, texts.saveSetSaidBase);
     if (!failedBy(error, 'script/refused')) throw error;
-    if (!error.facts.tooLong) throw workRefused(remarkText(error), texts.correctLineFirst);
-    throw workRefused(texts.scriptTooLong, told(texts.mostScriptBytes, { most: MOST_SCRIPT_BYTES }));
+    if (!error.facts.tooLong) throw workRefused(remarkText(error), texts.saveCorrectLineFirst);
+    throw workRefused(texts.saveScriptTooLong, told(texts.saveMostScriptBytes, { most: MOST_SCRIPT_BYTES }));
 }
 
 /** @param {Reader} reader of an image */
 export function assertNotTooLong({ size }) {
-    if (imageTooLong(size)) throw workRefused(texts.imageTooLong, told(texts.mostSectors, { most: MOST_SECTORS }));
+    if (imageTooLong(size)) throw workRefused(texts.saveImageTooLong, told(texts.saveMostSectors, { most: MOST_SECTORS }));
 }
 
 /**
@@ -157,7 +157,7 @@ function comparing(hash, wanted) {
         seen: (/** @type {Uint8Array} */ bytes) => hash.add(bytes.slice()),
         async accept() {
             if (await hash.end() === wanted) return;
-            throw ownFault(texts.notTheAuthorsImage);
+            throw ownFault(texts.saveNotTheAuthorsImage);
         },
     };
 }

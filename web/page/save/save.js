@@ -136,7 +136,7 @@ export async function blobOfPieces(file, pieces) {
  * @param {string} [what]
  * @param {string} [ending] instead of its own
  */
-export function patchedName(name, what = texts.patchedInName, ending = '') {
+export function patchedName(name, what = texts.savePatchedInName, ending = '') {
     const [, stem, own] = /^(.*?)(\.[^.]*)?$/.exec(name) || ['', name, ''];
     return `${stem} (${what})${ending || own || '.bin'}`;
 }

@@ -13,6 +13,6 @@ const MOST_NAMED = 4;
 export function copyWords(names) {
     const more = names.length - MOST_NAMED;
     const files = namesOf(names.slice(0, MOST_NAMED));
-    const copied = { n: names.length, files: more > 0 ? say(texts.filesAndMore, { n: more, files }) : files };
-    return names.length > 0 && element('p', {}, ...say(texts.copySheetFiles, copied));
+    const copied = { n: names.length, files: more > 0 ? say(texts.playerFilesAndMore, { n: more, files }) : files };
+    return names.length > 0 && element('p', {}, ...say(texts.playerCopySheetFiles, copied));
 }

@@ -41,12 +41,12 @@ export class CheckCard {
         this.cancel = () => {};
         this.failure = /** @type {Child} */ (null);
         this.body = element('div', { class: 'pad stack' });
-        this.head = element('header', {}, element('h2', {}, texts.checkScript));
-        this.card = element('section', { class: 'card', 'aria-label': texts.checkScript }, this.head, this.body);
+        this.head = element('header', {}, element('h2', {}, texts.scriptCheckScript));
+        this.card = element('section', { class: 'card', 'aria-label': texts.scriptCheckScript }, this.head, this.body);
         this.carry = element('input', { type: 'checkbox', change: () => this.forget() });
         this.carryRow = element('label', { class: 'check' }, this.carry, element('span', {},
-            ...say(texts.patchDamagedToo, { carry: term('carry', 'carry') }), element('br'),
-            element('span', { class: 'small quiet' }, texts.theyStayDamaged)));
+            ...say(texts.scriptPatchDamagedToo, { carry: term('carry', 'carry') }), element('br'),
+            element('span', { class: 'small quiet' }, texts.scriptTheyStayDamaged)));
         this.saving = new SaveCard(app, () => this.draw());
     }
 
@@ -77,13 +77,14 @@ export class CheckCard {
         const { lines } = this.owner;
         const took = this.patched !== null && this.seconds >= 0.05
             && element('span', { class: 'tag' }, told(texts.inSeconds, { seconds: this.seconds.toFixed(1) }));
-        fill(this.head, element('h2', {}, texts.checkScript), took);
+        fill(this.head, element('h2', {}, texts.scriptCheckScript), took);
         fill(this.card, this.head, this.body);
         if (this.app.image === null) return fill(this.body, lines.faults > 0 && this.faults(),
-            element('p', {}, texts.openPatchedImage),
-            element('div', { class: 'row' }, button('main', () => this.app.choose('play'), texts.openTheImage)));
+            element('p', {}, texts.scriptOpenPatchedImage),
+            element('div', { class: 'row' }, button('main', () => this.app.choose('play'), texts.scriptOpenTheImage)));
         const ready = lines.faults === 0 && lines.head >= 0;
-        const check = button(this.patched ? 'again' : 'main', () => this.check(), this.patched ? texts.checkAgain : texts.checkScript);
+        const check = button(this.patched ? 'again' : 'main', () => this.check(), this.patched ? texts.scriptCheckAgain
+            : texts.scriptCheckScript);
         const apply = this.applyButton();
         for (const it of [check, apply]) setDisabled(it, !ready);
         const said = lines.faults > 0 ? [this.faults()] : this.outcomes(apply);
@@ -95,10 +96,10 @@ export class CheckCard {
     applyButton() {
         const fit = this.patched && this.fit(this.patched);
         const apply = () => this.apply();
-        if (fit === null || fit.refused.length === fit.all) return button('', apply, texts.applyAndSave);
+        if (fit === null || fit.refused.length === fit.all) return button('', apply, texts.scriptApplyAndSave);
         const [isShown, n] = [isShownToFit(fit), fit.all - fit.refused.length];
-        if (n === fit.all) return button(isShown ? 'main' : '', apply, texts.applyAndSave);
-        return button('', apply, told(isShown ? texts.saveWithFitting : texts.saveWithOthers, { n }));
+        if (n === fit.all) return button(isShown ? 'main' : '', apply, texts.scriptApplyAndSave);
+        return button('', apply, told(isShown ? texts.playerSaveWithFitting : texts.scriptSaveWithOthers, { n }));
     }
 
     faults() {
@@ -107,10 +108,11 @@ export class CheckCard {
         const wrong = [];
         for (let i = lines.nextWrong(-1, 1); wrong.length < Math.min(MOST_NAMED, lines.faults); i = lines.nextWrong(i, 1)) wrong.push(i);
         const [named, more] = [wrong.map(i => String(i + 1)), lines.faults - wrong.length];
-        const list = new Intl.ListFormat(texts.LANGUAGE).format(more > 0 ? [...named, told(texts.moreLines, { n: more })] : named);
+        const list = new Intl.ListFormat(texts.LANGUAGE).format(more > 0 ? [...named, told(texts.scriptMoreLines, { n: more })] : named);
         const parts = { n: lines.faults, lines: list };
-        return notice('bad', told(texts.linesHaveFault, parts), `${texts.notAppliedAtAll} ${told(texts.faultyLines, parts)}`,
-            element('div', { class: 'row' }, button('slim', () => goTo(wrong[0]), told(texts.goToLine, { line: named[0] }))));
+        return notice('bad', told(texts.scriptLinesHaveFault, parts),
+            `${texts.scriptNotAppliedAtAll} ${told(texts.scriptFaultyLines, parts)}`,
+            element('div', { class: 'row' }, button('slim', () => goTo(wrong[0]), told(texts.scriptGoToLine, { line: named[0] }))));
     }
 
     /**
@@ -120,8 +122,8 @@ export class CheckCard {
     outcomes(apply) {
         const { lines } = this.owner;
         if (this.patched === null) {
-            if (lines.patches === 0 && !lines.long) return [element('p', {}, texts.noChangeYet)];
-            return [element('p', {}, lines.long ? texts.checkTriesAll : told(texts.checkTries, { n: lines.patches }))];
+            if (lines.patches === 0 && !lines.long) return [element('p', {}, texts.scriptNoChangeYet)];
+            return [element('p', {}, lines.long ? texts.scriptCheckTriesAll : told(texts.scriptCheckTries, { n: lines.patches }))];
         }
         const fit = this.fit(this.patched);
         const [refused, applied] = [fit.refused.length, fit.all - fit.refused.length];
@@ -133,10 +135,11 @@ export class CheckCard {
         const saves = applied > 0 || refused === 0;
         return [notice(tone, head, ...rest, saves && element('div', { class: 'row' }, apply)),
             refused > 0 && element('div', { class: 'tally' }, applied > 0 && (isShownToFit(fit)
-                ? tally('good-ink', say(texts.countFits, { n: applied })) : tally('', say(texts.countCanBeApplied, { n: applied }))),
-                tally('bad-ink', say(texts.countDoesNotFit, { n: refused }))),
+                ? tally('good-ink', say(texts.scriptCountFits, { n: applied })) : tally('', say(texts.scriptCountCanBeApplied,
+                    { n: applied }))),
+                tally('bad-ink', say(texts.scriptCountDoesNotFit, { n: refused }))),
             first >= 0 && element('div', { class: 'row next' },
-                button('slim', () => this.owner.goTo(first), told(texts.goToLine, { line: String(first + 1) })))];
+                button('slim', () => this.owner.goTo(first), told(texts.scriptGoToLine, { line: String(first + 1) })))];
     }
 
     /**
@@ -144,14 +147,14 @@ export class CheckCard {
      * @returns {Child[]}
      */
     footnote(ready) {
-        if (!ready) return [texts.fixErrors];
+        if (!ready) return [texts.scriptFixErrors];
         const outcomes = this.patched ? this.patched.outcomes : [];
         const applied = outcomes.filter(it => it.result === RESULT.OK).length;
         if (this.already || (applied === 0 && outcomes.length > 0)) return [];
         const name = this.app.image ? this.app.image.name : '';
         const isWhole = applied === outcomes.length || (this.patched !== null && !isShownToFit(this.fit(this.patched)));
-        const saves = isWhole ? texts.savesNewImage : told(texts.savesWhatFits, { n: applied });
-        return [`${saves} `, ...say(texts.staysAsItIs, { name: element('b', {}, nameOf(name)) })];
+        const saves = isWhole ? texts.scriptSavesNewImage : told(texts.scriptSavesWhatFits, { n: applied });
+        return [`${saves} `, ...say(texts.scriptStaysAsItIs, { name: element('b', {}, nameOf(name)) })];
     }
 
     /** Whether the script can be checked and saved: it has no fault, and neither is done already. */
@@ -201,7 +204,7 @@ export class CheckCard {
         try {
             await this.app.runOnImage(async (signal, cancel) => {
                 this.cancel = cancel;
-                const bar = jobBar(texts.checkingScript, cancel);
+                const bar = jobBar(texts.scriptCheckingScript, cancel);
                 fill(this.body, ...bar.parts);
                 const work = { reader: image.reader, base: image.base, script: lines.text(), carry: this.carry.checked };
                 const patched = await checkWork(this.app, work, { signal, progress: bar.sectors });
@@ -252,5 +255,5 @@ export class CheckCard {
  * @param {unknown} error
  */
 function failureOf(error) {
-    return notice('bad', messageOf(error), adviceOf(error, texts.nothingSavedOpenAgain));
+    return notice('bad', messageOf(error), adviceOf(error, texts.scriptNothingSavedOpenAgain));
 }

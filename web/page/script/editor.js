@@ -190,8 +190,8 @@ export class ScriptEditor {
         const wrong = this.lines.isWrong(i);
         const words = this.lines.wordsAt(i);
         if (this.area.value !== text) this.area.value = text;
-        const where = told(texts.lineOfScript, { line: String(i + 1), all: String(this.lines.lines.length) });
-        this.area.setAttribute('aria-label', words ? told(texts.lineSays, { where, words }) : where);
+        const where = told(texts.scriptLineOfScript, { line: String(i + 1), all: String(this.lines.lines.length) });
+        this.area.setAttribute('aria-label', words ? told(texts.scriptLineSays, { where, words }) : where);
         this.now.className = `now${wrong ? ' bad' : ''}${this.isChosen(i) ? ' chosen' : ''}`;
         if (this.area.parentNode === null) this.now.append(element('span', { class: 'src' }, this.area));
         const source = /** @type {Element} */ (this.area.parentNode);

@@ -17,7 +17,7 @@ const MOST_BYTES_SHOWN = 400;
 const EXAMPLE = 'set 4711 26 5374617274 was 8358835E81';
 
 /** @type {Record<string, string>} words of texts that open their notes */
-const NOTED = { block: texts.blockWord, offset: texts.offsetWord };
+const NOTED = { block: texts.scriptBlockWord, offset: texts.sectorOffsetWord };
 
 /**
  * Fills the strip.
@@ -27,7 +27,7 @@ const NOTED = { block: texts.blockWord, offset: texts.offsetWord };
  * @param {Element} strip
  */
 export function explainLine(app, lines, i, strip) {
-    fill(strip, element('b', {}, `${told(texts.lineMeans, { line: String(i + 1) })} `), ...meaningOf(app, lines, i));
+    fill(strip, element('b', {}, `${told(texts.scriptLineMeans, { line: String(i + 1) })} `), ...meaningOf(app, lines, i));
 }
 
 /**
@@ -39,15 +39,15 @@ export function explainLine(app, lines, i, strip) {
 function meaningOf(app, lines, i) {
     const { content, text } = lines.lines[i];
     if (isFault(content)) return withTerms(helpOfFault(lines, i).text);
-    if (content === CONTENT.NOTHING) return [wordsOf(text).length === 0 ? texts.emptyLine : texts.commentLine];
+    if (content === CONTENT.NOTHING) return [wordsOf(text).length === 0 ? texts.scriptEmptyLine : texts.scriptCommentLine];
     const patch = lines.patchAt(i);
     if (patch === null) {
         const example = element('span', { class: 'mono' }, EXAMPLE);
-        return [...say(texts.headMeans, { example }), element('br'), ...withTerms(texts.exampleMeans)];
+        return [...say(texts.scriptHeadMeans, { example }), element('br'), ...withTerms(texts.scriptExampleMeans)];
     }
     const files = app.files ? filesAt(app.files.files, patch.block, patch.offset) : [];
-    return [...withTerms(patchInWords(patch, shownPaths(files, texts.andAnotherFile))),
-        lines.isWrong(i) && element('b', { class: 'bad-ink' }, ` ${told(texts.patchIsRefused, { words: lines.wordsAt(i) })}`),
+    return [...withTerms(patchInWords(patch, shownPaths(files, texts.scriptAndAnotherFile))),
+        lines.isWrong(i) && element('b', { class: 'bad-ink' }, ` ${told(texts.scriptPatchIsRefused, { words: lines.wordsAt(i) })}`),
         pairOf(app, patch)];
 }
 
@@ -70,5 +70,5 @@ function pairOf(app, { fresh, old }) {
     const encoding = chosenEncoding(app);
     const row = (/** @type {string} */ name, /** @type {Uint8Array} */ bytes) => [element('span', { class: 'quiet' }, name),
         element('span', { class: 'mono' }, shownText(encoding.text(bytes.subarray(0, MOST_BYTES_SHOWN))))];
-    return element('div', { class: 'pair' }, ...row(texts.newTextShort, fresh), ...old ? row(texts.oldText, old) : []);
+    return element('div', { class: 'pair' }, ...row(texts.scriptNewTextShort, fresh), ...old ? row(texts.scriptOldText, old) : []);
 }

@@ -57,10 +57,10 @@ export function isShownToFit({ named, namedRefused }) {
  */
 function whyNot(fit) {
     return reasonsOf(fit.all, fit.refused, {
-        [RESULT.DIFFERS]: isShownToFit(fit) ? '' : texts.anotherRelease,
-        [RESULT.DAMAGED]: texts.repairOrCarry,
-        [RESULT.NOT_MODE1]: texts.anotherTrack,
-        [RESULT.NO_BLOCK]: texts.anotherTrackOrBase,
+        [RESULT.DIFFERS]: isShownToFit(fit) ? '' : texts.scriptAnotherRelease,
+        [RESULT.DAMAGED]: texts.scriptRepairOrCarry,
+        [RESULT.NOT_MODE1]: texts.scriptAnotherTrack,
+        [RESULT.NO_BLOCK]: texts.scriptAnotherTrackOrBase,
     }).join(' ');
 }
 
@@ -73,22 +73,23 @@ function whyNot(fit) {
  */
 export function fitWords(name, image, fit) {
     const { all, refused: { length: left }, named, already } = fit;
-    const parts = { script: name === '' ? texts.theScript : nameOf(name), image: nameOf(image) };
-    if (all === 0) return { tone: 'plain', head: say(texts.hasNoChange, parts), rest: [texts.wouldBeCopy] };
+    const parts = { script: name === '' ? texts.scriptTheScript : nameOf(name), image: nameOf(image) };
+    if (all === 0) return { tone: 'plain', head: say(texts.scriptHasNoChange, parts), rest: [texts.scriptWouldBeCopy] };
     if (already) {
-        return { tone: 'good', head: say(texts.isPatchedAlready, { image: parts.image }),
-            rest: say(texts.changesStandThere, { script: parts.script, n: all }) };
+        return { tone: 'good', head: say(texts.scriptIsPatchedAlready, { image: parts.image }),
+            rest: say(texts.scriptChangesStandThere, { script: parts.script, n: all }) };
     }
-    if (left === all) return { tone: 'bad', head: say(texts.noChangeFits, { ...parts, n: all }), rest: [whyNot(fit)] };
-    const without = left === 0 ? [] : [whyNot(fit), told(texts.savedWithout, { n: left })];
+    if (left === all) return { tone: 'bad', head: say(texts.scriptNoChangeFits, { ...parts, n: all }), rest: [whyNot(fit)] };
+    const without = left === 0 ? [] : [whyNot(fit), told(texts.scriptSavedWithout, { n: left })];
     if (named === 0) {
-        return { tone: 'warn', head: say(texts.nothingShowsFit, { ...parts, n: all }),
-            rest: [[told(texts.namesNone, { n: all }), ...without].join(' ')] };
+        return { tone: 'warn', head: say(texts.scriptNothingShowsFit, { ...parts, n: all }),
+            rest: [[told(texts.scriptNamesNone, { n: all }), ...without].join(' ')] };
     }
     if (!isShownToFit(fit)) {
-        return { tone: 'bad', head: say(texts.noNamedFits, { ...parts, n: named }),
-            rest: [`${whyNot(fit)} ${told(texts.othersNameNone, { n: all - named })}`] };
+        return { tone: 'bad', head: say(texts.scriptNoNamedFits, { ...parts, n: named }),
+            rest: [`${whyNot(fit)} ${told(texts.scriptOthersNameNone, { n: all - named })}`] };
     }
-    if (left === 0) return { tone: 'good', head: say(texts.allChangesFit, { ...parts, n: all }), rest: [] };
-    return { tone: 'warn', head: say(texts.someChangesFit, { ...parts, fitting: all - left, all, n: left }), rest: [without.join(' ')] };
+    if (left === 0) return { tone: 'good', head: say(texts.scriptAllChangesFit, { ...parts, n: all }), rest: [] };
+    return { tone: 'warn', head: say(texts.scriptSomeChangesFit, { ...parts, fitting: all - left, all, n: left }),
+        rest: [without.join(' ')] };
 }

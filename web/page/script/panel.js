@@ -54,7 +54,7 @@ class ScriptPanel {
         this.unshown = element('div');
         this.undoing = { bar: element('div', { class: 'pad stack' }), said: said('pad') };
         this.head = element('header', {});
-        this.log = element('section', { class: 'card', 'aria-label': texts.logOfCheck, hidden: true });
+        this.log = element('section', { class: 'card', 'aria-label': texts.scriptLogOfCheck, hidden: true });
         this.side = element('div', { class: 'side' });
         this.opening = element('input', { type: 'file', class: 'hide', tabindex: -1, 'aria-label': texts.scriptToOpen,
             change: () => this.open() });
@@ -115,7 +115,7 @@ class ScriptPanel {
             this.load(null);
             turnBack(this.editor, line);
         };
-        showNotice('warn', texts.scriptReplacedYours, element('div', { class: 'row' }, button('slim', back, texts.bringItBack)));
+        showNotice('warn', texts.scriptReplacedYours, element('div', { class: 'row' }, button('slim', back, texts.scriptBringItBack)));
     }
 
     changed() {
@@ -130,7 +130,7 @@ class ScriptPanel {
         this.isOld = false;
         const { long } = this.lines;
         this.editor.box.hidden = this.strip.hidden = long !== null;
-        fill(this.unshown, long && notice('plain', texts.linesNotShown, LONG));
+        fill(this.unshown, long && notice('plain', texts.scriptLinesNotShown, LONG));
         this.editor.draw();
         this.drawSide();
         this.explain();
@@ -140,27 +140,29 @@ class ScriptPanel {
         const { lines, app } = this;
         const { name } = lines;
         const fault = lines.faults > 0;
-        const undo = button('slim bare', () => void makeUndo(app, undo, this.undoing, lines, this.check.carry.checked), texts.undoScript);
+        const undo = button('slim bare', () => void makeUndo(app, undo, this.undoing, lines, this.check.carry.checked),
+            texts.scriptUndoScript);
         setDisabled(undo, fault || app.image === null || (lines.patches === 0 && !lines.long));
-        fill(this.head, element('h2', { class: name ? 'mono' : '' }, name ? nameOf(name) : texts.newScript),
+        fill(this.head, element('h2', { class: name ? 'mono' : '' }, name ? nameOf(name) : texts.scriptNewScript),
             element('span', { class: `tag${fault ? ' bad' : ''}` }, this.amount()),
             this.isLost() && element('span', { class: 'tag warn' }, texts.scriptNotSaved),
-            button('slim bare', () => this.opening.click(), texts.openOther),
-            keyed('save', button('slim bare', () => this.save(), texts.saveScript)), undo);
+            button('slim bare', () => this.opening.click(), texts.frameOpenOther),
+            keyed('save', button('slim bare', () => this.save(), texts.scriptSaveScript)), undo);
         const count = byId('count-script');
         count.hidden = !fault && lines.patches === 0;
         count.className = `count${fault ? ' bad' : ''}`;
-        const [before, n, after] = say(fault ? texts.faultsOfScript : texts.changesOfScript, { n: lines.faults || lines.patches });
+        const [before, n, after] = say(fault ? texts.scriptFaultsOfScript : texts.scriptChangesOfScript, { n: lines.faults ||
+            lines.patches });
         fill(count, before, n, element('span', { class: fault ? 'long' : 'hide' }, after));
     }
 
     /** How many faults the script has, or how long it is. */
     amount() {
         const { faults, long, patches, version } = this.lines;
-        if (faults > 0) return told(texts.faultsOfScript, { n: faults });
-        if (long) return told(texts.charactersOfScript, { n: long.text.length });
-        const words = told(texts.changesOfScript, { n: patches });
-        return version ? told(texts.changesAndVersion, { changes: words, version: this.lines.versionName() }) : words;
+        if (faults > 0) return told(texts.scriptFaultsOfScript, { n: faults });
+        if (long) return told(texts.scriptCharactersOfScript, { n: long.text.length });
+        const words = told(texts.scriptChangesOfScript, { n: patches });
+        return version ? told(texts.scriptChangesAndVersion, { changes: words, version: this.lines.versionName() }) : words;
     }
 
     drawSide() {
@@ -175,14 +177,14 @@ class ScriptPanel {
     emptyCard() {
         const { app } = this;
         const open = (/** @type {string} */ looks, /** @type {string} */ words) => button(looks, () => this.opening.click(), words);
-        const own = [button('', () => app.showPanel('text'), texts.findAndReplaceText),
-            button('', () => app.showPanel('disc'), texts.changeBytesOfSector)];
+        const own = [button('', () => app.showPanel('text'), texts.scriptFindAndReplaceText),
+            button('', () => app.showPanel('disc'), texts.scriptChangeBytesOfSector)];
         const hasImage = app.image !== null;
-        const next = hasImage && [element('p', {}, texts.nowOpenPatch),
-            element('div', { class: 'row next' }, open('main', texts.openThePatch))];
-        return element('section', { class: 'card pad stack' }, element('h2', {}, texts.noChangesYet), ...next || [],
-            element('p', {}, hasImage ? texts.orMakeChanges : texts.scriptIsList),
-            element('div', { class: 'stack tight start' }, ...own, !hasImage && open('', texts.openAScript)));
+        const next = hasImage && [element('p', {}, texts.scriptNowOpenPatch),
+            element('div', { class: 'row next' }, open('main', texts.scriptOpenThePatch))];
+        return element('section', { class: 'card pad stack' }, element('h2', {}, texts.scriptNoChangesYet), ...next || [],
+            element('p', {}, hasImage ? texts.scriptOrMakeChanges : texts.scriptIsList),
+            element('div', { class: 'stack tight start' }, ...own, !hasImage && open('', texts.scriptOpenAScript)));
     }
 
     explain() {
@@ -261,12 +263,13 @@ class ScriptPanel {
         const command = () => ({ command: element('span', { class: 'mono' }, `cdpatch ${verb}`) });
         const open = this.log.querySelector('details[open]') !== null;
         fill(this.log, element('details', { class: 'pad', open },
-            element('summary', {}, ...say(verb === 'check' ? texts.whatTrialPrints : texts.whatIsPrinted, command())),
-            element('div', { class: 'stack tight' }, element('pre', { class: 'log', tabindex: 0, 'aria-label': texts.logOfCheck }, shown),
-                element('div', { class: 'row' }, copyButton('slim bare', () => text, texts.copy, texts.whichLog),
-                    button('slim bare', () => downloadText(text, texts.logFile), texts.saveReport,
-                        element('span', { class: 'hide' }, texts.whichLog))),
-                element('p', { class: 'small quiet' }, ...say(texts.logIsPrinted, command())))));
+            element('summary', {}, ...say(verb === 'check' ? texts.scriptWhatTrialPrints : texts.scriptWhatIsPrinted, command())),
+            element('div', { class: 'stack tight' }, element('pre', { class: 'log', tabindex: 0, 'aria-label': texts.scriptLogOfCheck },
+                shown),
+                element('div', { class: 'row' }, copyButton('slim bare', () => text, texts.copy, texts.scriptWhichLog),
+                    button('slim bare', () => downloadText(text, texts.scriptLogFile), texts.discSaveReport,
+                        element('span', { class: 'hide' }, texts.scriptWhichLog))),
+                element('p', { class: 'small quiet' }, ...say(texts.scriptLogIsPrinted, command())))));
     }
 }
 

@@ -17,13 +17,13 @@ import { told } from '../texts/index.js';
 
 /** @type {Record<Verb, string>} */
 const VERB_FORMS = {
-    set: texts.formsOfSet,
-    fill: texts.formOfFill,
-    rebuild: texts.formOfRebuild,
-    address: texts.formOfAddress,
+    set: texts.scriptFormsOfSet,
+    fill: texts.scriptFormOfFill,
+    rebuild: texts.scriptFormOfRebuild,
+    address: texts.scriptFormOfAddress,
 };
 /** @type {Record<string, string>} by the first word of a line */
-const FORMS = { ...VERB_FORMS, cdpatch: texts.formsOfHead };
+const FORMS = { ...VERB_FORMS, cdpatch: texts.scriptFormsOfHead };
 
 /**
  * What a patch does. `where` is the file it writes in, or ''.
@@ -32,15 +32,15 @@ const FORMS = { ...VERB_FORMS, cdpatch: texts.formsOfHead };
  */
 export function patchInWords({ verb, block, offset, size, value, address, old }, where) {
     const at = { block: String(block), offset: String(offset) };
-    if (verb === VERB.REBUILD) return told(texts.calculateAnew, at);
-    if (verb === VERB.ADDRESS) return told(texts.writeAddress, { ...at, address: addressText(address) });
+    if (verb === VERB.REBUILD) return told(texts.scriptCalculateAnew, at);
+    if (verb === VERB.ADDRESS) return told(texts.scriptWriteAddress, { ...at, address: addressText(address) });
     const last = lastBlockOf({ block, offset, size });
-    const inBlock = told(texts.atOffset, at);
-    const inBlocks = last > block ? told(texts.overBorder, { place: inBlock, last: String(last) }) : inBlock;
+    const inBlock = told(texts.scriptAtOffset, at);
+    const inBlocks = last > block ? told(texts.scriptOverBorder, { place: inBlock, last: String(last) }) : inBlock;
     // The size is a word of a script, without separators: n is not written, but chooses the form.
-    const parts = { n: size, size: String(size), place: where ? told(texts.inFile, { place: inBlocks, file: where }) : inBlocks };
-    if (verb === VERB.FILL) return told(texts.writeByte, { ...parts, byte: value.toString(16).toUpperCase().padStart(2, '0') });
-    return told(old ? texts.writeIfOldThere : texts.writeWhatever, parts);
+    const parts = { n: size, size: String(size), place: where ? told(texts.scriptInFile, { place: inBlocks, file: where }) : inBlocks };
+    if (verb === VERB.FILL) return told(texts.scriptWriteByte, { ...parts, byte: value.toString(16).toUpperCase().padStart(2, '0') });
+    return told(old ? texts.scriptWriteIfOldThere : texts.scriptWriteWhatever, parts);
 }
 
 /** @type {WeakMap<ScriptLine, Help>} that of faulty lines: it is asked for with each key */
@@ -74,20 +74,20 @@ const FAULT_HELP = {
     [CONTENT.NO_HEAD]: helpOfHead,
     [CONTENT.UNKNOWN_VERB]: helpOfVerb,
     [CONTENT.WORD_COUNT]: ({ words: [verb] }) =>
-        helped(told(texts.lineHasForm, { form: FORMS[verb] || Object.values(VERB_FORMS).join('; ') })),
-    [CONTENT.BAD_NUMBER]: () => helped(texts.numbersAreDecimal),
+        helped(told(texts.scriptLineHasForm, { form: FORMS[verb] || Object.values(VERB_FORMS).join('; ') })),
+    [CONTENT.BAD_NUMBER]: () => helped(texts.scriptNumbersAreDecimal),
     [CONTENT.BAD_HEX]: helpOfHex,
     [CONTENT.BAD_LENGTH]: helpOfLength,
     [CONTENT.BAD_OFFSET]: helpOfOffset,
-    [CONTENT.BAD_ADDRESS]: () => helped(texts.addressIs),
-    [CONTENT.TOO_MANY]: () => helped(told(texts.mostPatches, { most: String(MOST_PATCHES) })),
+    [CONTENT.BAD_ADDRESS]: () => helped(texts.scriptAddressIs),
+    [CONTENT.TOO_MANY]: () => helped(told(texts.scriptMostPatches, { most: String(MOST_PATCHES) })),
 };
 
 /** @param {Faulty} faulty */
 function helpOfHead({ words: [first, version], line }) {
-    if (first.toLowerCase() !== 'cdpatch') return helped(texts.beginsWithHead, texts.addIt, headLine(), line);
+    if (first.toLowerCase() !== 'cdpatch') return helped(texts.scriptBeginsWithHead, texts.scriptAddIt, headLine(), line);
     const head = headLine(VERSIONS.some(({ name }) => name === version) ? version : NEWEST_VERSION.name);
-    return helped(texts.headHasNothingElse, told(texts.makeIt, { head }), head);
+    return helped(texts.scriptHeadHasNothingElse, told(texts.scriptMakeIt, { head }), head);
 }
 
 /**
@@ -98,37 +98,37 @@ function helpOfVerb({ words: [verb, ...rest], line, calls }) {
     const isKnown = (/** @type {string} */ text) => contentOf(calls, NEWEST_VERSION.content, text) !== CONTENT.UNKNOWN_VERB;
     if (isKnown(line)) {
         const head = headLine(NEWEST_VERSION.name);
-        const fix = { says: told(texts.makeIt, { head }), lines: [head], head: /** @type {const} */ (true) };
-        return { text: told(texts.verbNeedsHead, { verb, head }), fix };
+        const fix = { says: told(texts.scriptMakeIt, { head }), lines: [head], head: /** @type {const} */ (true) };
+        return { text: told(texts.scriptVerbNeedsHead, { verb, head }), fix };
     }
     const small = verb.toLowerCase();
-    if (small === 'cdpatch') return helped(texts.oneHeadLine);
+    if (small === 'cdpatch') return helped(texts.scriptOneHeadLine);
     const smallLine = [small, ...rest].join(' ');
-    if (isKnown(smallLine)) return helped(texts.verbsAreSmall, told(texts.isItVerb, { verb: small }), smallLine);
-    return helped(texts.theVerbsAre);
+    if (isKnown(smallLine)) return helped(texts.scriptVerbsAreSmall, told(texts.scriptIsItVerb, { verb: small }), smallLine);
+    return helped(texts.scriptTheVerbsAre);
 }
 
 /** @param {Faulty} faulty */
 function helpOfHex({ words, line, calls }) {
     const odd = words[faultyWord(calls, line, CONTENT.BAD_HEX)];
-    if (odd && lacksDigit(calls, odd)) return helped(told(texts.oddDigits, { digits: String(odd.length) }));
-    return helped(texts.bytesAreHexadecimal);
+    if (odd && lacksDigit(calls, odd)) return helped(told(texts.scriptOddDigits, { digits: String(odd.length) }));
+    return helped(texts.scriptBytesAreHexadecimal);
 }
 
 /** @param {Faulty} faulty */
 function helpOfLength({ words: [verb, , , fresh, , old] }) {
     const most = { most: String(PATCH_SIZE) };
-    if (verb === 'fill') return helped(told(texts.fillTakes, most));
-    if (!old || fresh.length === old.length) return helped(told(texts.patchWritesMost, most));
-    return helped(told(texts.newAndOldDiffer, { fresh: String(fresh.length / 2), old: String(old.length / 2) }));
+    if (verb === 'fill') return helped(told(texts.scriptFillTakes, most));
+    if (!old || fresh.length === old.length) return helped(told(texts.scriptPatchWritesMost, most));
+    return helped(told(texts.scriptNewAndOldDiffer, { fresh: String(fresh.length / 2), old: String(old.length / 2) }));
 }
 
 /** @param {Faulty} faulty */
 function helpOfOffset({ words }) {
     const [block, offset] = [Number(words[1]), Number(words[2])];
     const [there, left] = [block + Math.floor(offset / USER_SIZE), offset % USER_SIZE];
-    return helped(told(texts.offsetCounts, { size: String(USER_SIZE) }),
-        told(texts.isItThere, { block: String(there), offset: String(left) }), [words[0], there, left, ...words.slice(3)].join(' '));
+    return helped(told(texts.scriptOffsetCounts, { size: String(USER_SIZE) }),
+        told(texts.scriptIsItThere, { block: String(there), offset: String(left) }), [words[0], there, left, ...words.slice(3)].join(' '));
 }
 
 /**
@@ -141,11 +141,11 @@ function helpOfOffset({ words }) {
 export function helpOfRefusal(result, { base, sectors }, writer) {
     /** @type {Record<number, [string, string]>} */
     const help = {
-        [RESULT.NOT_MODE1]: [texts.onlyMode1, texts.openTheSector],
-        [RESULT.DAMAGED]: [texts.repairFirst, texts.openTheSector],
-        [RESULT.NO_BLOCK]: [told(texts.hasBlocks, { first: String(base), last: String(base + sectors - 1) }), ''],
-        [RESULT.DIFFERS]: [writer > 0 ? told(texts.lineHasChanged, { line: String(writer) }) : texts.wrongReleaseOrPlace,
-            texts.showThePlace],
+        [RESULT.NOT_MODE1]: [texts.scriptOnlyMode1, texts.textOpenTheSector],
+        [RESULT.DAMAGED]: [texts.scriptRepairFirst, texts.textOpenTheSector],
+        [RESULT.NO_BLOCK]: [told(texts.scriptHasBlocks, { first: String(base), last: String(base + sectors - 1) }), ''],
+        [RESULT.DIFFERS]: [writer > 0 ? told(texts.scriptLineHasChanged, { line: String(writer) }) : texts.scriptWrongReleaseOrPlace,
+            texts.scriptShowThePlace],
     };
     const [text, says] = help[result] || ['', ''];
     return { text, says };

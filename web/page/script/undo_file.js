@@ -37,19 +37,19 @@ export async function makeUndo(app, from, places, lines, carry) {
  * @param {boolean} carry
  */
 async function makeUndoAt(app, image, { bar: place, said }, lines, carry) {
-    const name = told(texts.undoFile, { script: (app.script.name || texts.scriptFile).replace(/\.[^.]*$/, '') });
+    const name = told(texts.scriptUndoFile, { script: (app.script.name || texts.scriptFile).replace(/\.[^.]*$/, '') });
     try {
         const made = await app.run((signal, cancel) => {
-            const bar = jobBar(texts.makingUndo, cancel);
-            fill(place, element('h3', {}, ...say(texts.makingFile, { name: nameOf(name) })), ...bar.parts);
+            const bar = jobBar(texts.scriptMakingUndo, cancel);
+            fill(place, element('h3', {}, ...say(texts.scriptMakingFile, { name: nameOf(name) })), ...bar.parts);
             const script = [new TextEncoder().encode(lines.text())];
             return undoScript(app, image.opened, script, { carry }, { signal, progress: bar.sectors });
         });
         if (made.script !== null) downloadBytes(made.script.pieces, name);
         sayAt(said, made.script === null ? noUndoWords(made) : savedWords(made, name, carry));
     } catch (error) {
-        sayAt(said, isCancelled(error) ? notice('plain', texts.jobCancelled, texts.noUndoMade)
-            : notice('bad', failedBy(error, 'script/refused') ? texts.scriptHasFault : sentence(error), texts.noUndoMade));
+        sayAt(said, isCancelled(error) ? notice('plain', texts.discJobCancelled, texts.scriptNoUndoMade)
+            : notice('bad', failedBy(error, 'script/refused') ? texts.scriptHasFault : sentence(error), texts.scriptNoUndoMade));
     } finally {
         fill(place);
     }
@@ -61,10 +61,10 @@ async function makeUndoAt(app, image, { bar: place, said }, lines, carry) {
  * @param {boolean} carry
  */
 function savedWords({ left, refused, script: { long } }, name, carry) {
-    const words = [refused > 0 && told(texts.undoButForRefused, { n: refused }),
-        left.length > 0 ? told(texts.undoButForDamage, { blocks: blocksText(left, 8) }) : texts.undoGetsOriginalBack,
-        carry && texts.undoWithCarry, long && texts.undoIsLong];
-    return notice(left.length > 0 || refused > 0 || long ? 'warn' : 'good', say(texts.fileSaved, { name: nameOf(name) }),
+    const words = [refused > 0 && told(texts.scriptUndoButForRefused, { n: refused }),
+        left.length > 0 ? told(texts.scriptUndoButForDamage, { blocks: blocksText(left, 8) }) : texts.scriptUndoGetsOriginalBack,
+        carry && texts.scriptUndoWithCarry, long && texts.scriptUndoIsLong];
+    return notice(left.length > 0 || refused > 0 || long ? 'warn' : 'good', say(texts.discFileSaved, { name: nameOf(name) }),
         words.filter(it => it).join(' '));
 }
 
@@ -73,6 +73,6 @@ function savedWords({ left, refused, script: { long } }, name, carry) {
  * @param {NoUndo} made
  */
 function noUndoWords(made) {
-    const why = made.why === 'refused' ? told(texts.allRefusedByImage, { n: made.refused }) : texts.imageHasItAlready;
-    return notice('bad', why, texts.openImageBefore);
+    const why = made.why === 'refused' ? told(texts.scriptAllRefusedByImage, { n: made.refused }) : texts.scriptImageHasItAlready;
+    return notice('bad', why, texts.scriptOpenImageBefore);
 }

@@ -22,7 +22,7 @@ export class SecondCard {
         this.changed = changed;
         this.tab = /** @type {Job} */ ('repair');
         this.title = element('h2', { id: 'second-title' });
-        this.tabs = element('div', { class: 'seg', role: 'tablist', 'aria-label': texts.whatWithSecond });
+        this.tabs = element('div', { class: 'seg', role: 'tablist', 'aria-label': texts.secondWhatWithSecond });
         this.said = said();
         this.body = element('div', { class: 'stack', role: 'tabpanel', id: 'second-body' });
         this.table = element('div');
@@ -88,19 +88,20 @@ export class SecondCard {
      * @param {Element} body of the job
      */
     failed(error, body) {
-        const again = element('div', { class: 'row' }, button('', () => this.choose(this.tab), texts.beginAgain));
-        const why = isCancelled(error) ? element('p', {}, texts.jobCancelled) : notice('bad', sentence(error), texts.nothingFoundOut);
+        const again = element('div', { class: 'row' }, button('', () => this.choose(this.tab), texts.secondBeginAgain));
+        const why = isCancelled(error) ? element('p', {}, texts.discJobCancelled) : notice('bad', sentence(error),
+            texts.secondNothingFoundOut);
         fill(body, why, again);
     }
 
     drawTabs() {
         /** @type {[Job, string][]} */
-        const names = [['repair', texts.repairFromIt], ['compare', texts.compareIt]];
+        const names = [['repair', texts.secondRepairFromIt], ['compare', texts.openCompareIt]];
         const { image, second } = this.app;
         // A script changes no length, and no sector's place.
         if (image === null || second === null || !isSameRange(image, second)) names.pop();
         this.tabs.hidden = names.length === 1;
-        setAttribute(this.body, 'aria-label', this.tab === 'repair' ? texts.repairFromIt : texts.compareIt);
+        setAttribute(this.body, 'aria-label', this.tab === 'repair' ? texts.secondRepairFromIt : texts.openCompareIt);
         fill(this.tabs, ...names.map(([tab, label]) => keyed(tab, element('button', {
             type: 'button', role: 'tab', 'data-tab': tab, 'aria-selected': String(tab === this.tab), 'aria-controls': 'second-body',
             click: () => this.choose(tab),

@@ -58,12 +58,12 @@ export class SecondCompare extends PairJob {
      */
     draw(marks, { sectors: all, onlyCodes, tail }) {
         const damaged = marks.count(1);
-        const tally = tallyOf([[all, all === 1 ? texts.sectorDiffers : texts.sectorsDiffer, ''],
-            [onlyCodes, texts.differInCodesOnly, ''], [damaged, texts.damagedInSecond, damaged > 0 ? 'bad-ink' : '']]);
-        const write = element('div', { class: 'row' }, button('main', () => this.write('save'), texts.saveTheScript),
-            button('', () => this.write('open'), texts.openInScript));
-        const same = notice('good', tail ? texts.bothSameSectors : texts.bothSameBytes);
-        const other = tail && notice('warn', texts.tailsDiffer, texts.noScriptChangesThem);
+        const tally = tallyOf([[all, all === 1 ? texts.secondSectorDiffers : texts.secondSectorsDiffer, ''],
+            [onlyCodes, texts.secondDifferInCodesOnly, ''], [damaged, texts.secondDamagedInSecond, damaged > 0 ? 'bad-ink' : '']]);
+        const write = element('div', { class: 'row' }, button('main', () => this.write('save'), texts.secondSaveTheScript),
+            button('', () => this.write('open'), texts.secondOpenInScript));
+        const same = notice('good', tail ? texts.secondBothSameSectors : texts.secondBothSameBytes);
+        const other = tail && notice('warn', texts.secondTailsDiffer, texts.secondNoScriptChangesThem);
         fill(this.body, tally, other, all === 0 ? same : write, this.place);
         this.drawTable();
     }
@@ -81,23 +81,23 @@ export class SecondCompare extends PairJob {
     drawTable() {
         const { found, app: { files, second } } = this;
         if (found === null || second === null || found.sectors === 0) return;
-        const names = [texts.columnHeader, texts.columnUserData, 'EDC', texts.columnParity];
-        const head = element('tr', {}, element('th', { class: 'n' }, term('block', texts.columnBlock)), ...names.map(name =>
-            element('th', { class: 'n' }, name === 'EDC' ? term('edc', name) : name)), element('th', {}, texts.columnFile));
+        const names = [texts.secondColumnHeader, texts.secondColumnUserData, 'EDC', texts.secondColumnParity];
+        const head = element('tr', {}, element('th', { class: 'n' }, term('block', texts.textColumnBlock)), ...names.map(name =>
+            element('th', { class: 'n' }, name === 'EDC' ? term('edc', name) : name)), element('th', {}, texts.textColumnFile));
         const fileOf = fileSayer(files);
         const rows = [...rowsOf(found.differing, MOST_ROWS)];
         const body = rows.map(({ block, fields, state }) => element('tr', {},
-            element('td', { class: 'n', 'data-l': texts.blockLabel },
+            element('td', { class: 'n', 'data-l': texts.discBlockLabel },
                 button('slim bare tiny', () => this.app.goTo(block, -1, true), String(block)),
-                state === SECOND_STATE.DAMAGED && element('span', { class: 'tag bad' }, texts.damagedInSecond)),
+                state === SECOND_STATE.DAMAGED && element('span', { class: 'tag bad' }, texts.secondDamagedInSecond)),
             ...fields.map((count, i) => element('td', { class: 'n', 'data-l': names[i] }, count)),
             element('td', { class: 'mono small wide' }, fileOf(block))));
         const left = found.sectors - rows.length;
-        const foot = left > 0 ? told(texts.moreBlocksWithoutRow, { n: left }) : texts.userDataWithoutEdc;
+        const foot = left > 0 ? told(texts.secondMoreBlocksWithoutRow, { n: left }) : texts.secondUserDataWithoutEdc;
         const save = button('slim bare', () => {
             downloadText(listOf(rowsOf(found.differing), fileSayer(files)), patchedName(second.name, 'differences', '.txt'));
-        }, texts.saveTheList);
-        fill(this.table, tableCard(texts.bytesThatDiffer, head, body, listOf(rows, fileSayer(files)), foot, save));
+        }, texts.secondSaveTheList);
+        fill(this.table, tableCard(texts.secondBytesThatDiffer, head, body, listOf(rows, fileSayer(files)), foot, save));
     }
 }
 

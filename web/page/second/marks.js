@@ -74,7 +74,7 @@ export class PairMarks {
  * @param {Run[]} unrepaired
  */
 export function repairMarks(survey, taken, unrepaired) {
-    const marks = new PairMarks(survey, looksOf(texts.nothingToDo, [texts.canBeRepaired, texts.cannotBeRepaired]));
+    const marks = new PairMarks(survey, looksOf(texts.secondNothingToDo, [texts.secondCanBeRepaired, texts.secondCannotBeRepaired]));
     marks.setRuns(taken, 0);
     marks.setRuns(unrepaired, 1);
     return marks;
@@ -82,7 +82,8 @@ export function repairMarks(survey, taken, unrepaired) {
 
 /** @param {SurveyMarks} survey */
 export function compareMarks(survey) {
-    return new PairMarks(survey, looksOf(texts.sameInBoth, [texts.differInSecond, texts.damagedInSecond, texts.differNotMode1]));
+    return new PairMarks(survey, looksOf(texts.secondSameInBoth, [texts.secondDifferInSecond, texts.secondDamagedInSecond,
+        texts.secondDifferNotMode1]));
 }
 
 /**

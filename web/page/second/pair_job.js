@@ -47,7 +47,7 @@ export class PairJob {
         this.begun = true;
         try {
             const found = await app.runPair((signal, cancel) => {
-                const bar = jobBar(texts.comparingBoth, cancel);
+                const bar = jobBar(texts.secondComparingBoth, cancel);
                 fill(this.body, ...bar.parts);
                 return compare({ signal, progress: bar.sectors });
             });

@@ -76,7 +76,7 @@ export class SecondRepair extends PairJob {
      * @param {Image} second
      */
     otherWay(image, second) {
-        const label = element('span', {}, ...say(texts.repairOtherFrom, { name: nameOf(second.name), other: nameOf(image.name) }));
+        const label = element('span', {}, ...say(texts.openRepairOtherFrom, { name: nameOf(second.name), other: nameOf(image.name) }));
         return button('', () => !refuseWhileSaving(this.app, [second.name]) && swapImages(this.app, second), label);
     }
 
@@ -90,9 +90,10 @@ export class SecondRepair extends PairJob {
         const save = () => void this.saver.save(pieces, blocksIn(repair.taken), unrepaired);
         const script = () => {
             const [fresh, name] = [pieceReader(image.reader, pieces), patchedName(image.name, 'repair', '.txt')];
-            void writeScript(this.app, this.place, { image, fresh, goal: texts.theRepairedImage, name });
+            void writeScript(this.app, this.place, { image, fresh, goal: texts.secondTheRepairedImage, name });
         };
-        return element('div', { class: 'row' }, button('main', save, texts.saveRepaired), button('', script, texts.writeRepairAsScript));
+        return element('div', { class: 'row' }, button('main', save, texts.secondSaveRepaired), button('', script,
+            texts.secondWriteRepairAsScript));
     }
 
     /** Lists what is not repaired, again as soon as the files are known. */

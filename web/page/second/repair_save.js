@@ -53,7 +53,7 @@ export class RepairSaver {
         const { size } = image.reader;
         try {
             const saved = await app.runSave((signal, cancel) => {
-                const bar = jobBar(texts.savingImage, cancel, { saves: true });
+                const bar = jobBar(texts.saveSavingImage, cancel, { saves: true });
                 fill(place, ...bar.parts);
                 this.saving = true;
                 const watch = { signal, progress: (/** @type {number} */ at) => bar.at(at, size) };
@@ -77,14 +77,14 @@ export class RepairSaver {
     savedWords({ name, streamed, file }, size, done) {
         const { app } = this;
         const what = element('p', {}, done);
-        const said = streamed ? notice('good', say(texts.fileSaved, { name: nameOf(name) }), what, texts.othersAsBefore)
-            : notice('good', say(texts.browserIsSaving, { name: nameOf(name) }), what,
-                told(texts.keepPageOpen, { size: megabytes(size) }));
+        const said = streamed ? notice('good', say(texts.discFileSaved, { name: nameOf(name) }), what, texts.secondOthersAsBefore)
+            : notice('good', say(texts.saveBrowserIsSaving, { name: nameOf(name) }), what,
+                told(texts.secondKeepPageOpen, { size: megabytes(size) }));
         if (file === null) return [said];
         const open = button('', () => {
             readImage(app, null);
             app.open([file], 'look');
-        }, texts.openNewImage);
+        }, texts.saveOpenNewImage);
         return [said, element('dl', { class: 'hashes' }, element('dt', {}, 'SHA-1'), hashOf(app, file, size)),
             element('div', { class: 'row' }, open)];
     }
@@ -99,7 +99,7 @@ export class RepairSaver {
 function hashOf(app, file, size) {
     const sum = element('dd', { id: 'repaired-sha1' }, '…');
     const progress = (/** @type {number} */ done) => {
-        sum.textContent = told(texts.hashPercent, { percent: Math.floor(100 * done / size) });
+        sum.textContent = told(texts.saveHashPercent, { percent: Math.floor(100 * done / size) });
     };
     sha1Of(app.parts, fileReader(file), app.pairing.signal, progress).then(sha1 => fill(sum, ...hashParts(sha1)),
         error => { sum.textContent = messageOf(error); });
@@ -113,7 +113,7 @@ function hashOf(app, file, size) {
  */
 function doneWords(taken, unrepaired) {
     const left = blocksIn(unrepaired);
-    const still = left === 0 ? texts.noneStillDamaged
-        : told(texts.stillDamaged, { n: left, blocks: blocksText(unrepaired, MOST_RUNS_NAMED) });
-    return `${told(texts.sectorsRepaired, { n: taken })} ${still}`;
+    const still = left === 0 ? texts.secondNoneStillDamaged
+        : told(texts.secondStillDamaged, { n: left, blocks: blocksText(unrepaired, MOST_RUNS_NAMED) });
+    return `${told(texts.secondSectorsRepaired, { n: taken })} ${still}`;
 }

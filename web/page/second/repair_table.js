@@ -28,14 +28,16 @@ export async function tableOfDamage(app, unrepaired) {
     if (rows.length === 0) return null;
     const count = blocksIn(unrepaired);
     const cells = rows.map(({ block, here, there, file }) => element('tr', {},
-        element('td', { class: 'n', 'data-l': texts.blockLabel },
+        element('td', { class: 'n', 'data-l': texts.discBlockLabel },
             button('slim bare tiny', () => app.goTo(block, -1, true), String(block))),
-        element('td', { class: 'mono small', 'data-l': texts.hereLabel }, here),
-        element('td', { class: 'mono small', 'data-l': texts.thereLabel }, there), element('td', { class: 'mono small wide' }, file)));
-    const head = element('tr', {}, element('th', { class: 'n' }, term('block', texts.columnBlock)), element('th', {}, texts.columnHere),
-        element('th', {}, texts.columnInSecond), element('th', {}, texts.columnFile));
+        element('td', { class: 'mono small', 'data-l': texts.secondHereLabel }, here),
+        element('td', { class: 'mono small', 'data-l': texts.secondThereLabel }, there), element('td', { class: 'mono small wide' },
+            file)));
+    const head = element('tr', {}, element('th', { class: 'n' }, term('block', texts.textColumnBlock)), element('th', {},
+        texts.secondColumnHere),
+        element('th', {}, texts.secondColumnInSecond), element('th', {}, texts.textColumnFile));
     const text = rows.map(({ block, here, there, file }) => `${block}\t${here}\t${there}\t${file}\n`).join('');
-    return tableCard(told(texts.countNotRepaired, { n: count }), head, cells, text, footOf(rows, count - rows.length));
+    return tableCard(told(texts.secondCountNotRepaired, { n: count }), head, cells, text, footOf(rows, count - rows.length));
 }
 
 /**
@@ -51,8 +53,8 @@ async function rowsOf(app, blocks) {
     for (const block of blocks) {
         const old = await readBytes(image.reader, (block - image.base) * SECTOR_SIZE, SECTOR_SIZE);
         const other = await sectorOfSecond(app, block);
-        const [here, there] = [old, other].map(sector => sector === null ? texts.notThere
-            : findingOf(calls, block, calls.survey(sector, block)) || texts.notOfMode1);
+        const [here, there] = [old, other].map(sector => sector === null ? texts.secondNotThere
+            : findingOf(calls, block, calls.survey(sector, block)) || texts.secondNotOfMode1);
         const same = other === null ? null : old.every((it, i) => it === other[i]);
         rows.push({ block, here, there, file: fileOf(block), same });
     }
@@ -65,11 +67,11 @@ async function rowsOf(app, blocks) {
  * @param {number} left how many blocks have no row
  */
 function footOf(rows, left) {
-    const more = left > 0 ? `${told(texts.moreHaveNoRow, { n: left })} ` : '';
+    const more = left > 0 ? `${told(texts.secondMoreHaveNoRow, { n: left })} ` : '';
     const same = rows.filter(row => row.same).map(row => row.block);
-    const several = same.length < 4 ? told(same.length === 1 ? texts.theBlock : texts.theBlocks, { blocks: same.join(', ') })
-        : told(texts.someOfBlocks, { n: same.length });
-    if (same.length > 0) return `${more}${told(texts.sameBytesIn, { blocks: several })} ${texts.thirdDump}`;
+    const several = same.length < 4 ? told(same.length === 1 ? texts.secondTheBlock : texts.secondTheBlocks, { blocks: same.join(', ') })
+        : told(texts.secondSomeOfBlocks, { n: same.length });
+    if (same.length > 0) return `${more}${told(texts.secondSameBytesIn, { blocks: several })} ${texts.secondThirdDump}`;
     const isPart = rows.some(row => row.same === null);
-    return more + (isPart ? texts.noSoundCopyThere : texts.differInEach);
+    return more + (isPart ? texts.secondNoSoundCopyThere : texts.secondDifferInEach);
 }

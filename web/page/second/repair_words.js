@@ -21,12 +21,12 @@ const MOST_RUNS_NAMED = 8;
  * @param {Image} image
  */
 export function refusedWords({ different: [different], same: [n], ranges: [{ common }] }, refused, { name }) {
-    if (refused.why === 'apart') return notice('bad', say(texts.isAnotherPart, { name: nameOf(name) }));
+    if (refused.why === 'apart') return notice('bad', say(texts.openIsAnotherPart, { name: nameOf(name) }));
     if (refused.shift !== null) return shiftedWords(refused.shift, name);
     const all = blocksIn(common);
-    const same = told(2 * n > all ? texts.mostAreSame : texts.someAreSame, { n, all });
-    return notice('bad', texts.notTheSameDisc, `${same} `,
-        told(texts.tooManyDiffer, { sectors: told(texts.soundAndDiffer, { n: different }) }));
+    const same = told(2 * n > all ? texts.secondMostAreSame : texts.secondSomeAreSame, { n, all });
+    return notice('bad', texts.secondNotTheSameDisc, `${same} `,
+        told(texts.secondTooManyDiffer, { sectors: told(texts.secondSoundAndDiffer, { n: different }) }));
 }
 
 /**
@@ -35,10 +35,10 @@ export function refusedWords({ different: [different], same: [n], ranges: [{ com
  */
 function shiftedWords({ by, first, isOther }, name) {
     const n = Math.abs(by);
-    const why = told(by > 0 ? texts.missingBefore : texts.tooManyBefore, { n });
+    const why = told(by > 0 ? texts.secondMissingBefore : texts.secondTooManyBefore, { n });
     const image = isOther ? [texts.secondImageItself] : nameOf(name);
-    const parts = { image, sectors: told(texts.countOfSectors, { n }), block: String(first) };
-    return notice('bad', say(texts.imageShifted, parts), told(texts.addressesSaySo, { why }));
+    const parts = { image, sectors: told(texts.textCountOfSectors, { n }), block: String(first) };
+    return notice('bad', say(texts.secondImageShifted, parts), told(texts.secondAddressesSaySo, { why }));
 }
 
 /**
@@ -51,16 +51,16 @@ function shiftedWords({ by, first, isOther }, name) {
 export function foundWords(repair, unrepaired, otherWay) {
     const { doubtful, unlike, different: [different], tails: [tail], ranges: [{ missing }] } = repair;
     const [taken, damaged] = [repair.taken, unrepaired].map(blocksIn);
-    const tally = tallyOf([[taken, texts.canBeRepaired, taken > 0 ? 'good-ink' : ''],
-        [damaged, texts.cannotBeRepaired, damaged > 0 ? 'bad-ink' : ''], [different, texts.intactButDifferent, '']]);
+    const tally = tallyOf([[taken, texts.secondCanBeRepaired, taken > 0 ? 'good-ink' : ''],
+        [damaged, texts.secondCannotBeRepaired, damaged > 0 ? 'bad-ink' : ''], [different, texts.secondIntactButDifferent, '']]);
     return [tally,
-        missing.length > 0 && notice('plain', told(texts.dumpLacksBlocks, { blocks: blocksText(missing) }), texts.theseStay),
-        taken === 0 && notice('plain', texts.repairsNothing, damaged === 0 ? texts.noneDamagedHere : texts.noneSoundThere,
+        missing.length > 0 && notice('plain', told(texts.secondDumpLacksBlocks, { blocks: blocksText(missing) }), texts.secondTheseStay),
+        taken === 0 && notice('plain', texts.secondRepairsNothing, damaged === 0 ? texts.secondNoneDamagedHere : texts.secondNoneSoundThere,
             element('div', { class: 'row' }, otherWay)),
-        doubtful.length > 0 && notice('warn', told(texts.otherDataHere, { n: blocksIn(doubtful) }),
-            told(texts.lookAtThemFirst, { blocks: blocksText(doubtful, MOST_RUNS_NAMED) })),
-        different > 0 && notice('warn', told(texts.soundInBoth, { n: different }), texts.perhapsAnotherRelease),
-        unlike.length > 0 && notice('warn', told(texts.notTestedDiffer, { n: blocksIn(unlike) }), texts.notTestedStay),
-        tail && notice('warn', texts.tailsDiffer, texts.theyStay),
-        element('p', { class: 'small quiet' }, texts.whatRepairDoes)];
+        doubtful.length > 0 && notice('warn', told(texts.secondOtherDataHere, { n: blocksIn(doubtful) }),
+            told(texts.secondLookAtThemFirst, { blocks: blocksText(doubtful, MOST_RUNS_NAMED) })),
+        different > 0 && notice('warn', told(texts.secondSoundInBoth, { n: different }), texts.secondPerhapsAnotherRelease),
+        unlike.length > 0 && notice('warn', told(texts.secondNotTestedDiffer, { n: blocksIn(unlike) }), texts.secondNotTestedStay),
+        tail && notice('warn', texts.secondTailsDiffer, texts.secondTheyStay),
+        element('p', { class: 'small quiet' }, texts.secondWhatRepairDoes)];
 }

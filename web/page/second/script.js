@@ -56,7 +56,7 @@ async function writeScriptAt(app, place, wanted, then, skipDamaged) {
     };
     try {
         const compared = await app.runPair((signal, cancel) => {
-            const bar = jobBar(texts.writingScript, cancel);
+            const bar = jobBar(texts.secondWritingScript, cancel);
             show(...bar.parts);
             return compareTrack(app, image.opened, fresh, { skipDamaged }, { signal, progress: bar.sectors });
         });
@@ -67,8 +67,8 @@ async function writeScriptAt(app, place, wanted, then, skipDamaged) {
         show(written(compared.script, compared.left, wanted, then === '' ? does : {}, said));
         if (then !== '' && app.second === second) does[then]?.();
     } catch (error) {
-        const rest = texts.noScriptWritten;
-        show(isCancelled(error) ? notice('plain', texts.jobCancelled, rest) : notice('bad', sentence(error), rest));
+        const rest = texts.secondNoScriptWritten;
+        show(isCancelled(error) ? notice('plain', texts.discJobCancelled, rest) : notice('bad', sentence(error), rest));
     }
     return undefined;
 }
@@ -86,7 +86,7 @@ function doesWith(app, { pieces, size, long }, name, said) {
     const save = () => {
         download(blob, name);
         Object.assign(last, { blob, name });
-        fill(said, ...say(texts.fileSaved, { name: nameOf(name) }));
+        fill(said, ...say(texts.discFileSaved, { name: nameOf(name) }));
     };
     const open = async () => {
         const text = await blob.text();
@@ -105,11 +105,13 @@ function doesWith(app, { pieces, size, long }, name, said) {
  */
 function written({ size, patches, long }, left, { image, goal }, { open, save }, said) {
     const it = { image: nameOf(image.name), goal };
-    const but = blocksIn(left) === 1 ? texts.givesButForOne : texts.givesButForSome;
-    const gives = left.length === 0 ? say(texts.givesExactly, it) : say(but, { ...it, blocks: blocksText(left, MOST_LEFT_NAMED) });
-    return notice(left.length === 0 ? 'good' : 'warn', told(texts.scriptHasPatches, { n: patches }),
-        told(texts.scriptHasBytes, { n: size }), ' ', ...gives, long && ` ${texts.appliedWithLong}`, said, element('div', { class: 'row' },
-            open !== undefined && button('main', open, texts.openInScript), save !== undefined && button('', save, texts.saveTheScript)));
+    const but = blocksIn(left) === 1 ? texts.secondGivesButForOne : texts.secondGivesButForSome;
+    const gives = left.length === 0 ? say(texts.secondGivesExactly, it) : say(but, { ...it, blocks: blocksText(left, MOST_LEFT_NAMED) });
+    return notice(left.length === 0 ? 'good' : 'warn', told(texts.secondScriptHasPatches, { n: patches }),
+        told(texts.secondScriptHasBytes, { n: size }), ' ', ...gives, long && ` ${texts.secondAppliedWithLong}`, said, element('div',
+            { class: 'row' },
+            open !== undefined && button('main', open, texts.secondOpenInScript), save !== undefined && button('', save,
+                texts.secondSaveTheScript)));
 }
 
 /**
@@ -117,7 +119,7 @@ function written({ size, patches, long }, left, { image, goal }, { open, save },
  * @param {Left[]} runs
  */
 function leftText(runs) {
-    return remarkText({ code: 'script/left', facts: { runs, image: texts.theSecondImage, most: MOST_LEFT_NAMED } });
+    return remarkText({ code: 'script/left', facts: { runs, image: texts.secondTheSecondImage, most: MOST_LEFT_NAMED } });
 }
 
 /**
@@ -129,10 +131,10 @@ function refusedScript({ left, tail }, again) {
     const others = left.filter(it => it.why !== 'damaged');
     if (others.length === 0 && !tail) {
         const count = blocksIn(damaged);
-        return notice('bad', told(texts.scriptNotWritten, { why: leftText(damaged) }),
-            texts.damageHidden, element('div', { class: 'row' }, button('', again, told(texts.leaveOut, { n: count }))));
+        return notice('bad', told(texts.secondScriptNotWritten, { why: leftText(damaged) }),
+            texts.secondDamageHidden, element('div', { class: 'row' }, button('', again, told(texts.secondLeaveOut, { n: count }))));
     }
     const first = others.filter(it => it.why === others[0].why);
-    const why = tail ? texts.becauseTailsDiffer : leftText(first);
-    return notice('bad', told(texts.scriptNotWritten, { why }), texts.useSecondItself);
+    const why = tail ? texts.secondBecauseTailsDiffer : leftText(first);
+    return notice('bad', told(texts.secondScriptNotWritten, { why }), texts.secondUseSecondItself);
 }

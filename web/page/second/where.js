@@ -7,7 +7,7 @@ import { shownName } from '../ui/index.js';
 
 /** @typedef {import('../../core/iso/files.js').VolumeFiles} VolumeFiles */
 
-const OWN = { descriptor: texts.volumeDescriptor, directory: texts.inDirectory };
+const OWN = { descriptor: texts.sectorVolumeDescriptor, directory: texts.sectorInDirectory };
 
 /**
  * Says of blocks in which file each lies. It looks through the files again only if a block lies elsewhere than the one before.
@@ -28,6 +28,6 @@ export function fileSayer(volume) {
         }
         if (name !== '') return name;
         const kind = own.get(block);
-        return kind ? OWN[kind] : texts.inNoFile;
+        return kind ? OWN[kind] : texts.sectorInNoFile;
     };
 }

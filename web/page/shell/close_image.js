@@ -14,8 +14,8 @@ export async function closeImage(app) {
     const { image } = app;
     if (image === null || refuseWhileSaving(app)) return;
     const lost = lostByClosing();
-    const isSure = lost.length === 0 || await asked(say(texts.closeImage, { name: nameOf(image.name) }), [lost.join(' ')],
-        [['close', [texts.closeAnyway]]], '') === 'close';
+    const isSure = lost.length === 0 || await asked(say(texts.imageCloseImage, { name: nameOf(image.name) }), [lost.join(' ')],
+        [['close', [texts.imageCloseAnyway]]], '') === 'close';
     if (!isSure || app.image !== image) return;
     app.close();
     byId('open-files').focus();

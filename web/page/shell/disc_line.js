@@ -62,7 +62,7 @@ function drawCounts({ survey }) {
     const count = byId('count-disc');
     count.hidden = findings === 0;
     const number = counted(findings);
-    fill(count, ...say(texts.findingsOfTab, { n: findings }).map(part =>
+    fill(count, ...say(texts.imageFindingsOfTab, { n: findings }).map(part =>
         part === '' || part === number ? part : element('span', { class: 'hide' }, part)));
 }
 
@@ -80,19 +80,20 @@ function facts(app, image, drawn) {
     const cell = (/** @type {string} */ name, /** @type {Child[]} */ ...value) => element('div', {}, element('dt', {}, name),
         element('dd', {}, ...value));
     const isMoved = image.base !== 0 || (survey !== null && survey.marks.isElsewhere());
-    const change = button('slim bare tiny change next', () => askBase(app, drawn), isMoved ? texts.changeBase : texts.setTheBase);
-    const own = isMoved ? [cell(texts.wordBase, term('base', String(image.base)), ' ', change)] : [];
+    const change = button('slim bare tiny change next', () => askBase(app, drawn), isMoved ? texts.imageChangeBase : texts.imageSetTheBase);
+    const own = isMoved ? [cell(texts.frameWordBase, term('base', String(image.base)), ' ', change)] : [];
     const sectors = (/** @type {number} */ mark, count = counts[mark]) => cell(capital(lookOf(mark).name), counted(count));
     if (mode1 > 0 || survey === null || !survey.over) own.push(sectors(MARK.MODE1, mode1));
     if (counts[MARK.MODE2] > 0) own.push(sectors(MARK.MODE2));
     if (counts[MARK.NOSYNC] > 0) own.push(sectors(MARK.NOSYNC));
-    if (findings > 0) own.push(cell(texts.findingsCount, element('b', { class: 'bad-ink' }, counted(findings))));
+    if (findings > 0) own.push(cell(texts.imageFindingsCount, element('b', { class: 'bad-ink' }, counted(findings))));
     if (panel !== 'disc') {
         const hash = cell('SHA-1', ...shaOf(image, drawn, 12));
         hash.className = 'hash';
         own.push(hash);
     }
-    const close = button('slim bare tiny', () => void closeImage(app), texts.close, element('span', { class: 'hide' }, texts.theImage));
+    const close = button('slim bare tiny', () => void closeImage(app), texts.close, element('span', { class: 'hide' },
+        texts.imageTheImage));
     const name = element('div', { class: 'row' }, element('p', { class: 'name' }, nameOf(image.name)), close,
         !isMoved && panel === 'disc' && change);
     return [element('div', {}, name, ...imageParts(app, image),
@@ -107,10 +108,10 @@ function facts(app, image, drawn) {
  */
 function imageParts(app, image) {
     const sheet = element('span', { class: 'mono' }, nameOf(image.from));
-    const from = image.from === '' ? [] : [' · ', ...say(texts.fromSheet, { sheet, tracks: tracksInWords(image) })];
+    const from = image.from === '' ? [] : [' · ', ...say(texts.imageFromSheet, { sheet, tracks: tracksInWords(image) })];
     const tracks = image.disc.tracks.filter(track => track.image !== null);
-    return [element('p', { class: 'small quiet num' }, told(texts.sizeAndSectors, { size: image.reader.size, n: image.sectors }),
-        image.tail > 0 && ` · ${told(texts.tailOf, { n: image.tail })}`, ...from), tracks.length > 1 && trackChoice(app, image)];
+    return [element('p', { class: 'small quiet num' }, told(texts.imageSizeAndSectors, { size: image.reader.size, n: image.sectors }),
+        image.tail > 0 && ` · ${told(texts.imageTailOf, { n: image.tail })}`, ...from), tracks.length > 1 && trackChoice(app, image)];
 }
 
 /**
@@ -124,9 +125,10 @@ function trackChoice(app, image) {
     const choice = element('select', { class: 'slim', change: chosen });
     for (const { number, type, image: own } of image.disc.tracks) {
         if (own === null) continue;
-        choice.append(element('option', { value: number, selected: number === image.number }, told(texts.trackOfType, { number, type })));
+        choice.append(element('option', { value: number, selected: number === image.number }, told(texts.imageTrackOfType, { number,
+            type })));
     }
-    return element('label', { class: 'row small quiet' }, ...say(texts.dataTrack, { choice }));
+    return element('label', { class: 'row small quiet' }, ...say(texts.imageDataTrack, { choice }));
 }
 
 /**
@@ -137,7 +139,7 @@ function trackChoice(app, image) {
  */
 function shaWaits({ reader }, { hashed }, length) {
     const percent = reader.size === 0 ? 0 : Math.floor(100 * hashed / reader.size);
-    const words = hashed < 0 ? texts.hashNotKnown : `(${told(texts.inPercent, { n: percent })})`;
+    const words = hashed < 0 ? texts.imageHashNotKnown : `(${told(texts.inPercent, { n: percent })})`;
     return words.padEnd(length).replace(/ /g, '\u00a0');
 }
 
@@ -151,9 +153,9 @@ function shaOf(image, drawn, length) {
     const { sha1, crc32 } = image;
     const [looks, shown, copies] = sha1 === '' ? ['quiet sha-wait', shaWaits(image, drawn, length), ' unseen']
         : ['sha1', length < sha1.length ? `${sha1.slice(0, length)}…` : sha1, ''];
-    const all = told(texts.sumsOfImage, { name: seen(image.name), size: String(image.reader.size), crc32, sha1 });
+    const all = told(texts.imageSumsOfImage, { name: seen(image.name), size: String(image.reader.size), crc32, sha1 });
     return [element('span', { class: `mono ${looks}` }, shown), ' ',
-        copyButton(`slim bare tiny${copies}`, () => all, texts.copyHashes)];
+        copyButton(`slim bare tiny${copies}`, () => all, texts.imageCopyHashes)];
 }
 
 /**
@@ -174,8 +176,8 @@ function askBase(app, drawn) {
         event.preventDefault();
         close();
         changeBase(app, Number(input.value));
-    } }, element('label', { for: 'base' }, texts.blockOfFirst), input, element('button', { class: 'btn slim main' }, texts.setIt),
-    button('slim bare', close, texts.cancel), element('p', { class: 'small quiet' }, texts.baseMeans));
+    } }, element('label', { for: 'base' }, texts.imageBlockOfFirst), input, element('button', { class: 'btn slim main' }, texts.imageSetIt),
+    button('slim bare', close, texts.cancel), element('p', { class: 'small quiet' }, texts.frameBaseMeans));
     fill(/** @type {Element} */ (byId('disc-line').firstElementChild), form);
     input.focus();
 }
@@ -189,8 +191,8 @@ function leadOf(app) {
     if (survey === null || image === null) return [];
     if (survey.over && survey.known < image.sectors) {
         const percent = Math.floor(100 * survey.known / image.sectors);
-        return [element('b', { class: 'warn-ink' }, told(texts.stoppedAt, { percent })),
-            button('slim', () => readImage(app, { ...image }), texts.readAgain)];
+        return [element('b', { class: 'warn-ink' }, told(texts.imageStoppedAt, { percent })),
+            button('slim', () => readImage(app, { ...image }), texts.imageReadAgain)];
     }
     if (!survey.over) return progressOf(app, image, survey);
     const [words, ...buttons] = verdict(app, image, survey);
@@ -206,8 +208,8 @@ function lackWords({ lack }) {
     const { missing, file, isSure } = lack;
     const [first, last] = [String(missing.first), String(missing.last)];
     const looks = { class: isSure ? 'bad-ink' : 'warn-ink' };
-    if (file !== '') return element('span', looks, ...say(texts.fileGoesOn, { first, last, file: nameOf(file) }));
-    return element('span', looks, isSure ? told(texts.volumeGoesOn, { first, last }) : told(texts.volumeMayGoOn, { last }));
+    if (file !== '') return element('span', looks, ...say(texts.imageFileGoesOn, { first, last, file: nameOf(file) }));
+    return element('span', looks, isSure ? told(texts.imageVolumeGoesOn, { first, last }) : told(texts.imageVolumeMayGoOn, { last }));
 }
 
 /**
@@ -223,8 +225,8 @@ function progressOf(app, { sectors, reader }, { known, began }) {
     bar.style.width = `${100 * part}%`;
     const [percent, done] = [Math.floor(100 * part), known * SECTOR_SIZE];
     const values = { 'aria-valuemin': 0, 'aria-valuemax': 100, 'aria-valuenow': percent };
-    return [element('b', {}, told(texts.readingAt, { percent })),
-        element('div', { class: 'progress', role: 'progressbar', 'aria-label': texts.readingDisc, ...values }, bar),
+    return [element('b', {}, told(texts.imageReadingAt, { percent })),
+        element('div', { class: 'progress', role: 'progressbar', 'aria-label': texts.imageReadingDisc, ...values }, bar),
         element('p', { class: 'facts' }, ...megabytesDone(done, reader.size, done / Math.max(seconds, 0.001)),
             part > 0 && timeLeft(Math.ceil(seconds / part - seconds))),
         jobEnd(() => app.reading.abort(), false)];
@@ -240,22 +242,22 @@ function progressOf(app, { sectors, reader }, { known, began }) {
 function verdict(app, image, { marks }) {
     const [mode1, damaged, lost, elsewhere] = [marks.mode1(), marks.damaged(), marks.counts[MARK.LOST], marks.counts[MARK.ADDRESS]];
     if (mode1 === 0) {
-        return [element('span', {}, element('b', { class: 'warn-ink' }, texts.noModeOne), ` ${texts.canBeLookedAt}`)];
+        return [element('span', {}, element('b', { class: 'warn-ink' }, texts.imageNoModeOne), ` ${texts.imageCanBeLookedAt}`)];
     }
     const base = otherBase({ base: image.base, addressed: image.opened.byAddresses.image.addressed }, marks);
     if (base !== null) return otherBaseVerdict(app, image, base, damaged);
     const others = [];
-    if (lost > 0) others.push(told(texts.lostSync, { n: lost }));
-    if (elsewhere > 0) others.push(told(texts.haveOtherAddress, { n: elsewhere }));
+    if (lost > 0) others.push(told(texts.imageLostSync, { n: lost }));
+    if (elsewhere > 0) others.push(told(texts.imageHaveOtherAddress, { n: elsewhere }));
     if (damaged + others.length === 0) {
-        return [element('span', {}, element('b', { class: 'good-ink' }, told(texts.allSound, { n: mode1 })),
-            ` ${told(texts.theirCodesFit, { n: mode1 })}`)];
+        return [element('span', {}, element('b', { class: 'good-ink' }, told(texts.imageAllSound, { n: mode1 })),
+            ` ${told(texts.imageTheirCodesFit, { n: mode1 })}`)];
     }
-    const codesFit = element('b', { class: 'good-ink' }, told(texts.codesFit, { sectors: modeOneSectors(mode1) }));
-    const said = damaged > 0 ? damageVerdict(marks, others) : say(texts.codesFitBut, { codesFit, others: others.join('; ') });
+    const codesFit = element('b', { class: 'good-ink' }, told(texts.imageCodesFit, { sectors: modeOneSectors(mode1) }));
+    const said = damaged > 0 ? damageVerdict(marks, others) : say(texts.imageCodesFitBut, { codesFit, others: others.join('; ') });
     return [element('span', {}, ...said),
-        damaged > 0 && app.second === null && button('slim', () => app.choose('repair'), texts.repairFromOther),
-        button('slim bare', () => app.goTo(image.base + placesOf(marks)[0].first, -1, true), texts.goToFirstPlace)];
+        damaged > 0 && app.second === null && button('slim', () => app.choose('repair'), texts.imageRepairFromOther),
+        button('slim bare', () => app.goTo(image.base + placesOf(marks)[0].first, -1, true), texts.imageGoToFirstPlace)];
 }
 
 /**
@@ -265,9 +267,10 @@ function verdict(app, image, { marks }) {
  */
 function damageVerdict(marks, others) {
     const hurt = placesOf(marks).filter(it => it.counts[MARK.EDC] + it.counts[MARK.PARITY] > 0);
-    const where = hurt.some(place => isAllOver(place, marks.known)) ? texts.allOverDisc : told(texts.inPlaces, { n: hurt.length });
-    const count = told(texts.damagedOf, { n: marks.damaged(), sectors: told(texts.countOfModeOne, { n: marks.mode1() }) });
-    return say(texts.damagedWhere, { damaged: element('b', { class: 'bad-ink' }, count), places: [where, ...others].join('; ') });
+    const where = hurt.some(place => isAllOver(place, marks.known)) ? texts.imageAllOverDisc : told(texts.imageInPlaces,
+        { n: hurt.length });
+    const count = told(texts.imageDamagedOf, { n: marks.damaged(), sectors: told(texts.imageCountOfModeOne, { n: marks.mode1() }) });
+    return say(texts.imageDamagedWhere, { damaged: element('b', { class: 'bad-ink' }, count), places: [where, ...others].join('; ') });
 }
 
 /**
@@ -279,8 +282,8 @@ function damageVerdict(marks, others) {
  * @returns {Child[]}
  */
 function otherBaseVerdict(app, image, base, damaged) {
-    const probably = told(texts.baseIsProbably, { base: String(base), own: String(image.base) });
-    return [element('span', {}, element('b', { class: 'warn-ink' }, texts.noAddressFits), ` ${probably}`,
-        damaged > 0 && ` ${told(texts.sectorsAreDamaged, { n: damaged })}`),
-    button('slim main', () => changeBase(app, base), told(texts.setBaseTo, { base: String(base) }))];
+    const probably = told(texts.imageBaseIsProbably, { base: String(base), own: String(image.base) });
+    return [element('span', {}, element('b', { class: 'warn-ink' }, texts.imageNoAddressFits), ` ${probably}`,
+        damaged > 0 && ` ${told(texts.imageSectorsAreDamaged, { n: damaged })}`),
+    button('slim main', () => changeBase(app, base), told(texts.imageSetBaseTo, { base: String(base) }))];
 }

@@ -14,11 +14,13 @@ export function mountHelp(app) {
     const version = app.calls.version();
     const number = `${Math.floor(version / 10000)}.${Math.floor(version / 100) % 100}.${version % 100}`;
     fill(byId('version'), `cdpatch ${number}`);
-    fill(byId('keys'), element('b', {}, texts.keys), element('dl', { class: 'keys' }, ...texts.KEYS.flatMap(keyRow)));
-    fill(byId('words'), element('b', {}, texts.wordsUsed), element('dl', { class: 'keys' }, ...wordRows()));
-    fill(byId('proved'), element('b', {}, texts.whatIsProved), ...paragraphs(texts.provedCode, texts.notProved, texts.scriptsWereApplied));
+    fill(byId('keys'), element('b', {}, texts.frameKeys), element('dl', { class: 'keys' }, ...texts.KEYS.flatMap(keyRow)));
+    fill(byId('words'), element('b', {}, texts.frameWordsUsed), element('dl', { class: 'keys' }, ...wordRows()));
+    fill(byId('proved'), element('b', {}, texts.frameWhatIsProved), ...paragraphs(texts.frameProvedCode, texts.frameNotProved,
+        texts.frameScriptsWereApplied));
     fill(byId('about'), element('b', {}, `cdpatch ${number}`),
-        ...paragraphs(texts.whatItIsFor, texts.pageIsOneFile, texts.triedIn, ...madeWith(app.parts.made)), ownHash(app), notices());
+        ...paragraphs(texts.frameWhatItIsFor, texts.framePageIsOneFile, texts.frameTriedIn, ...madeWith(app.parts.made)), ownHash(app),
+            notices());
     for (const note of document.querySelectorAll('[popover]')) {
         setAttribute(note, 'aria-label', note.children[0].textContent);
         note.prepend(element('button', { type: 'button', class: 'btn slim bare shut', popovertarget: note.id, popovertargetaction: 'hide' },
@@ -44,7 +46,7 @@ function keepTouches() {
 
 /** @param {string[]} tools and their versions */
 function madeWith(tools) {
-    return tools.length === 0 ? [] : [told(texts.madeWith, { tools: tools.join(', ') })];
+    return tools.length === 0 ? [] : [told(texts.frameMadeWith, { tools: tools.join(', ') })];
 }
 
 /** @param {...string} all */
@@ -76,7 +78,7 @@ function ownHash(app) {
         digits.textContent = '…';
         fill(digits, ...await ownDigits(app));
     });
-    return element('p', {}, ...say(texts.hashOfPage, { digits }), element('br'), texts.pageSaysItself);
+    return element('p', {}, ...say(texts.frameHashOfPage, { digits }), element('br'), texts.framePageSaysItself);
 }
 
 /**
@@ -86,7 +88,7 @@ function ownHash(app) {
 async function ownDigits({ calls }) {
     try {
         const sha256 = await sha256Of(new TextEncoder().encode(pageSource(calls)));
-        return sha256 === '' ? [texts.hashIsNotKnown] : hashParts(sha256);
+        return sha256 === '' ? [texts.frameHashIsNotKnown] : hashParts(sha256);
     } catch (error) {
         return [messageOf(error)];
     }
@@ -94,8 +96,8 @@ async function ownDigits({ calls }) {
 
 /** The notices of the crates that the module is made of. */
 function notices() {
-    const text = element('pre', { class: 'notices', tabindex: 0, 'aria-label': texts.notices });
-    const part = element('details', {}, element('summary', {}, texts.thirdPartyNotices), text);
+    const text = element('pre', { class: 'notices', tabindex: 0, 'aria-label': texts.frameNotices });
+    const part = element('details', {}, element('summary', {}, texts.frameThirdPartyNotices), text);
     part.addEventListener('toggle', async () => {
         if (text.textContent === '') text.textContent = await inflatedText(typeof JOINED === 'undefined' ? '' : JOINED.notices);
     });

@@ -19,15 +19,15 @@ export function tracksInWords({ name, sheet, disc }) {
     const { tracks, points, files } = sheetOf(sheet);
     const isAudio = (/** @type {{ type: string }} */ { type }) => type === 'AUDIO' || type === 'CDG';
     const audio = tracks.filter(isAudio);
-    const data = told(texts.dataTracks, { n: tracks.length - audio.length });
+    const data = told(texts.imageDataTracks, { n: tracks.length - audio.length });
     if (audio.length === 0) return [data];
     const own = audio.flatMap(track => points.filter(it => it.track === track && it.index === 1).map(it => files[it.file].name));
     const last = (/** @type {string} */ path) => path.replace(/^.*[/\\]/, '').toLowerCase();
     const others = [...new Set(own)].filter(it => last(it) !== last(name));
     const [few, more] = [namesOf(others.slice(0, MOST_NAMES)), others.length - MOST_NAMES];
     const missing = disc.tracks.some(({ file }) => file < 0);
-    const state = !missing ? texts.notForEditing : others.length === 1 ? texts.isNotHere : texts.notAllHere;
-    const where = others.length === 0 ? texts.inSameFile
-        : say(state, { names: more > 0 ? say(texts.namesAndMore, { names: few, n: more }) : few });
-    return [tracks.length > audio.length && `${data}, `, ...say(texts.audioTracks, { n: audio.length, where })];
+    const state = !missing ? texts.imageNotForEditing : others.length === 1 ? texts.imageIsNotHere : texts.imageNotAllHere;
+    const where = others.length === 0 ? texts.imageInSameFile
+        : say(state, { names: more > 0 ? say(texts.imageNamesAndMore, { names: few, n: more }) : few });
+    return [tracks.length > audio.length && `${data}, `, ...say(texts.imageAudioTracks, { n: audio.length, where })];
 }

@@ -40,7 +40,7 @@ export class AroundCard {
         this.app = app;
         this.columns = 0;
         this.shown = /** @type {{ hit: Hit, around: Around } | null} */ (null);
-        this.card = element('section', { class: 'card', 'aria-label': texts.bytesAround, hidden: true });
+        this.card = element('section', { class: 'card', 'aria-label': texts.textBytesAround, hidden: true });
         new ResizeObserver(() => {
             if (this.shown !== null && this.columns !== this.fitting()) this.draw(this.shown);
         }).observe(this.card);
@@ -68,11 +68,11 @@ export class AroundCard {
         this.columns = this.fitting() || 16;
         const label = columnLabel(encodingLabel(this.app.encoding), this.columns);
         const numbers = Array.from({ length: this.columns }, (_, i) => element('i', {}, i));
-        fill(this.card, element('header', {}, element('h2', {}, texts.bytesAround),
-            button('slim bare', () => this.app.goTo(hit.block, hit.offset, true), texts.openTheSector)),
+        fill(this.card, element('header', {}, element('h2', {}, texts.textBytesAround),
+            button('slim bare', () => this.app.goTo(hit.block, hit.offset, true), texts.textOpenTheSector)),
         element('div', { class: `hex around${this.columns === 8 ? ' cols8' : ''}`, tabindex: 0, role: 'group',
-            'aria-label': told(texts.bytesAroundPlace, { block: String(hit.block), offset: String(hit.offset) }) },
-        element('div', { class: 'head', 'aria-hidden': 'true' }, element('span', { class: 'o' }, texts.offsetLabel),
+            'aria-label': told(texts.textBytesAroundPlace, { block: String(hit.block), offset: String(hit.offset) }) },
+        element('div', { class: 'head', 'aria-hidden': 'true' }, element('span', { class: 'o' }, texts.textOffsetLabel),
             element('span', { class: 'b' }, ...numbers),
             element('span', { class: 't' }, label)), ...hexRows(this.app, hit, around, this.columns)));
     }

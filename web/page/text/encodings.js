@@ -38,7 +38,7 @@ export function chosenEncoding({ encoding, tables }) {
 export function encodingLabel(name) {
     const known = encodingOf(name);
     if (known === null) return shownName(name);
-    return known.hasCharacters ? known.label : texts.hexEncoding;
+    return known.hasCharacters ? known.label : texts.textHexEncoding;
 }
 
 /**
@@ -88,10 +88,10 @@ export async function takeTable(app, file) {
         sources.set(table, text);
         app.addTable(file.name, table);
         const leftOut = linesLeftOut(table);
-        const rest = leftOut === null ? texts.isEncodingNow : `${texts.isEncodingNow} ${capital(remarkText(leftOut))}.`;
-        return ['good', say(texts.fileLoaded, { name: nameOf(file.name) }), rest];
+        const rest = leftOut === null ? texts.textIsEncodingNow : `${texts.textIsEncodingNow} ${capital(remarkText(leftOut))}.`;
+        return ['good', say(texts.discFileLoaded, { name: nameOf(file.name) }), rest];
     } catch (error) {
-        return ['bad', say(texts.noReadableTable, { name: nameOf(file.name) }), messageOf(error)];
+        return ['bad', say(texts.textNoReadableTable, { name: nameOf(file.name) }), messageOf(error)];
     }
 }
 

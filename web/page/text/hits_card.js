@@ -50,7 +50,7 @@ export class HitsCard {
         this.reader = 0;
         this.body = element('tbody', {});
         oneStop(this.body, 'button');
-        this.card = element('section', { class: 'card', 'aria-label': texts.theHits });
+        this.card = element('section', { class: 'card', 'aria-label': texts.textTheHits });
     }
 
     /** @param {Search} search */
@@ -58,15 +58,16 @@ export class HitsCard {
         this.search = search;
         this.shown = ROWS_SHOWN;
         this.contexts = new Map();
-        const head = element('header', {}, element('h2', {}, told(texts.hitsFound, { n: search.count })),
-            element('span', { class: 'small quiet' }, told(texts.foundInSeconds, { seconds: search.seconds.toFixed(1) })),
+        const head = element('header', {}, element('h2', {}, told(texts.textHitsFound, { n: search.count })),
+            element('span', { class: 'small quiet' }, told(texts.textFoundInSeconds, { seconds: search.seconds.toFixed(1) })),
             search.count > search.hits.length && element('span', { class: 'tag warn' },
-                told(texts.onlyFirstListed, { n: search.hits.length })),
-            copyButton('slim bare', () => this.table(), texts.copyAsTable, ` ${texts.withFileAndText}`));
+                told(texts.textOnlyFirstListed, { n: search.hits.length })),
+            copyButton('slim bare', () => this.table(), texts.textCopyAsTable, ` ${texts.textWithFileAndText}`));
         const column = (/** @type {string} */ name, /** @type {Child} */ shown) => element('th',
             { scope: 'col', class: name === 'n' ? 'n' : '' }, shown);
-        const columns = element('tr', {}, column('n', term('block', texts.columnBlock)), column('n', term('offset', texts.columnOffset)),
-            column('', texts.columnFile), column('', texts.columnContext));
+        const columns = element('tr', {}, column('n', term('block', texts.textColumnBlock)), column('n', term('offset',
+            texts.textColumnOffset)),
+            column('', texts.textColumnFile), column('', texts.textColumnContext));
         const table = element('table', { class: 'hits' }, element('thead', {}, columns), this.body);
         fill(this.card, head, element('div', { class: 'scroll fit' }, table), this.more());
         this.draw();
@@ -80,7 +81,7 @@ export class HitsCard {
             next.remove();
             this.draw();
             this.card.append(...[this.more()].filter(it => it !== null).map(it => /** @type {Node} */ (it)));
-        }, told(texts.showMoreHits, { n: Math.min(ROWS_SHOWN, search.hits.length - this.shown) }));
+        }, told(texts.textShowMoreHits, { n: Math.min(ROWS_SHOWN, search.hits.length - this.shown) }));
         return element('div', { class: 'pad' }, next);
     }
 
@@ -100,15 +101,15 @@ export class HitsCard {
     row(hit, i, line) {
         const { app } = this;
         const files = app.files ? filesWith(app.files.files, hit) : [];
-        const tags = [line > 0 && element('span', { class: 'tag good' }, told(texts.inScriptLine, { line: String(line) })),
-            hit.offset + hit.size > USER_SIZE && element('span', { class: 'tag' }, texts.overBlockBorder),
-            app.files !== null && files.length === 0 && element('span', { class: 'tag' }, texts.inNoFile)];
+        const tags = [line > 0 && element('span', { class: 'tag good' }, told(texts.textInScriptLine, { line: String(line) })),
+            hit.offset + hit.size > USER_SIZE && element('span', { class: 'tag' }, texts.textOverBlockBorder),
+            app.files !== null && files.length === 0 && element('span', { class: 'tag' }, texts.sectorInNoFile)];
         const place = element('td', { class: 'wide' }, ...this.context(i), ...tags);
         const choose = button('plain', () => this.choose(i), hit.block,
-            element('span', { class: 'hide' }, `, ${told(texts.hitNumber, { number: String(i + 1) })}`));
+            element('span', { class: 'hide' }, `, ${told(texts.textHitNumber, { number: String(i + 1) })}`));
         const made = element('tr', { class: i === this.chosen ? 'on' : '', click: () => this.choose(i) },
-            element('td', { class: 'n', 'data-l': texts.blockLabel }, choose),
-            element('td', { class: 'n', 'data-l': texts.offsetLabel }, hit.offset),
+            element('td', { class: 'n', 'data-l': texts.discBlockLabel }, choose),
+            element('td', { class: 'n', 'data-l': texts.textOffsetLabel }, hit.offset),
             element('td', { class: 'mono small' }, element('bdi', {}, shownPaths(files, ' ') || '–')), place);
         if (i === this.chosen) made.setAttribute('aria-current', 'true');
         return keyed(String(i), made);

@@ -38,7 +38,7 @@ class TextPanel {
             } });
         this.choice = element('select', { id: 'find-encoding' });
         bindEncodings(app, this.choice);
-        this.table = element('input', { type: 'file', class: 'hide', tabindex: -1, accept: '.tbl,.txt', 'aria-label': texts.tableToLoad,
+        this.table = element('input', { type: 'file', class: 'hide', tabindex: -1, accept: '.tbl,.txt', 'aria-label': texts.textTableToLoad,
             change: () => this.load() });
         this.hint = element('p', { class: 'small quiet hint' });
         this.state = said();
@@ -75,22 +75,22 @@ class TextPanel {
 
     askCard() {
         const label = (/** @type {string} */ target, /** @type {string} */ text) => element('label', { for: target }, text);
-        return element('section', { class: 'card pad stack tight', 'aria-label': texts.findText }, element('div', { class: 'ask' },
-            element('div', {}, label('find-text', texts.findThisText), this.field),
-                element('div', {}, label('find-encoding', texts.findEncoding), this.choice),
-            button('', () => this.table.click(), texts.loadTableFile), button('main', () => this.find(), texts.findText)),
+        return element('section', { class: 'card pad stack tight', 'aria-label': texts.textFindText }, element('div', { class: 'ask' },
+            element('div', {}, label('find-text', texts.textFindThisText), this.field),
+                element('div', {}, label('find-encoding', texts.textFindEncoding), this.choice),
+            button('', () => this.table.click(), texts.textLoadTableFile), button('main', () => this.find(), texts.textFindText)),
         this.hint, this.search.place, this.texts.part);
     }
 
     /** The bytes of the text that is searched for, or why it has none. */
     drawHint() {
         if (this.field.value === '') return fill(this.hint,
-            ...say(texts.searchesEverySector, { data: term('user', texts.searchedData) }));
+            ...say(texts.textSearchesEverySector, { data: term('user', texts.textSearchedData) }));
         try {
             const bytes = chosenEncoding(this.app).units(this.field.value).map(([usual]) => hexOf(usual).replace(/..(?=.)/g, '$& '));
             this.field.setAttribute('aria-invalid', 'false');
             const shown = element('span', { class: 'mono' }, bytes.slice(0, 24).join(' '));
-            return fill(this.hint, ...say(texts.bytesAre, { n: bytes.join(' ').split(' ').length, bytes: shown }),
+            return fill(this.hint, ...say(texts.textBytesAre, { n: bytes.join(' ').split(' ').length, bytes: shown }),
                 bytes.length > 24 ? '…' : '');
         } catch (error) {
             this.field.setAttribute('aria-invalid', 'true');
@@ -129,15 +129,15 @@ class TextPanel {
         const { image } = app;
         const asked = { text: this.field.value, encoding: chosenEncoding(app) };
         if (asked.text === '') return this.field.focus();
-        if (image === null) return fill(this.state, notice('warn', texts.noImageIsOpen, texts.openDiscFirst));
+        if (image === null) return fill(this.state, notice('warn', texts.textNoImageIsOpen, texts.textOpenDiscFirst));
         if (this.field.getAttribute('aria-invalid') === 'true') return this.field.focus();
-        if (this.adding) return fill(this.state, notice('warn', texts.linesBeingMade, texts.searchWhenEnded));
+        if (this.adding) return fill(this.state, notice('warn', texts.textLinesBeingMade, texts.textSearchWhenEnded));
         this.forget();
         try {
             const found = await this.search.find(image, asked);
             if (found !== null) await this.take(found);
         } catch (error) {
-            fill(this.state, isCancelled(error) ? notice('plain', texts.jobCancelled, texts.searchNotEnded)
+            fill(this.state, isCancelled(error) ? notice('plain', texts.discJobCancelled, texts.textSearchNotEnded)
                 : notice('bad', messageOf(error)));
         }
         return undefined;
@@ -149,16 +149,16 @@ class TextPanel {
         fill(this.state);
         if (!this.isAsked(found)) return;
         if (found.count === 0) {
-            fill(this.state, notice('plain', told(texts.noHitIn, { encoding: encodingLabel(app.encoding) }),
-                told(texts.searchedToEnd, { sectors: told(texts.countOfSectors, { n: found.image.sectors }) }), ' ',
-                texts.anotherEncoding));
-            announce(texts.noHit);
+            fill(this.state, notice('plain', told(texts.textNoHitIn, { encoding: encodingLabel(app.encoding) }),
+                told(texts.textSearchedToEnd, { sectors: told(texts.textCountOfSectors, { n: found.image.sectors }) }), ' ',
+                texts.textAnotherEncoding));
+            announce(texts.textNoHit);
             return;
         }
         this.found = found;
         this.results.hidden = false;
         this.hits.take(found);
-        announce(told(texts.hitsFound, { n: found.count }));
+        announce(told(texts.textHitsFound, { n: found.count }));
         this.chosen = -1;
         await this.next();
         this.replace.input.focus();
@@ -213,7 +213,7 @@ class TextPanel {
             return;
         }
         await this.choose(this.chosen < 0 ? 0 : this.chosen);
-        sayAt(this.replace.said, notice('good', texts.allHitsInScript, texts.checkToTest));
+        sayAt(this.replace.said, notice('good', texts.textAllHitsInScript, texts.textCheckToTest));
     }
 
     /** @param {() => Promise<void>} job that makes lines, of which one runs at a time */
@@ -234,11 +234,11 @@ class TextPanel {
         if (found === null) return;
         try {
             app.addLines(textLines(await replaceBytes(app.calls, found.image, hit, old, fresh)));
-            announce(texts.addedToScript);
+            announce(texts.textAddedToScript);
             fill(this.replace.said);
             await this.next();
         } catch (error) {
-            sayAt(this.replace.said, notice('bad', texts.nothingAdded, sentence(error)));
+            sayAt(this.replace.said, notice('bad', texts.discNothingAdded, sentence(error)));
         }
     }
 
@@ -252,7 +252,7 @@ class TextPanel {
         if (found === null || image === null) return;
         try {
             const { lines, left } = await app.runOnImage((signal, cancel) => {
-                const bar = jobBar(texts.makingLines, cancel, { noun: texts.makingOfHits });
+                const bar = jobBar(texts.discMakingLines, cancel, { noun: texts.textMakingOfHits });
                 fill(this.replace.job, ...bar.parts);
                 const hits = found.hits.filter(hit => app.script.lineAt(hit) === 0);
                 const places = { image: found.image, encoding: chosenEncoding(app), hits };
@@ -261,12 +261,12 @@ class TextPanel {
             if (app.image !== image || this.found !== found) return;
             if (lines.length > 0) app.addLines(lines);
             await this.next();
-            const rest = left.length === 0 ? texts.checkToTest
-                : told(texts.hitsLeft, { n: left.length, why: left.slice(0, 5).join('; ') + (left.length > 5 ? '; …' : '.') });
-            sayAt(this.replace.said, notice(left.length > 0 ? 'warn' : 'good', told(texts.linesAdded, { n: lines.length }), rest));
+            const rest = left.length === 0 ? texts.textCheckToTest
+                : told(texts.textHitsLeft, { n: left.length, why: left.slice(0, 5).join('; ') + (left.length > 5 ? '; …' : '.') });
+            sayAt(this.replace.said, notice(left.length > 0 ? 'warn' : 'good', told(texts.discLinesAdded, { n: lines.length }), rest));
         } catch (error) {
-            const rest = texts.nothingAdded;
-            if (app.image === image) sayAt(this.replace.said, isCancelled(error) ? notice('plain', texts.jobCancelled, rest)
+            const rest = texts.discNothingAdded;
+            if (app.image === image) sayAt(this.replace.said, isCancelled(error) ? notice('plain', texts.discJobCancelled, rest)
                 : notice('bad', sentence(error), rest));
         } finally {
             fill(this.replace.job);

@@ -25,7 +25,7 @@ import { textLines } from './hits.js';
 
 const MOST_BOXES = 40;
 
-const SPACES = { '': '', space: texts.spaceFill, 'wide-space': texts.wideSpaceFill };
+const SPACES = { '': '', space: texts.textSpaceFill, 'wide-space': texts.textWideSpaceFill };
 
 /** What is filled with if there is no space, until somebody has chosen. */
 const NO_FILL = 'none';
@@ -43,9 +43,9 @@ export class ReplaceCard {
         this.target = /** @type {Target | null} */ (null);
         this.input = element('input', { type: 'text', class: 'mono', id: 'new-text', autocomplete: 'off', spellcheck: 'false',
             'aria-describedby': 'new-length', input: () => this.draw(), keydown: event => this.pressed(event) });
-        this.fill = element('select', { class: 'short', 'aria-label': texts.fillWith, change: () => this.draw() });
+        this.fill = element('select', { class: 'short', 'aria-label': texts.textFillWith, change: () => this.draw() });
         this.filled = /** @type {Encoding | null} the one to which the choices belong */ (null);
-        this.other = element('input', { type: 'text', class: 'short mono', 'aria-label': texts.byteToFillWith,
+        this.other = element('input', { type: 'text', class: 'short mono', 'aria-label': texts.textByteToFillWith,
             maxlength: 2, value: 'FF', hidden: true, input: () => this.draw() });
         this.head = element('header', {});
         this.old = element('div', {});
@@ -53,15 +53,15 @@ export class ReplaceCard {
         this.rest = element('div', { class: 'stack' });
         this.job = element('div', { class: 'stack' });
         this.said = said();
-        this.add = button('main', () => this.addLine(), texts.replaceText);
+        this.add = button('main', () => this.addLine(), texts.textReplaceText);
         this.all = button('', () => this.addAll(), '');
-        const filling = element('span', { class: 'row small quiet' }, texts.fillWith, this.fill, this.other);
-        const buttons = element('div', { class: 'row' }, this.add, this.all, button('slim bare', () => owner.skip(), texts.skipHit));
-        this.card = element('section', { class: 'card', 'aria-label': texts.replaceText, hidden: true }, this.head,
+        const filling = element('span', { class: 'row small quiet' }, texts.textFillWith, this.fill, this.other);
+        const buttons = element('div', { class: 'row' }, this.add, this.all, button('slim bare', () => owner.skip(), texts.textSkipHit));
+        this.card = element('section', { class: 'card', 'aria-label': texts.textReplaceText, hidden: true }, this.head,
             element('div', { class: 'pad stack' }, this.old,
-            element('div', {}, element('label', { for: 'new-text' }, texts.newText), this.input),
+            element('div', {}, element('label', { for: 'new-text' }, texts.textNewText), this.input),
             element('div', { class: 'row spread' }, this.length, filling), this.rest, buttons, this.job, this.said,
-            element('p', { class: 'small quiet' }, ...say(texts.replacesAndNext, { key: element('kbd', {}, texts.enterKey) }))));
+            element('p', { class: 'small quiet' }, ...say(texts.textReplacesAndNext, { key: element('kbd', {}, texts.sectorEnterKey) }))));
     }
 
     /** @param {Target | null} target */
@@ -86,8 +86,8 @@ export class ReplaceCard {
         if (this.filled === encoding) return;
         this.filled = encoding;
         const choices = fillsOf(encoding).map(({ bytes, name }) => [hexText(bytes), `${hexText(bytes, ' ')} ${SPACES[name]}`.trim()]);
-        if (spaceIn(encoding) === null) choices.unshift([NO_FILL, texts.chooseFill]);
-        fill(this.fill, ...[...choices, [OTHER_FILL, texts.anotherByte]].map(([value, label]) => element('option', { value }, label)));
+        if (spaceIn(encoding) === null) choices.unshift([NO_FILL, texts.textChooseFill]);
+        fill(this.fill, ...[...choices, [OTHER_FILL, texts.textAnotherByte]].map(([value, label]) => element('option', { value }, label)));
     }
 
     /** The bytes to fill with, or null if they are no byte. */
@@ -102,21 +102,21 @@ export class ReplaceCard {
         const { hit, number, of, old, left, line } = target;
         this.drawFills();
         this.other.hidden = this.fill.value !== OTHER_FILL;
-        fill(this.head, element('h2', {}, told(texts.replaceAtPlace, { block: String(hit.block), offset: String(hit.offset) })),
-            element('span', { class: 'small quiet' }, told(texts.hitOfHits, { number, count: of })));
-        fill(this.old, element('span', { class: 'label' }, told(texts.oldTextHas, { n: old.length })),
+        fill(this.head, element('h2', {}, told(texts.textReplaceAtPlace, { block: String(hit.block), offset: String(hit.offset) })),
+            element('span', { class: 'small quiet' }, told(texts.textHitOfHits, { number, count: of })));
+        fill(this.old, element('span', { class: 'label' }, told(texts.textOldTextHas, { n: old.length })),
             element('p', { class: 'mono old-text' }, shownText(chosenEncoding(this.app).text(old))));
         const { bytes, fault } = this.fresh();
         const filling = this.filling();
         const filled = filledTo(bytes, old.length, filling);
         const ready = filled !== null && fault === '' && this.input.value !== '';
         const replaces = this.rewritten(target, old) !== '';
-        fill(this.add, replaces ? told(texts.updateLine, { line: String(line) }) : texts.replaceText);
+        fill(this.add, replaces ? told(texts.textUpdateLine, { line: String(line) }) : texts.textReplaceText);
         this.add.classList.toggle('main', line === 0 || replaces);
         fill(this.length, ...this.lengthWords(bytes, old.length, fault));
         this.input.setAttribute('aria-invalid', String(fault !== '' || bytes.length > old.length));
         fill(this.rest, gauge(bytes, old.length, filling), ...this.advice(bytes, old, filled, fault, line));
-        fill(this.all, told(texts.replaceAll, { n: left }));
+        fill(this.all, told(texts.textReplaceAll, { n: left }));
         const had = document.activeElement === this.all;
         this.all.hidden = left < 2;
         if (had && left < 2) this.input.focus();
@@ -133,10 +133,10 @@ export class ReplaceCard {
         if (fault !== '') return [element('b', { class: 'bad-ink' }, fault)];
         const n = bytes.length;
         const more = n - size;
-        const has = more > 0 ? told(texts.bytesTooMany, { n, more: String(more) }) : told(texts.bytesOfNewText, { n });
+        const has = more > 0 ? told(texts.textBytesTooMany, { n, more: String(more) }) : told(texts.textBytesOfNewText, { n });
         const facts = { bytes: element('b', { class: more > 0 ? 'bad-ink' : 'good-ink' }, has), size: String(size) };
-        if (more < 0) return say(texts.moreToFill, { ...facts, more: String(-more) });
-        return say(more > 0 ? texts.forOldText : texts.justAsMany, facts);
+        if (more < 0) return say(texts.textMoreToFill, { ...facts, more: String(-more) });
+        return say(more > 0 ? texts.textForOldText : texts.textJustAsMany, facts);
     }
 
     /**
@@ -152,17 +152,17 @@ export class ReplaceCard {
         const more = bytes.length - old.length;
         const bad = (/** @type {string} */ text) => [element('p', { class: 'say bad' }, text)];
         if (fault !== '' || this.target === null) return [];
-        if (more > 0) return bad(`${texts.cannotMoveBytes} ${told(texts.shortenBy, { more: String(more) })}`);
-        if (this.input.value === '') return [element('p', { class: 'say plain' }, texts.typeNewText)];
-        if (filled === null) return bad(`${told(texts.cannotFill, { n: -more })} ${texts.chooseAnotherByte}`);
+        if (more > 0) return bad(`${texts.textCannotMoveBytes} ${told(texts.textShortenBy, { more: String(more) })}`);
+        if (this.input.value === '') return [element('p', { class: 'say plain' }, texts.textTypeNewText)];
+        if (filled === null) return bad(`${told(texts.textCannotFill, { n: -more })} ${texts.textChooseAnotherByte}`);
         const { image, hit } = this.target;
         const rewritten = this.rewritten(this.target, filled);
         const out = rewritten === '' ? textLines(untriedLines(image, { place: hit, old, fresh: filled })) : [rewritten];
         const its = { line: String(line) };
-        const label = rewritten ? told(texts.takesPlaceOfLine, its) : texts.goesIntoScript;
+        const label = rewritten ? told(texts.textTakesPlaceOfLine, its) : texts.textGoesIntoScript;
         return [element('div', {}, element('span', { class: 'label' }, label),
             ...out.map(text => element('p', { class: 'line-out' }, text))),
-        line > 0 && rewritten === '' && element('p', { class: 'say warn' }, told(texts.lineWritesHere, its))];
+        line > 0 && rewritten === '' && element('p', { class: 'say warn' }, told(texts.textLineWritesHere, its))];
     }
 
     /**
@@ -190,7 +190,7 @@ export class ReplaceCard {
         if (line === '') return this.owner.add(target.hit, filled, target.old);
         this.app.replaceLine(target.line, line);
         this.owner.skip();
-        sayAt(this.said, notice('good', told(texts.lineUpdated, { line: String(target.line) })));
+        sayAt(this.said, notice('good', told(texts.textLineUpdated, { line: String(target.line) })));
     }
 
     addAll() {

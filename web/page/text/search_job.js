@@ -42,7 +42,7 @@ export class SearchJob {
         try {
             return await app.runOnImage(async (signal, cancel) => {
                 this.cancel = cancel;
-                const bar = jobBar(texts.searching, cancel);
+                const bar = jobBar(texts.textSearching, cancel);
                 fill(this.place, ...bar.parts);
                 const began = performance.now();
                 const wanted = { text: asked.text, encodings: [asked.encoding], limit: MOST_HITS };

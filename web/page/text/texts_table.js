@@ -37,8 +37,8 @@ function codeWords(code) {
  * @param {import('../../core/script/merge_lines.js').Merged} merged
  */
 function mergedWords({ added, replaced, same }) {
-    return [added > 0 && told(texts.linesAdded, { n: added }), replaced > 0 && told(texts.linesReplaced, { n: replaced }),
-        same > 0 && told(texts.linesAsBefore, { n: same })].flatMap(words => words || []);
+    return [added > 0 && told(texts.discLinesAdded, { n: added }), replaced > 0 && told(texts.textLinesReplaced, { n: replaced }),
+        same > 0 && told(texts.textLinesAsBefore, { n: same })].flatMap(words => words || []);
 }
 
 /** The buttons, what they say, and the rows that do not fit. */
@@ -49,14 +49,14 @@ export class TextsTable {
         this.around = new AroundCard(app);
         /** @type {HTMLInputElement} */
         this.input = element('input', { type: 'file', class: 'hide', tabindex: -1, accept: '.tsv,.csv,.txt',
-            'aria-label': texts.tableToImport, change: () => this.chosen() });
+            'aria-label': texts.textTableToImport, change: () => this.chosen() });
         this.job = element('div', { class: 'stack' });
         this.said = element('div', { role: 'status' });
         this.left = element('div', { class: 'side' });
         this.part = element('div', { class: 'stack tight' }, element('div', { class: 'row texts-table' },
-            element('span', { class: 'small quiet' }, texts.allTextsAsTable),
-            button('slim', () => void this.save(), texts.exportTexts),
-            button('slim', () => this.input.click(), texts.importTable)), this.job, this.said, this.input);
+            element('span', { class: 'small quiet' }, texts.textAllTextsAsTable),
+            button('slim', () => void this.save(), texts.textExportTexts),
+            button('slim', () => this.input.click(), texts.textImportTable)), this.job, this.said, this.input);
         this.results = element('div', { class: 'two even', hidden: true }, this.left, element('div', { class: 'side' }, this.around.card));
         app.on('image', () => this.forget());
         app.addTaker(file => this.isTable(file));
@@ -78,7 +78,7 @@ export class TextsTable {
     async work(name, noun, unmade, job) {
         const { app } = this;
         const { image } = app;
-        if (image === null) return void fill(this.said, notice('warn', texts.noImageIsOpen, texts.openDiscFirst));
+        if (image === null) return void fill(this.said, notice('warn', texts.textNoImageIsOpen, texts.textOpenDiscFirst));
         return runAt(this.job, async () => {
             this.forget();
             try {
@@ -89,7 +89,7 @@ export class TextsTable {
                 });
                 if (app.image === image) fill(this.said, said);
             } catch (error) {
-                if (app.image === image) fill(this.said, isCancelled(error) ? notice('plain', texts.jobCancelled, unmade)
+                if (app.image === image) fill(this.said, isCancelled(error) ? notice('plain', texts.discJobCancelled, unmade)
                     : notice('bad', unmade, ...messageParts(error, [image.name])));
             } finally {
                 fill(this.job);
@@ -107,7 +107,7 @@ export class TextsTable {
 
     /** Saves the table that `cdscript texts --csv` prints. */
     save() {
-        return this.work(texts.lookingForTexts, '', texts.noTableSaved, async (image, bar, signal) => {
+        return this.work(texts.textLookingForTexts, '', texts.textNoTableSaved, async (image, bar, signal) => {
             const pieces = [];
             let all = 0;
             const watch = { signal, progress: bar.sectors };
@@ -115,11 +115,11 @@ export class TextsTable {
                 pieces.push(text);
                 all += count;
             }
-            if (all === 0) return notice('plain', texts.noTextFound, texts.anotherEncoding);
+            if (all === 0) return notice('plain', texts.textNoTextFound, texts.textAnotherEncoding);
             const name = `${image.name.replace(/\.[^.]*$/, '')} (texts).csv`;
             downloadBytes(pieces, name);
-            return notice('good', say(texts.fileSaved, { name: nameOf(name) }),
-                `${told(texts.tableHasTexts, { n: all })} ${texts.writeNewTexts}`);
+            return notice('good', say(texts.discFileSaved, { name: nameOf(name) }),
+                `${told(texts.textTableHasTexts, { n: all })} ${texts.textWriteNewTexts}`);
         });
     }
 
@@ -145,14 +145,14 @@ export class TextsTable {
      */
     take(file) {
         const { app } = this;
-        return this.work(texts.makingLines, texts.makingOfRows, texts.nothingAdded, async (image, bar, signal) => {
+        return this.work(texts.discMakingLines, texts.textMakingOfRows, texts.discNothingAdded, async (image, bar, signal) => {
             const encoding = chosenEncoding(app);
             const isAsked = app.tables.has(app.encoding);
             const encodings = isAsked ? [encoding] : [...new Set([...encoding.hasCharacters ? [encoding] : [], ...SEARCHED])];
             const options = { list: { name: file.name, reader: fileReader(file) }, encodings, isAsked, partial: true,
                 isAlso: (/** @type {ListRow} */ row) => isWritten(app, row) };
             const made = await importTable(app, image.opened, options, { signal, progress: bar.things });
-            if (made.script !== null && made.script.long) throw ownFault(texts.scriptLongerThanTaken);
+            if (made.script !== null && made.script.long) throw ownFault(texts.textScriptLongerThanTaken);
             const come = made.script === null ? [] : linesMade(made.script);
             const merge = made.script === null ? null : await mergeOf(app.script, come, signal);
             if (app.image !== image) return null;
@@ -171,27 +171,27 @@ export class TextsTable {
     madeNotice({ count, left: { length: left }, codes }, merged, withdrawn) {
         const fit = count - left;
         const isAny = merged.added + merged.replaced + merged.same + withdrawn.length > 0;
-        const added = mergedWords(merged).join(' ') || texts.nothingAdded;
-        const rows = fit + left === 0 ? '' : left === 0 ? told(texts.newTextsFit, { n: fit })
-            : told(texts.someTextsFit, { n: fit, others: told(texts.othersDoNot, { n: left }) });
+        const added = mergedWords(merged).join(' ') || texts.discNothingAdded;
+        const rows = fit + left === 0 ? '' : left === 0 ? told(texts.textNewTextsFit, { n: fit })
+            : told(texts.textSomeTextsFit, { n: fit, others: told(texts.textOthersDoNot, { n: left }) });
         const n = withdrawn.length;
         const lines = withdrawn.map(({ number }) => number).slice(0, MOST_ROWS).join(', ') + (n > MOST_ROWS ? ', …' : '');
-        const others = [n > 0 && told(texts.linesWithdrawn, { n, lines }), ...codes.slice(0, MOST_CODES).map(it => codeWords(it)),
-            codes.length > MOST_CODES && told(texts.moreCodesLeftOut, { n: codes.length - MOST_CODES })].flatMap(it => it || []);
+        const others = [n > 0 && told(texts.textLinesWithdrawn, { n, lines }), ...codes.slice(0, MOST_CODES).map(it => codeWords(it)),
+            codes.length > MOST_CODES && told(texts.textMoreCodesLeftOut, { n: codes.length - MOST_CODES })].flatMap(it => it || []);
         announce([added, rows, ...others].join(' '));
         return notice(left + others.length === 0 ? 'good' : 'warn', added, rows, ...others.map(it => element('p', {}, it)),
             isAny && element('div', { class: 'row' },
-                n > 0 && button('slim', () => this.remove(withdrawn), texts.removeLines), this.scriptButton()));
+                n > 0 && button('slim', () => this.remove(withdrawn), texts.textRemoveLines), this.scriptButton()));
     }
 
     scriptButton() {
-        return button('slim', () => this.app.showPanel('script'), texts.openScriptPanel);
+        return button('slim', () => this.app.showPanel('script'), texts.discOpenScriptPanel);
     }
 
     /** @param {ScriptLine[]} withdrawn */
     remove(withdrawn) {
         const n = this.app.changeScript(script => script.remove(new Set(withdrawn.map(({ text }) => text))));
-        const head = told(texts.linesRemoved, { n });
+        const head = told(texts.textLinesRemoved, { n });
         announce(head);
         fill(this.said, notice('good', head, element('div', { class: 'row' }, this.scriptButton())));
     }
@@ -204,12 +204,12 @@ export class TextsTable {
     showLeft(image, left) {
         this.results.hidden = left.length === 0;
         if (left.length === 0) return;
-        const names = [texts.columnRow, texts.columnPlace, texts.columnText, texts.columnWhyNot];
+        const names = [texts.textColumnRow, texts.textColumnPlace, texts.textColumnText, texts.textColumnWhyNot];
         const head = element('tr', {}, ...names.map(name => element('th', { scope: 'col' }, name)));
         const shown = left.slice(0, MOST_ROWS).map(it => this.leftRow(image, it));
-        const more = left.length > MOST_ROWS ? `${told(texts.moreRowsCopied, { n: left.length - MOST_ROWS })} ` : '';
-        fill(this.left, tableCard(told(texts.rowsDoNotFit, { n: left.length }), head, shown,
-            left.map(facts => `${remarkText({ code: 'list/row-left', facts })}\n`).join(''), more + texts.pressRow));
+        const more = left.length > MOST_ROWS ? `${told(texts.textMoreRowsCopied, { n: left.length - MOST_ROWS })} ` : '';
+        fill(this.left, tableCard(told(texts.textRowsDoNotFit, { n: left.length }), head, shown,
+            left.map(facts => `${remarkText({ code: 'list/row-left', facts })}\n`).join(''), more + texts.textPressRow));
     }
 
     /**
@@ -219,7 +219,7 @@ export class TextsTable {
     leftRow(image, { text: row, why }) {
         const { number, block, offset, text, fresh } = row;
         const open = element('button', { type: 'button', class: 'fold' }, number);
-        const place = element('td', { class: 'nowrap', 'data-l': texts.placeLabel }, block < 0 ? '–' : `${block}, ${offset}`);
+        const place = element('td', { class: 'nowrap', 'data-l': texts.textPlaceLabel }, block < 0 ? '–' : `${block}, ${offset}`);
         // A press on the button comes up to the row.
         return element('tr', { click: () => void this.showPlace(image, row) }, element('td', {}, open), place,
             element('td', { class: 'mono small wide' }, shownText(text), ' → ', shownText(fresh)),
