@@ -85,6 +85,15 @@ class Disc(PageTest):
 
     # ---- opening
 
+    def test_an_image_that_begins_before_block_0_is_not_said_to_be_audited_to_the_byte(self) -> None:
+        browser = self.opened(file_of(bytes(150 * SECTOR_SIZE) + discs.game()))
+        browser.click('#findings [data-tab=text]')
+        browser.wait('#findings', 'cdpatch counts from block 0')
+        browser.run("""const choice = document.querySelector('#findings select');
+            choice.value = 'list';
+            choice.dispatchEvent(new Event('change'));""")
+        browser.wait('#findings', 'to the byte')
+
     def test_it_opens_by_the_button_from_a_file_and_sends_nothing(self) -> None:
         image = scratched()
         browser = self.opened(file_of(image))

@@ -1,6 +1,7 @@
 // The card under the map: findings in places, files, runs of one kind, and the text that the program prints.
 
 import { auditText, kindRuns, listText } from '../../core/sectors/index.js';
+import { surveyedTrack } from '../../core/tasks/index.js';
 import { MARK, lookOf, lookOfKind } from '../app/index.js';
 import { downloadText } from '../save/index.js';
 import * as texts from '../texts/index.js';
@@ -228,7 +229,9 @@ export class Findings {
         const label = told(texts.discWhatProgramPrints, { verb: this.text });
         fill(this.body, element('pre', { class: 'report', tabindex: 0, 'aria-label': label }, shown,
             more > 0 && `\n${told(texts.discMoreLinesPrinted, { n: more })}`));
-        fill(this.foot, choice, element('span', {}, texts.discPrintedToTheByte));
+        const { image } = this.app;
+        const isExact = this.text === 'list' || image === null || surveyedTrack(image.opened).shift === 0;
+        fill(this.foot, choice, element('span', {}, isExact ? texts.discPrintedToTheByte : texts.discPrintedButForAddresses));
     }
 
     /** @param {HTMLElement} target in a row, all of which does what its button does */

@@ -1,6 +1,6 @@
-// The texts of the page in English. A translation is a file with the same keys. A key begins with the part of the page that shows it, unless
-// several parts do. The page replaces names in braces, which may be in any order. A text in several forms, separated by |, is used with the
-// number {n}: its forms are those of the language's counts, in the order zero, one, two, few, many, other.
+// The texts of the page in English. A translation is a file with the same keys. A key begins with the part of the page that shows it,
+// unless several parts do. The page replaces names in braces, which may be in any order. A text in several forms, separated by |, is used
+// with the number {n}: its forms are those of the language's counts, in the order zero, one, two, few, many, other.
 
 export const LANGUAGE = 'en-GB';
 
@@ -423,6 +423,8 @@ export const discWhichText = 'Which text';
 export const discWhatProgramPrints = 'What cdpatch {verb} prints';
 export const discMoreLinesPrinted = '… {n} more line: Copy and Save have all|… {n} more lines: Copy and Save have all';
 export const discPrintedToTheByte = 'What the command-line program cdpatch prints, to the byte.';
+export const discPrintedButForAddresses = 'What the command-line program cdpatch prints, except for addresses: cdpatch counts from ' +
+    'block 0, and this image begins before block 0.';
 
 // lists of known dumps
 export const discFileLoaded = 'Loaded: {name}';
