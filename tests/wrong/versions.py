@@ -351,11 +351,16 @@ def all_of(suite: str) -> list[Block]:
     return found
 
 
+def code_of(file: Path) -> bytes:
+    """A file without the lines that have only a comment: a change of these is not tried again."""
+    return re.sub(rb'(?m)^[ \t]*(//.*|# .*|/\*((?!\*/).)*(\*/)?|\*( .*|/)?)\n', b'', file.read_bytes())
+
+
 def total(suite: str, block: Block) -> str:
-    """The checksum of a wrong version: of its block, the file that it changes, and its test file."""
+    """The checksum of a wrong version: of its block, the code of the file that it changes, and that of its test file."""
     source = TOP / SOURCES[suite] / next((line[6:] for line in block.text.splitlines() if line.startswith('file: ')), '')
     tests = tests_beside(block.table)
-    return sum_of(block.text, *(file.read_bytes() for file in (source, tests) if file and file.is_file()))
+    return sum_of(block.text, *(code_of(file) for file in (source, tests) if file and file.is_file()))
 
 
 def selected(suite: str, given: argparse.Namespace) -> list[Block]:
