@@ -1,4 +1,4 @@
-// The page: its parts are put together and started.
+// Entry point of the page: creates the app, mounts its panels, and starts it.
 
 import { Calls } from '../core/module/index.js';
 import { App, crewOf, packedParts } from './app/index.js';
@@ -41,7 +41,7 @@ export async function startPage(awaited) {
     return app;
 }
 
-/** Another page could lie over this one, and have its buttons pressed by a user who does not see them. */
+/** Refuses to run in a frame, where another page could trick the user into pressing buttons unseen. */
 function refuseFrame() {
     fill(byId('not-started'), element('b', {}, texts.frameNotInsideAnother), texts.frameOpenTheFile);
     return null;

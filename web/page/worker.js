@@ -1,4 +1,4 @@
-// What the page does in a worker: ranges of jobs, and one long SHA-1. The joined page and its workers are one script.
+// Program of the page's workers: ranges of jobs, and one running SHA-1. The joined page and its workers share one script.
 
 import { UNREAD, serving, transfersOf } from '../core/crew/index.js';
 import { JOBS } from '../core/jobs/index.js';
@@ -6,15 +6,15 @@ import { Calls } from '../core/module/index.js';
 import { Sha1 } from './app/sha1.js';
 
 /** @typedef {import('../core/crew/jobs.js').JobName} JobName */
-/** @typedef {Uint8Array | { file: File, from: number, size: number }} Piece bytes, or a slice of a file, which is read here */
+/** @typedef {Uint8Array | { file: File, from: number, size: number }} Piece bytes, or a slice of a file that the worker reads itself */
 /** @typedef {import('../core/crew/jobs.js').Message<JobName, Piece>} Message */
 /**
- * What a worker is told: the module, before all else; a range of a job; or bytes that go into a SHA-1 after those before, null at the end.
+ * A message to a worker: the module, which comes first; a range of a job; or the next bytes of the running SHA-1, null at its end.
  * @typedef {{ module: WebAssembly.Module } | Message | { sum: Uint8Array | null }} Order
  */
 
 /**
- * The bytes of a piece.
+ * Reads the bytes of a piece.
  * @param {Piece} piece
  */
 async function readPiece(piece) {
@@ -24,7 +24,7 @@ async function readPiece(piece) {
     return bytes;
 }
 
-/** What a worker does with the module that it is given. */
+/** The jobs and the SHA-1 of a worker that has the module. */
 class Bench {
     /** @param {WebAssembly.Module} module */
     constructor(module) {
@@ -59,7 +59,7 @@ function heard({ data }) {
     else bench.at.work(data);
 }
 
-/** A message that cannot be read is told to the page as any fault of a worker, so that nothing waits for its answer. */
+/** Reports an unreadable message to the page as an error of the worker, so that nothing waits for its answer. */
 function unheard() {
     throw new Error('a message could not be read');
 }

@@ -1,9 +1,9 @@
-// What the joined page is made of: its module, and its one script, which is the program of its workers too.
+// Unpacks the parts of the joined page: its module, and its one script, which its workers run too.
 
 /** @typedef {import('./state.js').Parts} Parts */
 
 /**
- * Bytes that are written as base64.
+ * Decodes base64.
  * @param {string} text
  * @returns {Uint8Array}
  */
@@ -17,7 +17,7 @@ export function bytesOfBase64(text) {
 }
 
 /**
- * What was gzipped, and then written as base64.
+ * Decompresses gzipped data that was written as base64.
  * @param {string} text
  */
 function inflated(text) {
@@ -26,7 +26,7 @@ function inflated(text) {
 }
 
 /**
- * The same as a text, '' for no text.
+ * Decompresses a text that was gzipped and written as base64; '' stays ''.
  * @param {string} text
  */
 export async function inflatedText(text) {
@@ -34,15 +34,15 @@ export async function inflatedText(text) {
 }
 
 /**
- * What the joined page knows of itself: the HTML before its policy, between that and its style, between that and its script, and after
- * it; its policy before the hash of its script and after it; its style; the names and versions of what made it; and whether its sources
- * have a licence.
+ * The parts from which the joined page rebuilds its own text: `html` before, between, and after its policy, style, and script; `policy`
+ * before and after the hash of the script; size and SHA-1 of `style`. `made` lists the names and versions of the tools that built the
+ * page; `licensed` says whether its sources have a licence.
  * @type {{ html: string[], policy: string[], style: { size: number, sha1: string }, made: string[], licensed: boolean }}
  */
 export const OWN = { html: [], policy: [], style: { size: 0, sha1: '' }, made: [], licensed: false };
 
 /**
- * The module and the workers of the joined page.
+ * Compiles the module of the joined page, and prepares its workers.
  * @returns {Promise<Parts>}
  */
 export async function packedParts() {
@@ -53,7 +53,7 @@ export async function packedParts() {
 }
 
 /**
- * The address of a worker's program, as the page's policy wants it.
+ * Returns a URL of the workers' program that the page's policy accepts.
  * @param {Blob} program
  * @returns {string}
  */

@@ -1,4 +1,4 @@
-// The workers of the page. Each is started when it is first given something to do.
+// The workers of the page, each of which is started with its first job.
 
 import { Crew } from '../../core/crew/index.js';
 import { ownFault } from '../../sentences/index.js';
@@ -12,17 +12,17 @@ import { told } from '../texts/index.js';
 /** @typedef {import('./state.js').Parts} Parts */
 
 const MOST_WORKERS = 8;
-/** How long after Cancel a worker that still works on a range is ended, in milliseconds. */
+/** Milliseconds after Cancel until a worker that is still busy is terminated. */
 const MOMENT = 1000;
 
-/** A worker, as the core's crew wants it. */
+/** A worker thread as a `Hand` of the core's crew. */
 class WorkerHand {
     /** @param {Parts} parts */
     constructor(parts) {
         this.parts = parts;
         /** @type {Worker | null} */
         this.worker = null;
-        /** @type {Map<number, Message>} the ranges that the worker has, by their numbers */
+        /** @type {Map<number, Message>} messages without a reply, by their numbers */
         this.held = new Map();
         /** @type {(reply: Reply) => void} */
         this.onreply = () => {};
@@ -46,7 +46,7 @@ class WorkerHand {
         this.onreply(reply);
     }
 
-    /** Ends the worker, and returns what it had. What is posted next goes to a new one. */
+    /** Terminates the worker, and returns its messages without a reply. The next `post` starts a new worker. */
     end() {
         const had = [...this.held.values()];
         this.held.clear();
@@ -59,7 +59,7 @@ class WorkerHand {
 }
 
 /**
- * A worker that has the module.
+ * Starts a worker and sends it the module.
  * @param {Parts} parts
  * @param {(event: MessageEvent) => void} heard
  * @param {(error: Error) => void} failed
@@ -74,7 +74,7 @@ export function startedWorker({ module, newWorker }, heard, failed) {
     return worker;
 }
 
-/** A crew whose workers read files for themselves, if the browser lets them: WebKit does not on a page that is a file. */
+/** A crew whose workers read files themselves, if the browser permits it: WebKit does not on a page opened from a file. */
 class ReadingCrew extends Crew {
     /** @param {WorkerHand[]} hands */
     constructor(hands) {
@@ -84,7 +84,7 @@ class ReadingCrew extends Crew {
     }
 
     /**
-     * As Crew.share, but what Cancel ends does not wait for a worker that a stranger's table or text keeps busy.
+     * Like Crew.share, but Cancel terminates workers that are still busy: a stranger's table or text can make a job slow.
      * @template {JobName} Name
      * @param {Name} job
      * @param {import('../../core/bytes.js').Reader[]} readers
@@ -104,7 +104,7 @@ class ReadingCrew extends Crew {
     }
 
     /**
-     * Ends the workers that have ranges of a job. What they have of other jobs goes to new ones.
+     * Terminates the workers that have ranges of a job. Their ranges of other jobs are posted to new workers.
      * @param {number} own the job's number
      */
     endShared(own) {
@@ -119,7 +119,7 @@ class ReadingCrew extends Crew {
 
     /**
      * @param {WorkerHand} hand
-     * @param {Message} message whose bytes may be given away
+     * @param {Message} message whose bytes may already have been transferred
      */
     postAgain(hand, message) {
         try {
@@ -129,7 +129,7 @@ class ReadingCrew extends Crew {
         }
     }
 
-    /** @type {Crew['fail']} the jobs that are under way end, and the next ones get new workers */
+    /** @type {Crew['fail']} ends the running jobs; later jobs get new workers */
     fail(error) {
         super.fail(error);
         this.fault = null;
@@ -141,7 +141,7 @@ class ReadingCrew extends Crew {
 }
 
 /**
- * The crew: a hand for each processor, up to some.
+ * Creates a crew with one worker per processor, at most MOST_WORKERS.
  * @param {Parts} parts
  */
 export function crewOf(parts) {

@@ -1,4 +1,4 @@
-// The SHA-1 and the CRC-32 of images. What is hashed is read once, and forward.
+// Computes the SHA-1 and the CRC-32 of images. Each image is read once, from start to end.
 
 import { forwardOf, readBytes } from '../../core/bytes.js';
 import { crc32, joinedCrc } from '../../core/crc32.js';
@@ -10,19 +10,19 @@ import { startedWorker } from './crew.js';
 /** @typedef {import('../../core/bytes.js').Reader} Reader */
 /** @typedef {import('./state.js').App} App */
 /** @typedef {import('./state.js').Parts} Parts */
-/** @typedef {{ sha1: string, crc32: string }} Sums in digits as others print them */
-/** @typedef {{ digest?: Uint8Array }} Hashed the reply of a worker that hashes, at the end with the digest */
+/** @typedef {{ sha1: string, crc32: string }} Sums in lower-case hexadecimal digits, as other tools print them */
+/** @typedef {{ digest?: Uint8Array }} Hashed the reply of a worker that hashes; only the last one has the digest */
 /** @typedef {import('../../core/sectors/survey.js').RangeSurvey} RangeSurvey */
 
 const HASH_STEP = 1 << 22;
-/** Ranges of an image that may wait for its SHA-1, some 64 MB: so the survey is not held up by it at once. */
+/** How many ranges of an image may wait for its SHA-1 (about 64 MB), so that it does not delay the survey at once. */
 const MOST_WAITING = 26;
 
-/** A SHA-1 that grows with what is added, in a worker of its own. */
+/** A running SHA-1, computed in a worker of its own. */
 export class RunningHash {
     /**
      * @param {Parts} parts
-     * @param {number} [most] how many additions may wait: with two the worker has the next one when it is done with one
+     * @param {number} [most] how many additions may be pending: with two, the worker finds the next one when it finishes one
      */
     constructor(parts, most = 2) {
         this.most = most;
@@ -39,14 +39,14 @@ export class RunningHash {
     }
 
     /**
-     * Adds bytes as soon as few enough of those before wait.
-     * @param {Uint8Array} bytes given away if they are alone in their memory
+     * Adds bytes. If `most` additions are pending, waits for the oldest one first.
+     * @param {Uint8Array} bytes transferred if they fill their buffer, copied if not
      */
     async add(bytes) {
         if (this.coming.length >= this.most) await this.coming.shift();
         const own = bytes.length === bytes.buffer.byteLength ? bytes : bytes.slice();
         const added = this.post(own, [own.buffer]);
-        added.catch(() => {}); // it is thrown when its turn comes
+        added.catch(() => {}); // the error is thrown when the addition is awaited
         this.coming.push(added);
     }
 
@@ -63,7 +63,7 @@ export class RunningHash {
         });
     }
 
-    /** The SHA-1 of all. */
+    /** Returns the SHA-1 of all added bytes. */
     async end() {
         for (const added of this.coming) await added;
         const { digest } = await this.post(null, []);
@@ -76,11 +76,11 @@ export class RunningHash {
 }
 
 /**
- * The SHA-1 of an image. Throws a Fault, `cancelled`, and what reading throws.
+ * Computes the SHA-1 of an image. Throws a Fault, `cancelled`, or the error of reading.
  * @param {Parts} parts
  * @param {Reader} reader
  * @param {{ aborted: boolean }} signal
- * @param {(done: number) => void} progress is given the bytes that were hashed
+ * @param {(done: number) => void} progress receives the number of bytes hashed
  */
 export async function sha1Of(parts, reader, signal, progress) {
     const hash = new RunningHash(parts);
@@ -100,14 +100,14 @@ export async function sha1Of(parts, reader, signal, progress) {
 }
 
 /**
- * Both sums of an image, and its survey beside them: each range goes to a hand of the crew, and from there to the worker of the SHA-1.
- * `close` has to be called at the end.
+ * Computes both sums of an image, and its survey if requested. Each range goes to a worker of the crew, and then to the SHA-1 worker.
+ * `close` must be called at the end.
  */
 export class Summing {
     /**
      * @param {App} app
      * @param {Reader} reader
-     * @param {(done: number) => void} progress is given the bytes that were hashed
+     * @param {(done: number) => void} progress receives the number of bytes hashed
      */
     constructor({ crew, parts }, reader, progress) {
         this.crew = crew;
@@ -122,8 +122,8 @@ export class Summing {
     /**
      * Reads all sectors. Throws what Crew.share throws.
      * @param {import('../../core/crew/crew.js').Sharing} how
-     * @param {((survey: RangeSurvey) => void) | null} [surveyed] who wants their survey
-     * @param {number} [shift] how many blocks later those are whose addresses the sectors have
+     * @param {((survey: RangeSurvey) => void) | null} [surveyed] receives the survey of each range
+     * @param {number} [shift] how many blocks the address of a sector is ahead of its block, below 0 if behind
      */
     async read(how, surveyed = null, shift = 0) {
         await this.crew.share('sums', [this.ahead], { surveys: surveyed !== null, shift }, how, async ({ bytes, crc, survey }) => {
@@ -143,7 +143,7 @@ export class Summing {
         this.progress(this.done);
     }
 
-    /** @returns {Promise<Sums>} those of the sectors that were read, and of what comes after the last whole one */
+    /** @returns {Promise<Sums>} the sums of the sectors read, and of any bytes after the last whole sector */
     async end() {
         const rest = this.reader.size % SECTOR_SIZE;
         if (rest > 0) {
@@ -159,11 +159,11 @@ export class Summing {
 }
 
 /**
- * The SHA-1 and the CRC-32 of an image. Throws what Crew.share throws.
+ * Computes the SHA-1 and the CRC-32 of an image. Throws what Crew.share throws.
  * @param {App} app
  * @param {Reader} reader
  * @param {{ aborted: boolean }} signal
- * @param {(done: number) => void} progress is given the bytes that were hashed
+ * @param {(done: number) => void} progress receives the number of bytes hashed
  */
 export async function sumsOf(app, reader, signal, progress) {
     const sums = new Summing(app, reader, progress);

@@ -1,4 +1,4 @@
-// What all parts of the page know: the state, the workers, and what the page was made of.
+// Exports shared by all parts of the page: the state, the workers, and the parts that the page was built from.
 
 export { OWN, bytesOfBase64, inflatedText, packedParts } from './bundle.js';
 export { crewOf } from './crew.js';

@@ -1,9 +1,9 @@
-// What the map shows of each sector: its kind, or what was found in it.
+// The mark of each sector on the map: its kind, or the finding in it.
 
 import { RECORD, RECORD_SIZE, SECTOR_KIND } from '../../core/module/index.js';
 import * as texts from '../texts/index.js';
 
-/** What a sector can be on the map. Of the sectors that share a pixel the one with the greatest number is shown. */
+/** The marks of sectors on the map. If sectors share a pixel, the greatest mark is shown. */
 export const MARK = Object.freeze({
     UNREAD: 0, MODE1: 1, NOSYNC: 2, MODE2: 3, MODE0: 4, OTHER: 5, ADDRESS: 6, PARITY: 7, LOST: 8, EDC: 9,
 });
@@ -11,13 +11,13 @@ export const MARK = Object.freeze({
 /** @typedef {import('../../core/sectors/runs.js').Run} Run */
 
 /**
- * How a mark is shown: `name` stands in legends and tables, and `words` with a single sector if it has more to say; `colour` is a property
- * of the style, `letter` stands in the loupe, and a loud mark is a finding, which is at least two pixels wide and high.
+ * How a mark is shown. Legends and tables use `name`; a single sector uses `words`, if there are any. `colour` is a CSS property, and
+ * `letter` is shown in the loupe. A `loud` mark is a finding, at least two pixels wide and high.
  * @typedef {{ mark: number, name: string, words?: string, colour: string, letter: string, loud: boolean }} Look
  */
 
 /**
- * What a map is drawn from: a mark for each sector from `base` on, of which `known` are read, how each is shown, and how many there are.
+ * The data of a map: a mark for each sector from `base` on, of which the first `known` are read; how marks are shown; and their counts.
  * @typedef {{ base: number, marks: Uint8Array, known: number, looks: Look[], counts: Uint32Array }} MapModel
  */
 
@@ -41,7 +41,7 @@ const MARK_OF_KIND = {
 };
 
 /**
- * How a mark of a survey is shown.
+ * Returns how a mark of a survey is shown.
  * @param {number} mark
  */
 export function lookOf(mark) {
@@ -49,7 +49,7 @@ export function lookOf(mark) {
 }
 
 /**
- * How sectors of a kind are shown in which nothing was found.
+ * Returns how sectors of a kind without findings are shown.
  * @param {number} kind
  */
 export function lookOfKind(kind) {
@@ -68,7 +68,7 @@ function markOf(records, at) {
     return MARK_OF_KIND[records[at + RECORD.KIND]];
 }
 
-/** The marks of a survey, as it grows. */
+/** The marks of a survey, to which its records are added as they are read. */
 export class SurveyMarks {
     /**
      * @param {number} base
@@ -79,17 +79,17 @@ export class SurveyMarks {
         this.marks = new Uint8Array(count);
         this.counts = new Uint32Array(SURVEY_LOOKS.length + 1);
         this.known = 0;
-        /** How many sectors of Mode 1 have another address than their block's, whatever else was found in them. */
+        /** How many sectors of Mode 1 have a wrong address, whatever else was found in them. */
         this.elsewhere = 0;
         this.looks = SURVEY_LOOKS;
-        /** @type {Run[]} the blocks that are lost, which are known when all is read */
+        /** @type {Run[]} the blocks that have lost their sync field or mode, known when all is read */
         this.lost = [];
     }
 
     /**
-     * Takes the records of sectors up to the known ones.
+     * Adds the marks of the sectors that have become known.
      * @param {Uint8Array} records of the whole image
-     * @param {number} known
+     * @param {number} known how many sectors are known
      */
     add(records, known) {
         for (let i = this.known; i < known; i++) {
@@ -119,7 +119,7 @@ export class SurveyMarks {
         return counts[MARK.MODE1] + counts[MARK.ADDRESS] + counts[MARK.PARITY] + counts[MARK.EDC];
     }
 
-    /** Whether no sector of Mode 1 has the address of its block. */
+    /** Whether there are sectors of Mode 1, and none has the address of its block. */
     isElsewhere() {
         return this.mode1() > 0 && this.elsewhere === this.mode1();
     }
@@ -128,14 +128,14 @@ export class SurveyMarks {
         return this.counts[MARK.PARITY] + this.counts[MARK.EDC];
     }
 
-    /** How many sectors something was found in. */
+    /** How many sectors have a finding. */
     findings() {
         return this.damaged() + this.counts[MARK.ADDRESS] + this.counts[MARK.LOST];
     }
 }
 
 /**
- * The next sector with a loud mark from a place on, or the one before it; -1 if there is none.
+ * The next or previous sector with a loud mark, or -1.
  * @param {MapModel} model
  * @param {number} from
  * @param {number} step 1 or -1
@@ -149,8 +149,7 @@ export function nextFinding({ marks, looks }, from, step) {
 }
 
 /**
- * The place where another run of one kind begins: after a sector, or up to the one before it. -1 if there is none. A finding does not
- * end a run.
+ * The place where the next or previous run of one kind begins, or -1. A finding does not end a run.
  * @param {MapModel} model
  * @param {number} from
  * @param {number} step 1 or -1

@@ -1,4 +1,4 @@
-// Lines of a table that come into the script, while the page goes on.
+// Merges lines from a table into the script, while the page stays responsive.
 
 import { mergedInTurns, modelInParts } from '../../core/script/index.js';
 import { letOthersIn } from '../../core/turns.js';
@@ -9,7 +9,8 @@ import { isLong } from './script_long.js';
 /** @typedef {import('../../core/turns.js').Signal} Signal */
 
 /**
- * What puts lines that set bytes into a script, in place of those that set the same ones; all at the end if the others are not shown.
+ * Returns a function that merges lines into a script. They set bytes, and replace the lines that set the same bytes. If the script has no
+ * head line or is too long to be shown, all lines are added at its end.
  * @param {ScriptLines} script
  * @param {string[]} texts
  * @param {Signal} [signal]
@@ -27,7 +28,7 @@ export async function mergeOf(script, texts, signal) {
     lines.splice(1, 0, ...script.comments());
     const text = lines.join('\n');
     const known = isLong(text) ? null : await modelInParts(script.calls, text, () => letOthersIn(signal));
-    // A script that was edited meanwhile has other lines.
+    // The script was edited meanwhile.
     if (script.text() !== before) return mergeOf(script, texts, signal);
     return () => {
         for (const it of texts) script.made.add(it);

@@ -1,4 +1,4 @@
-// Which release a page is, by its SHA-256: a patcher that was made with an earlier one is known by its program.
+// Recognises an earlier release of the page by its SHA-256, and so a patcher that was made with it.
 
 import { hexOf } from '../ui/index.js';
 
@@ -8,7 +8,7 @@ export const RELEASES = new Map([
 ]);
 
 /**
- * The SHA-256 of bytes in small digits; '' if the browser has none, as for a page that came over plain http.
+ * The SHA-256 of bytes in lower-case digits; '' if the browser has none, for example for a page loaded over plain http.
  * @param {Uint8Array} bytes
  */
 export async function sha256Of(bytes) {

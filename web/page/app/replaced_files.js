@@ -1,4 +1,4 @@
-// The lines of a script that replace files of the disc: those of a file go when it is replaced once more.
+// The lines of a script that replace files of the disc. If a file is replaced again, its earlier lines are removed.
 
 import { RESULT, VERB } from '../../core/module/index.js';
 import { NEWEST_VERSION, headLine, linesOfText, patchesOf, userPlace } from '../../core/script/index.js';
@@ -11,11 +11,11 @@ import { applyScript, validScript } from '../../core/tasks/index.js';
 /** @typedef {import('./script_lines.js').ScriptLines} ScriptLines */
 /** @typedef {{ number: number, text: string, patch: PatchRange }} Line */
 
-/** A script may have the lines of so many earlier replacements of a file. */
+/** How many earlier replacements of a file are looked for in a script. */
 const MOST_RUNS = 8;
 
 /**
- * The lines of a script that write a byte of some places, in their order.
+ * The lines of a script that write at least one byte of the places, in their order.
  * @param {ScriptLines} script
  * @param {UserRange[]} places
  * @returns {Line[]}
@@ -29,7 +29,7 @@ export function linesIn({ calls, lines, long }, places) {
 }
 
 /**
- * Whether a line writes nothing but bytes of some places, and names the old ones: so does each line that replaces a file.
+ * Whether a line only writes bytes of one of the places, and names the old bytes, like each line that replaces a file.
  * @param {Line} line
  * @param {UserRange[]} places of the file
  */
@@ -39,7 +39,7 @@ function mayReplace({ patch }, places) {
 }
 
 /**
- * Those of some lines whose old bytes an image has.
+ * The lines whose old bytes match an image.
  * @param {ScriptLines} script
  * @param {{ reader: Reader, base: number }} image
  * @param {Line[]} lines
@@ -53,8 +53,8 @@ async function fittingLines(script, image, lines, signal) {
 }
 
 /**
- * The lines of a script that have replaced a file, or part of it, of this disc: they write in it alone, and their old bytes are there.
- * A line for another disc finds other bytes there. Throws a Fault.
+ * The lines of a script that replace a file of this disc, or part of it: they write in this file only, and their old bytes match. The
+ * old bytes of a line for a different disc do not match. Throws a Fault.
  * @param {ScriptLines} script
  * @param {{ reader: Reader, base: number }} image
  * @param {UserRange[]} places of the file
@@ -64,7 +64,7 @@ export async function linesReplacing(script, image, places, signal) {
     let left = linesIn(script, places).filter(line => mayReplace(line, places));
     /** @type {Line[]} */
     let found = [];
-    // Of two lines that replace the same bytes of the disc, only one fits in a run.
+    // If two lines replace the same bytes of the disc, only one of them matches in a run.
     for (let run = 0; run < MOST_RUNS && left.length > 0; run++) {
         const fitting = await fittingLines(script, image, left, signal);
         found = found.concat(fitting);
@@ -74,7 +74,7 @@ export async function linesReplacing(script, image, places, signal) {
     return found.map(({ text }) => text);
 }
 
-/** The lines that were added last for each file of a disc. Those for the files of another disc stay. */
+/** The lines that were added last for each file of a disc. Lines for the files of a different disc are kept. */
 export class ReplacedFiles {
     constructor() {
         /** @type {WeakMap<Reader, Map<string, string[]>>} by the image of the disc, and by the file's path */
@@ -89,10 +89,10 @@ export class ReplacedFiles {
     }
 
     /**
-     * Adds lines that replace a file, none if it is as on the disc, in place of those that were added for it before. Returns how many of
-     * these went.
+     * Adds lines that replace a file (none if it is as on the disc), and removes the lines that were added for it before. Returns how many
+     * were removed.
      * @param {ScriptLines} script
-     * @param {Reader} disc the image of it
+     * @param {Reader} disc its image
      * @param {string} path
      * @param {string[]} texts
      * @param {string[]} [earlier] lines that replaced it in an earlier session

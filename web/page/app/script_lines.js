@@ -1,4 +1,4 @@
-// The script of the page: its lines, edits that can be undone, whether it is in a file, and what Check has said of its lines.
+// The script of the page: its lines, the edits that can be undone, whether it is saved, and the outcomes of Check.
 
 import { RESULT, isFault } from '../../core/module/index.js';
 import { ScriptModel, afterColon, baseComment, countOld, headLine, linesOfText, oldBytesOf, wordsOn } from '../../core/script/index.js';
@@ -8,19 +8,20 @@ import { MOST_LINES, MOST_SHOWN, isLong } from './script_long.js';
 /** @typedef {import('../../core/module/calls.js').Calls} Calls */
 /** @typedef {import('../../core/script/patches.js').Outcome} Outcome */
 /**
- * An edit: from a line on, which lines went and which came, and the script's names before and after it. One that was typed joins to the
- * one before it if that was typed in the same line and the same way; `saved` says that the text after it is in a file.
+ * An edit: from line `at` on, the lines that were removed (`gone`) and added (`come`), and the script's names before and after it. A typed
+ * edit is joined to the previous one if that was typed in the same line and in the same way. `saved` says that the text after the edit is
+ * in a file.
  * @typedef {{ at: number, gone: string[], come: string[], names: string[], typed: Typed, saved: boolean }} Edit
  * How an edit was typed: in the line, as bytes of a sector, or not at all.
  * @typedef {'line' | 'bytes' | ''} Typed
  */
 
-/** @typedef {{ text: string, saved: boolean, before: object }} LongScript whether it is in a file, and what stood there before it */
+/** @typedef {{ text: string, saved: boolean, before: object }} LongScript with the state of the lines before it */
 
-/** The head line of a new script, which is all that it has. */
+/** The head line, the only line of a new script. */
 const HEAD = headLine();
 
-/** The script. Of one that is too long to be shown it has only the text, and no lines. */
+/** The script. If it is too long to be shown, only its text is kept, and no lines. */
 export class ScriptLines extends ScriptModel {
     /**
      * @param {Calls} calls
@@ -30,20 +31,20 @@ export class ScriptLines extends ScriptModel {
         super(calls, text);
         /** @type {Map<number, Outcome>} by the number of the line, from 1 */
         this.outcomes = new Map();
-        /** The lines that have written what others ask for; null until somebody asks. */
+        /** For each refused line, the last line before it that wrote the byte which differs; null until first needed. */
         this.writers = /** @type {Map<number, number> | null} */ (null);
         /** @type {Edit[]} */
         this.done = [];
         /** @type {Edit[]} */
         this.undone = [];
-        /** @type {Set<string>} the lines that an import or a replacement made, and nobody typed */
+        /** @type {Set<string>} the lines that an import or a replacement made, and that were not typed */
         this.made = new Set();
         /** The name of its file, or ''. */
         this.name = '';
         /** The base of the open image. */
         this.base = 0;
         this.long = /** @type {LongScript | null} */ (null);
-        /** @type {Map<number, string>} the program's words for each fault that was met */
+        /** @type {Map<number, string>} the program's words for each fault met so far */
         this.faultWords = new Map();
     }
 
@@ -51,19 +52,19 @@ export class ScriptLines extends ScriptModel {
         return this.long ? this.long.text : super.text();
     }
 
-    /** Whether nothing was written yet. */
+    /** Whether this is a new script, which has only its head line. */
     isNew() {
         const [head, rest] = this.lines;
         return !this.long && this.lines.length === 2 && head.text === HEAD && rest.text === '';
     }
 
-    /** The comment that says the base of the image, for a new script. */
+    /** The lines of the comment that gives the image's base, for a new script; none for other scripts. */
     comments() {
         return this.head < 0 || this.isNew() ? linesOfText(baseComment(this.base)).slice(0, -1) : [];
     }
 
     /**
-     * Takes another text, and returns what brings this one back and says the line to look at, or -1; null if it is in a file.
+     * Replaces the text. If unsaved text is lost, returns a function that restores it and returns the line to show, or -1; else null.
      * @param {string} text
      * @param {string} name of its file
      * @param {ScriptModel | null} [known] of the text, if it was read already
@@ -84,14 +85,14 @@ export class ScriptLines extends ScriptModel {
         return isLost ? bringBack : null;
     }
 
-    /** Begins anew, with nothing to take back. */
+    /** Begins a new script, with nothing to undo. */
     clear() {
         this.replace(`${HEAD}\n`, '');
         Object.assign(this, { done: [], undone: [], made: new Set() });
     }
 
     /**
-     * Takes a text of which no line is shown, in place of all lines. They come back by `leaveLong`, or when another text is taken.
+     * Replaces all lines by a text that is too long to be shown. `leaveLong` restores them, and so does replacing this text.
      * @param {string} text
      * @param {string} name of its file
      */
@@ -107,7 +108,7 @@ export class ScriptLines extends ScriptModel {
     }
 
     /**
-     * Puts another text in place of this one, as one edit of the lines in which they differ.
+     * Replaces the text, as one edit of the lines that differ.
      * @param {string} text
      * @param {string} name of its file
      * @param {ScriptModel | null} [known] of the text
@@ -124,11 +125,11 @@ export class ScriptLines extends ScriptModel {
     }
 
     /**
-     * Adds lines at the end. A new script gets its head line and the comment that says its base first. Returns the number of the last of
-     * the lines, 0 if it is not shown.
+     * Adds lines at the end, or before a line. A new script first gets its head line and the comment that gives its base. Returns the
+     * number of the last line added, or 0 if the script is too long to be shown.
      * @param {string[]} texts
      * @param {Typed} typed
-     * @param {number} [before] the line before which they are put in, if not at the end
+     * @param {number} [before] the number of the line before which they are inserted, or 0 for the end
      */
     add(texts, typed, before = 0) {
         const come = [...this.head < 0 ? [HEAD] : [], ...this.comments(), ...texts];
@@ -146,7 +147,7 @@ export class ScriptLines extends ScriptModel {
     }
 
     /**
-     * Takes lines out, as one edit, and returns how many they were.
+     * Removes lines, as one edit, and returns how many were removed.
      * @param {Set<string>} texts
      */
     remove(texts) {
@@ -163,7 +164,7 @@ export class ScriptLines extends ScriptModel {
         return last === undefined || last.saved;
     }
 
-    /** Takes note that this text is in a file. What is typed later is an edit of its own. */
+    /** Notes that this text is in a file. Later typing is a separate edit. */
     noteSaved() {
         if (this.long) this.long.saved = true;
         const last = this.done[this.done.length - 1];
@@ -171,13 +172,13 @@ export class ScriptLines extends ScriptModel {
     }
 
     /**
-     * Puts lines in place of others.
+     * Replaces lines.
      * @param {number} at
      * @param {number} count
      * @param {string[]} come
      * @param {Typed} [typed]
-     * @param {string} [name] of the script after it
-     * @param {ScriptModel | null} [known] the script after it, if it was read already
+     * @param {string} [name] of the script after the edit
+     * @param {ScriptModel | null} [known] the script after the edit, if it was read already
      */
     edit(at, count, come, typed = '', name = this.name, known = null) {
         const gone = this.lines.slice(at, at + count).map(({ text }) => text);
@@ -190,7 +191,7 @@ export class ScriptLines extends ScriptModel {
         this.put(at, count, come, known);
     }
 
-    /** Takes the last edit back, and returns the line to look at, or -1. */
+    /** Undoes the last edit, and returns the line to show, or -1. */
     undo() {
         const edit = this.done.pop();
         if (edit === undefined) return -1;
@@ -200,7 +201,7 @@ export class ScriptLines extends ScriptModel {
         return edit.at;
     }
 
-    /** Makes the edit again that was taken back last, and returns the line to look at, or -1. */
+    /** Redoes the edit that was undone last, and returns the line to show, or -1. */
     redo() {
         const edit = this.undone.pop();
         if (edit === undefined) return -1;
@@ -214,7 +215,7 @@ export class ScriptLines extends ScriptModel {
      * @param {number} at
      * @param {number} count
      * @param {string[]} come
-     * @param {ScriptModel | null} [known] what comes of it
+     * @param {ScriptModel | null} [known] the script after it, if it was read already
      */
     put(at, count, come, known = null) {
         if (known === null) super.put(at, count, come);
@@ -234,7 +235,7 @@ export class ScriptLines extends ScriptModel {
     }
 
     /**
-     * The last line before a refused one that has written the byte which differs there, or 0.
+     * The number of the last line before a refused one that wrote the byte which differs there, or 0.
      * @param {Outcome} outcome
      */
     writerBefore({ number }) {
@@ -255,7 +256,7 @@ export class ScriptLines extends ScriptModel {
     }
 
     /**
-     * What is said of a line, with the program's words: its fault, or whether its patch fits; '' if there is nothing to say.
+     * The message for a line, in the program's words: its fault, or whether its patch matches; '' if there is neither.
      * @param {number} i
      */
     wordsAt(i) {
@@ -271,7 +272,7 @@ export class ScriptLines extends ScriptModel {
     }
 
     /**
-     * The next line that is wrong, round the end, or -1.
+     * The next wrong line, wrapping round at the end, or -1.
      * @param {number} from
      * @param {number} step 1 or -1
      */

@@ -1,13 +1,13 @@
-// Scripts that are too long for their lines to be shown: a browser would stand still.
+// Scripts that are too long to be shown line by line, which would freeze the browser.
 
 export const MOST_SHOWN = 4000000;
 export const MOST_LINES = 150000;
 
-/** What works with such a script, and what does not. */
+/** The text that says what works with such a script, and what does not. */
 export { scriptIsLong as LONG } from '../texts/index.js';
 
 /**
- * Whether a script is one.
+ * Whether a script is too long to be shown.
  * @param {string} text
  */
 export function isLong(text) {

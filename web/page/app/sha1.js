@@ -1,8 +1,8 @@
-// SHA-1 by the module: over plain http browsers have no digest of their own.
+// SHA-1 by the module, since browsers have no digest of their own over plain http.
 
 /** @typedef {import('../../core/module/calls.js').Calls} Calls */
 
-/** The SHA-1 of bytes as they come. */
+/** A running SHA-1. */
 export class Sha1 {
     /** @param {Calls} calls */
     constructor(calls) {
@@ -15,7 +15,7 @@ export class Sha1 {
         this.state = this.calls.sha1Add(this.state, bytes);
     }
 
-    /** The SHA-1 of all. */
+    /** Returns the SHA-1 of all added bytes. */
     digest() {
         return this.calls.sha1End(this.state);
     }

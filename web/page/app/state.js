@@ -1,4 +1,4 @@
-// What the page knows and the jobs that it runs, for all panels.
+// The state of the page, and the jobs that it runs, for all panels.
 
 import { Store } from './store.js';
 
@@ -10,66 +10,65 @@ import { Store } from './store.js';
 /** @typedef {import('./marks.js').SurveyMarks} SurveyMarks */
 /** @typedef {import('../ui/fill.js').Child} Child */
 
-/** What the page is made of, which the joined page and a served one get in different ways. */
+/** The module, the workers, and the build tools of the page. The joined page and a served one load them in different ways. */
 /** @typedef {{ module: WebAssembly.Module, newWorker: () => Worker, made: string[] }} Parts */
 
 /**
- * An image that was opened. `from` is the name of the cue sheet and `sheet` its text, or both are ''; `number` is that of the track
- * which is meant, `part` only that track, and `opened` is what tasks take; `sha1` is '' until it is known, and `crc32` too. `renamed` has
- * the files of the disc that were saved patched, with their new names.
+ * An open image. `from` is the name of the cue sheet and `sheet` its text, or both are ''. `number` is the number of the chosen track,
+ * `part` has only that track, and tasks use `opened`. `sha1` and `crc32` are '' until they are known. `renamed` has the files of the disc
+ * that were saved patched, with their new names.
  * @typedef {DiscImage & { opened: OpenedTrack, part: DiscImage, from: string, sheet: string, disc: Disc, number: number, sha1: string,
  *     crc32: string, renamed: Map<string, string> }} Image
  */
 
 /**
- * The records of an image's sectors, RECORD_SIZE bytes each, of which the first `known` were read so far; those that one byte fills; what
- * the map shows of them; what the image lacks of its volume, which is known when all is read; and when reading began and ended, 0 if it
- * did not come to its end. `over` says that it goes on no more.
+ * The survey of an image: `records` of RECORD_SIZE bytes for its sectors, of which the first `known` are read so far; the runs of sectors
+ * `filled` with one byte; the `marks` for the map; and the `lack` of its volume, known when all is read. Reading `began` and `ended` at
+ * these times in milliseconds; `ended` is 0 if not all was read. `over` says that reading has stopped.
  * @typedef {{ block: number, records: Uint8Array, filled: FilledRun[], known: number, marks: SurveyMarks, lack: Lack | null, began: number,
  *     ended: number, over: boolean }} Surveyed
  */
 
 /**
- * What happens: an image was opened or closed (`image`), or closed with all that was done with it (`closed`); more of it was surveyed
- * (`survey`), or all (`surveyed`); more of it was hashed (`hash`, with how many bytes, or -1 if nobody goes on with it); its files are
- * known (`files`); there is a second image, or none any more (`second`, with what is done with it first); it is known what a repair from
- * it takes (`repair`); a place was chosen (`place`);
- * the script has changed (`script`, with what brings the last one back if that is in no file, or null if it was typed in the panel
- * Script), or is to be checked (`check`); one of its lines was chosen (`line`, from 0); the encoding was chosen, or a table is new
- * (`encoding`); no image is being saved any more (`saved`);
- * a list of known dumps is new (`dumps`); another panel is shown (`panel`); the data of a patcher are to be worked on
- * (`patcher`).
+ * An event. An image was opened or closed (`image`), or closed with all work on it (`closed`). More of it was surveyed (`survey`), or
+ * all of it (`surveyed`). More of it was hashed (`hash`, with the number of bytes, or -1 if hashing has stopped). Its files are known
+ * (`files`). The second image was opened or closed (`second`, with the first job for it). The repair from it is known (`repair`). A place
+ * was chosen (`place`).
+ * The script has changed (`script`, with a function `back` that restores the last one if that is not saved, or with null if a line was
+ * typed in the panel Script), or is to be checked (`check`). One of its lines was chosen (`line`, from 0). The encoding was chosen, or a
+ * table was loaded (`encoding`). No image is being saved any more (`saved`).
+ * A list of known dumps was loaded (`dumps`). A different panel is shown (`panel`). The data of a patcher are to be edited (`patcher`).
  * @typedef {'image' | 'closed' | 'survey' | 'surveyed' | 'hash' | 'files' | 'second' | 'repair' | 'place' | 'script' | 'check' | 'line' |
  *     'encoding' | 'saved' | 'dumps' | 'panel' | 'patcher'} Happening
  */
 
 /**
- * What files are opened for: a job of the start, to be looked at, or '' for nothing that was said.
+ * The purpose of opening files: a job of the start, `look` to inspect them, or '' if none was chosen.
  * @typedef {'' | 'play' | 'translate' | 'repair' | 'look'} Aim
  */
 
 /**
- * What parts of the page do for all: `open` opens files, as if they were dropped; `choose` lets the user choose them; `dropSays`
- * says what becomes of files that are dropped; `takeBackBytes` takes back the bytes that were typed last in a sector, if it can;
- * `saveScript` saves the script in a file.
+ * Services of parts of the page for all others: `open` opens files, as if they were dropped; `choose` lets the user choose them;
+ * `dropSays` returns the text on what happens to files that are dropped; `takeBackBytes` undoes the bytes typed last in a sector, if
+ * possible; `saveScript` saves the script in a file.
  * @typedef {{ open: (files: File[], aim: Aim) => Promise<void>, choose: (aim: Aim) => void, dropSays: () => Child[],
  *     takeBackBytes: () => boolean, saveScript: () => void }} Services
  */
 
 /**
- * A file that was taken: `use` is called when the images that were opened with it are open, and if it needs an image when there is one.
+ * An accepted file: `use` is called when the images opened with it are open, or, if it needs an image, as soon as there is one.
  * @typedef {{ needsImage: boolean, use: () => unknown }} Taken
  */
-/** @typedef {(file: File) => Promise<boolean | Taken>} Taker what is asked of each file that is opened: whether it takes the file */
+/** @typedef {(file: File) => Promise<boolean | Taken>} Taker is called with each file that is opened, and says whether it accepts it */
 
 /** @typedef {'disc' | 'text' | 'script' | 'publish'} PanelName */
 
-/** What is done with two images. */
+/** A job with two images. */
 /** @typedef {'repair' | 'compare'} PairJob */
 
 export const PANELS = Object.freeze(/** @type {PanelName[]} */ (['disc', 'text', 'script', 'publish']));
 
-/** The state of the page, and the jobs that end with what they work on. */
+/** The state of the page, and its jobs, which end when the images they work on are closed. */
 export class App extends Store {
     /**
      * @param {File[]} files to be opened, as if they were dropped
@@ -79,18 +78,18 @@ export class App extends Store {
         return this.services.open(files, aim);
     }
 
-    /** @param {Aim} aim for which the user is to choose files */
+    /** @param {Aim} aim the purpose for which the user chooses files */
     choose(aim) {
         this.services.choose(aim);
     }
 
-    /** Takes back the bytes that were typed last in a sector, if it can. */
+    /** Undoes the bytes typed last in a sector, if possible. */
     takeBackBytes() {
         return this.services.takeBackBytes();
     }
 
     /**
-     * Runs a job that its Cancel button can end. The job looks at the signal.
+     * Runs a job that its Cancel button can end. The job must check the signal.
      * @template Result
      * @param {(signal: AbortSignal, cancel: () => void) => Promise<Result>} job
      */
@@ -100,7 +99,7 @@ export class App extends Store {
     }
 
     /**
-     * Runs a job that saves an image: nothing but its Cancel button ends it.
+     * Runs a job that saves an image. Only its Cancel button ends it.
      * @template Result
      * @param {(signal: AbortSignal, cancel: () => void) => Promise<Result>} job
      */
@@ -115,7 +114,7 @@ export class App extends Store {
     }
 
     /**
-     * Runs a job that another signal ends too.
+     * Runs a job that a second signal can end too.
      * @template Result
      * @param {AbortSignal} end
      * @param {(signal: AbortSignal, cancel: () => void) => Promise<Result>} job
@@ -128,7 +127,7 @@ export class App extends Store {
     }
 
     /**
-     * Runs a job with the open image, which also ends when that is closed.
+     * Runs a job with the open image. Closing the image ends it too.
      * @template Result
      * @param {(signal: AbortSignal, cancel: () => void) => Promise<Result>} job
      */
@@ -137,7 +136,7 @@ export class App extends Store {
     }
 
     /**
-     * Runs a job with both images, which also ends when the second one is closed or another one.
+     * Runs a job with both images. It also ends when the second image is closed or replaced.
      * @template Result
      * @param {(signal: AbortSignal, cancel: () => void) => Promise<Result>} job
      */
@@ -145,14 +144,14 @@ export class App extends Store {
         return this.runUntil(this.pairing.signal, job);
     }
 
-    /** The files that are open: those of the disc with its cue sheet, and the second image. */
+    /** The open files: those of the disc and of the second image, with their cue sheets. */
     openFiles() {
         const images = [this.image, this.second].flatMap(image => image || []);
         return images.flatMap(({ disc, from, sheet }) => [...disc.files.map(({ name, reader }) => ({ name, size: reader.size })),
             ...from === '' ? [] : [{ name: from, size: sheet.length }]]);
     }
 
-    /** Closes the image and all that was done with it: the page is as at its start. */
+    /** Closes the image and discards all work on it, so that the page is as at its start. */
     close() {
         this.setImage(null);
         this.script.clear();
@@ -162,7 +161,7 @@ export class App extends Store {
     }
 
     /**
-     * Changes the script otherwise than by its panel.
+     * Changes the script from outside its panel.
      * @template Result
      * @param {(script: import('./script_lines.js').ScriptLines) => Result} change
      */
@@ -172,7 +171,7 @@ export class App extends Store {
         return result;
     }
 
-    /** Shows the script, and has it checked on the open image. */
+    /** Shows the script, and checks it on the open image. */
     checkScript() {
         if (this.panel !== 'script') this.showPanel('script');
         this.tell('check');

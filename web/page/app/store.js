@@ -1,4 +1,4 @@
-// What the page knows: the disc, what was found in it, the script, the second image, and who wants to hear of changes.
+// The state of the page: the disc, the findings in it, the script, the second image, and the listeners for changes.
 
 import { USUAL_ENCODING } from '../../core/encodings/index.js';
 import { newBytes } from '../../core/faults.js';
@@ -23,15 +23,15 @@ import { ScriptLines } from './script_lines.js';
 /** @typedef {import('./state.js').Surveyed} Surveyed */
 /** @typedef {import('./state.js').Taker} Taker */
 
-/** While an image is read, its survey is told of again after this many milliseconds. */
+/** Milliseconds between the `survey` events while an image is read. */
 const TOLD_EVERY = 150;
 
-/** The state of the page. It is changed only by its methods, which tell who listens. */
+/** The state of the page. Only its methods change it, and they notify the listeners. */
 export class Store {
     /**
-     * @param {Calls} calls of a module for what the page does itself, which is short
-     * @param {Crew} crew of workers, for what takes longer
-     * @param {Parts} parts for a worker of another kind
+     * @param {Calls} calls of a module, for short work in the page's own thread
+     * @param {Crew} crew of workers, for longer work
+     * @param {Parts} parts to start workers that are not of the crew
      */
     constructor(calls, crew, parts) {
         this.calls = calls;
@@ -39,11 +39,11 @@ export class Store {
         this.parts = parts;
         this.image = /** @type {Image | null} */ (null);
         this.second = /** @type {Image | null} */ (null);
-        /** What a repair from the second image takes, if that was found out. */
+        /** The repair from the second image, if it was determined. */
         this.repair = /** @type {Repair | null} */ (null);
         this.survey = /** @type {Surveyed | null} */ (null);
         this.files = /** @type {VolumeFiles | null} */ (null);
-        /** The block and the user byte, or -1, that the sector view shows. */
+        /** The block and the offset of the user byte that the sector view shows; -1 for none. */
         this.place = { block: -1, offset: -1 };
         this.script = new ScriptLines(calls);
         this.encoding = USUAL_ENCODING.name;
@@ -54,20 +54,20 @@ export class Store {
         this.panel = /** @type {PanelName} */ ('disc');
         /** @type {Map<string, ((detail: any) => void)[]>} */
         this.listeners = new Map();
-        /** How many images are being saved. Until that has ended no image is opened or closed. */
+        /** How many images are being saved. Meanwhile no image is opened or closed. */
         this.saves = 0;
         /** Ends the reading of the open image. */
         this.reading = new AbortController();
-        /** Ends what is done with the open image, but for its reading. */
+        /** Ends the jobs with the open image, except its reading. */
         this.closing = new AbortController();
-        /** Ends what is done with the second image. */
+        /** Ends the jobs with the second image. */
         this.pairing = new AbortController();
         /** @type {Services} */
         this.services = { open: async () => {}, choose: () => {}, dropSays: () => [], takeBackBytes: () => false,
             saveScript: () => {} };
         /** @type {Taker[]} */
         this.takers = [];
-        /** When the survey was last told of. */
+        /** The time of the last `survey` event, in milliseconds. */
         this.told = 0;
     }
 
@@ -88,7 +88,7 @@ export class Store {
     }
 
     /**
-     * Takes over services. Returns what gives them back.
+     * Replaces services. Returns a function that restores them.
      * @param {Partial<Services>} services
      */
     serve(services) {
@@ -97,13 +97,13 @@ export class Store {
         return () => { this.services = before; };
     }
 
-    /** @param {Taker} taker is asked of each file that is opened */
+    /** @param {Taker} taker is called with each file that is opened */
     addTaker(taker) {
         this.takers.push(taker);
     }
 
     /**
-     * Makes an image the open one, or closes it. Returns the signal that ends reading it.
+     * Opens an image, or with null closes the open one. Returns the signal that ends its reading.
      * @param {Image | null} image
      */
     setImage(image) {
@@ -120,7 +120,7 @@ export class Store {
 
     /**
      * @param {Image | null} second
-     * @param {PairJob} [job] what is done with it first
+     * @param {PairJob} [job] the first job for it
      */
     setSecond(second, job = 'compare') {
         [this.second, this.repair] = [second, null];
@@ -134,7 +134,7 @@ export class Store {
     }
 
     /**
-     * Begins the survey of an image, which is added to as it is read.
+     * Begins the survey of an image. `addToSurvey` adds to it as the image is read.
      * @param {number} base
      * @param {number} sectors
      */
@@ -149,7 +149,7 @@ export class Store {
 
     /**
      * @param {Surveyed} survey
-     * @param {{ block: number, records: Uint8Array, filled?: FilledRun[] }} more those of the sectors that come next
+     * @param {{ block: number, records: Uint8Array, filled?: FilledRun[] }} more the records of the next sectors
      */
     addToSurvey(survey, { block, records, filled = [] }) {
         survey.records.set(records, (block - survey.block) * RECORD_SIZE);
@@ -179,7 +179,7 @@ export class Store {
         this.tell('files');
     }
 
-    /** @param {number} done how many bytes of the image were hashed, or -1 if nobody goes on with it */
+    /** @param {number} done how many bytes of the image were hashed, or -1 if hashing has stopped */
     noteHashed(done) {
         this.tell('hash', done);
     }
@@ -209,7 +209,7 @@ export class Store {
     }
 
     /**
-     * Takes a table in, which is the encoding from now on.
+     * Adds a table, and makes it the current encoding.
      * @param {string} name of its file
      * @param {Encoding} table
      */
@@ -218,13 +218,13 @@ export class Store {
         this.chooseEncoding(name);
     }
 
-    /** @param {KnownDumps} dumps a list of them, which is kept as long as the page is open */
+    /** @param {KnownDumps} dumps a list of them, kept as long as the page is open */
     addDumps(dumps) {
         this.dumps.push(dumps);
         this.tell('dumps');
     }
 
-    /** @param {unknown} data of a patcher, which are to be worked on */
+    /** @param {unknown} data of a patcher, to be edited */
     workOn(data) {
         this.tell('patcher', data);
     }
@@ -235,7 +235,7 @@ export class Store {
     }
 
     /**
-     * Puts another text in place of the script.
+     * Replaces the text of the script.
      * @param {string} text
      * @param {string} name of its file
      * @param {boolean} saved whether it is in that file
@@ -248,9 +248,10 @@ export class Store {
     }
 
     /**
-     * Adds lines at the end of the script, or before one of its lines. Returns the number of the last of them, 0 if it is not shown.
+     * Adds lines at the end of the script, or before one of its lines. Returns the number of the last line added, or 0 if the script is
+     * too long to be shown.
      * @param {string[]} lines
-     * @param {'' | 'bytes'} [typed] bytes of a sector if they are
+     * @param {'' | 'bytes'} [typed] 'bytes' if they were typed as bytes of a sector
      * @param {number} [before]
      */
     addLines(lines, typed = '', before = 0) {
@@ -260,10 +261,10 @@ export class Store {
     }
 
     /**
-     * Puts a line in place of another one.
+     * Replaces a line.
      * @param {number} number
      * @param {string} line
-     * @param {'' | 'bytes'} [typed] as of addLines
+     * @param {'' | 'bytes'} [typed] as for addLines
      */
     replaceLine(number, line, typed = '') {
         this.script.edit(number - 1, 1, [line], typed);
@@ -272,7 +273,7 @@ export class Store {
     }
 
     /**
-     * Chooses a place of the image, and shows the Disc panel if it is asked to.
+     * Chooses a place of the image, and shows the Disc panel if `show` is set.
      * @param {number} block
      * @param {number} [offset] of a user byte
      * @param {boolean} [show]
@@ -284,7 +285,7 @@ export class Store {
         this.tell('place', { show, comes });
     }
 
-    /** @param {number} line of the script, from 0, to which its panel goes */
+    /** @param {number} line of the script, from 0, to be shown in its panel */
     goToLine(line) {
         this.showPanel('script');
         this.tell('line', line);

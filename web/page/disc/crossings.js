@@ -1,5 +1,5 @@
-// Which bytes of a sector lie in broken P columns and Q diagonals both. No rule of these codes stands here: a byte of a sound sector is
-// changed, and the module says which column and which diagonal that breaks.
+// Finds the bytes of a sector that lie in a broken P column and in a broken Q diagonal. The rules of these codes are not repeated here:
+// each byte of a sound sector is changed, and the module says which column and which diagonal that breaks.
 
 import { SECTOR_SIZE, USER_SIZE } from '../../core/module/index.js';
 import { HEADER_OFFSET } from '../../core/sectors/index.js';

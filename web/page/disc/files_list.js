@@ -1,4 +1,4 @@
-// The tab Files: the files of the disc by their blocks. The chosen one is saved as a file, or replaced by one.
+// The tab Files, which lists the files of the disc by their blocks, and extracts or replaces the chosen one.
 
 import { Fault } from '../../core/faults.js';
 import { filesLines } from '../../core/iso/index.js';
@@ -25,7 +25,7 @@ import { stemOf, term } from '../ui/index.js';
  * @typedef {{ path: string, shown: string, size: number, block: number, fault: FileEntry['fault'], entries: FileEntry[] }} Listed
  */
 
-/** Rows that stand in the document at a time, and runs of sectors that a message names. */
+/** The most rows in the document at a time, and the most runs of sectors in a message. */
 const ROWS = 200;
 const MOST_RUNS = 8;
 
@@ -59,7 +59,7 @@ export class FilesList {
         this.app = app;
         /** @type {Listed[]} */
         this.all = [];
-        /** Whether the files of the open image were looked for, and found. */
+        /** Whether the files of the open image were looked for, and whether they were found. */
         this.looked = false;
         this.known = false;
         this.from = 0;
@@ -92,13 +92,13 @@ export class FilesList {
         this.draw();
     }
 
-    /** What `cdscript files` prints. */
+    /** The output of `cdscript files`. */
     text() {
         const { files } = this.app;
         return files === null ? '' : filesLines(files.files, visible, remarkText).map(line => `${line}\n`).join('');
     }
 
-    /** How many files there are, as a tab says it. */
+    /** The number of files, for the tab. */
     count() {
         return this.known ? counted(this.all.length) : '';
     }
@@ -108,7 +108,7 @@ export class FilesList {
         this.draw();
     }
 
-    /** The files whose names have what is asked for. */
+    /** The files whose names contain the text of the filter. */
     wanted() {
         const words = this.filter.value.toLowerCase();
         return words === '' ? this.all : this.all.filter(({ shown }) => shown.toLowerCase().includes(words));
@@ -173,9 +173,9 @@ export class FilesList {
     }
 
     /**
-     * Does a job with the chosen file, with its bar, and says what came of it.
+     * Runs a job with the chosen file, shows its progress, and reports the result.
      * @param {string} name of the job
-     * @param {string} unmade what is said if it fails
+     * @param {string} unmade the message if it fails
      * @param {(image: Image, watch: { signal: AbortSignal, progress: (done: number, all: number) => void }) => Promise<Child>} job
      */
     work(name, unmade, job) {
@@ -237,12 +237,12 @@ export class FilesList {
     }
 
     /**
-     * What is said of the lines that replace a file, and of those that did before.
+     * Reports the lines that replace a file, and the earlier lines that did.
      * @param {Listed} file
-     * @param {number} size the new one
+     * @param {number} size of the new file
      * @param {string[]} come the lines
-     * @param {{ gone: number, places: UserRange[], sharing: string[] }} found how many earlier lines made way, where these write, and
-     *     the other files that have some of its blocks
+     * @param {{ gone: number, places: UserRange[], sharing: string[] }} found how many earlier lines were removed, the places of the file,
+     *     and the other files that have some of its blocks
      */
     addedWords({ path, size: before }, size, come, { gone, places, sharing }) {
         const { app } = this;

@@ -1,4 +1,4 @@
-// The card under the map: findings in places, files, runs of one kind, and the text that the program prints.
+// The card under the map: findings grouped into places, files, runs of one kind, and the output of the program.
 
 import { auditText, kindRuns, listText } from '../../core/sectors/index.js';
 import { surveyedTrack } from '../../core/tasks/index.js';
@@ -19,7 +19,7 @@ import { addressOf, findingAt } from './sector_text.js';
 const MOST_ROWS = 400;
 const MOST_TEXT_LINES = 3000;
 
-/** @param {string} colour a property of the style */
+/** @param {string} colour a CSS property */
 function dotOf(colour) {
     const dot = element('span', { class: 'dot' });
     dot.style.background = `var(${colour})`;
@@ -55,7 +55,7 @@ export class Findings {
         this.draw();
     }
 
-    /** The tab that is shown: that nothing was found is said over the panel, and not once more. */
+    /** The tab that is shown. Without findings it is Files in place of Findings: the page says over the panel that there are none. */
     shown() {
         const { survey } = this.app;
         return this.tab === 'findings' && survey !== null && survey.marks.findings() === 0 ? 'files' : this.tab;
@@ -67,7 +67,7 @@ export class Findings {
         return tab === 'runs' || (tab === 'text' && this.text === 'list') ? 'list' : 'audit';
     }
 
-    /** The program's text: what `cdpatch audit` or `cdpatch list` prints, or `cdscript files`. */
+    /** The output of `cdpatch audit`, `cdpatch list`, or `cdscript files`. */
     report() {
         const { survey, image, calls } = this.app;
         if (survey === null || image === null) return '';
@@ -76,7 +76,7 @@ export class Findings {
         return new TextDecoder().decode(report(calls, survey, image.tail).text);
     }
 
-    /** @param {boolean} hidden whether something else takes its place */
+    /** @param {boolean} hidden whether something else is shown in its place */
     hide(hidden) {
         if (this.hidden === hidden) return;
         this.hidden = hidden;
@@ -123,7 +123,7 @@ export class Findings {
     }
 
     /**
-     * Shows a table, in which a press or the focus goes on if it was there before.
+     * Shows a table. If it was already shown, the focus or a press in it is not interrupted.
      * @param {FindingsTab} name
      * @param {HTMLElement} head
      * @param {HTMLElement[]} rows
@@ -151,7 +151,7 @@ export class Findings {
     }
 
     /**
-     * A row for each finding of a place. Neighbours without a sync field or mode share one.
+     * The rows of a place, one for each finding. Adjacent sectors that have lost their sync field or mode share a row.
      * @param {Surveyed} survey
      * @param {Place} place
      */
@@ -205,7 +205,7 @@ export class Findings {
     }
 
     /**
-     * The kind of a run, as the map has it: sectors that are lost have no kind of their own.
+     * The kind of a run as shown on the map, where lost sectors have the same mark whatever their kind.
      * @param {number} first block of the run
      * @param {number} kind
      */
@@ -234,7 +234,7 @@ export class Findings {
         fill(this.foot, choice, element('span', {}, isExact ? texts.discPrintedToTheByte : texts.discPrintedButForAddresses));
     }
 
-    /** @param {HTMLElement} target in a row, all of which does what its button does */
+    /** @param {HTMLElement} target in a row; a click anywhere in it acts like a click on its button */
     clicked(target) {
         const fold = /** @type {HTMLElement | null | undefined} */ (target.closest('tbody tr')?.querySelector('.fold'));
         if (!fold) return;

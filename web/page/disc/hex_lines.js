@@ -1,4 +1,4 @@
-// How the bytes of a sector are drawn: lines of hexadecimal digits, with the texts that they are beside them.
+// Draws the bytes of a sector: lines of hexadecimal digits, with their text beside them.
 
 import { SECTOR_SIZE, USER_SIZE } from '../../core/module/index.js';
 import { USER_OFFSET } from '../../core/sectors/index.js';
@@ -11,18 +11,18 @@ import { element } from '../ui/index.js';
 /** @typedef {import('../../core/encodings/encoding.js').Encoding} Encoding */
 /** @typedef {{ name: string, label: string, from: number, to: number }} Field */
 /**
- * What is shown: the bytes, the fields that they lie in, those that are outlined, those that the script has changed, and those of a
- * second image, or null.
+ * The sector that is shown: its `bytes` after the script, the `old` ones before it, and the `other` ones of the second image, or null; its
+ * fields; and the `crossings`, which are outlined.
  * @typedef {{ block: number, bytes: Uint8Array, old: Uint8Array, other: Uint8Array | null, mode1: boolean, fields: Field[],
  *     crossings: Set<number>, encoding: Encoding, label: string }} Shown
  */
-/** How lines are drawn: how many bytes each has, and whether offsets are hexadecimal. */
+/** How lines are drawn: the number of bytes in each, and whether offsets are hexadecimal. */
 /** @typedef {{ columns: number, hexadecimal: boolean }} LineHow */
 
-/** The byte after the user data. */
+/** The offset after the last byte of user data. */
 export const USER_END = USER_OFFSET + USER_SIZE;
 
-/** @type {Record<number, string>} what begins at a byte of a Mode 1 sector */
+/** @type {Record<number, string>} the titles of the parts of a Mode 1 sector, by the offset where each begins */
 const CUTS = {
     0: texts.sectorSyncAndHeader,
     [USER_OFFSET]: told(texts.sectorUserDataOffsets, { last: String(USER_SIZE - 1), first: String(USER_OFFSET),
@@ -79,7 +79,7 @@ function hexLine(shown, from, to, letters, { hexadecimal }) {
 }
 
 /**
- * The name of a byte's place, as scripts count.
+ * The name of a byte's place: its offset in the user data, as in scripts, or else in the sector.
  * @param {Shown} shown
  * @param {number} at
  */
@@ -109,7 +109,7 @@ function byteCell({ bytes, old, other, fields, crossings }, at) {
 }
 
 /**
- * Under a line, the bytes of the second image that differ.
+ * The line below a line, with the bytes of the second image that differ. None if all are the same.
  * @param {Shown} shown
  * @param {number} from
  * @param {number} to
@@ -127,7 +127,7 @@ export function digitsOf(byte) {
 }
 
 /**
- * What stands in the text column for each byte: a character at its first byte, a point for what is none.
+ * The text column for each byte: a character at its first byte, or a dot where there is no visible character.
  * @param {Shown} shown
  * @returns {(Node | string)[]}
  */

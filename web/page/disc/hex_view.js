@@ -1,4 +1,4 @@
-// The bytes of a sector, in hex and as text, with what is chosen of them, and the strip of the whole sector beside them.
+// The view of the bytes of a sector: in hex and as text, with the selection, and a strip of the whole sector beside them.
 
 import { SECTOR_SIZE } from '../../core/module/index.js';
 import { USER_OFFSET } from '../../core/sectors/index.js';
@@ -13,16 +13,16 @@ const NARROW_HEX = 560;
 const HEX_LINE_HEIGHT = 21;
 
 export class HexView {
-    /** @param {(at: number, key: KeyboardEvent) => void} pressed what is done with keys that move nothing here */
+    /** @param {(at: number, key: KeyboardEvent) => void} pressed handles the keys that do not move the selection */
     constructor(pressed) {
         this.shown = /** @type {Shown | null} */ (null);
         this.at = 0;
-        /** The other end of what is selected; `at` if that is one byte. */
+        /** The other end of the selection; the same as `at` if it is one byte. */
         this.from = 0;
-        /** In which column one types. */
+        /** The column in which the user types. */
         this.column = /** @type {'hex' | 'text'} */ ('hex');
         this.hexadecimal = false;
-        /** Whether the mouse selects. */
+        /** Whether the user is selecting with the mouse. */
         this.dragging = false;
         this.pressed = pressed;
         this.columns = 16;
@@ -88,18 +88,18 @@ export class HexView {
         this.mark();
     }
 
-    /** @param {boolean} hexadecimal how offsets are shown */
+    /** @param {boolean} hexadecimal whether offsets are shown in hexadecimal */
     setOffsets(hexadecimal) {
         this.hexadecimal = hexadecimal;
         this.show(this.shown, this.columns);
     }
 
-    /** The first byte that is selected, and the one after the last. */
+    /** The first selected byte, and the one after the last. */
     selection() {
         return { first: Math.min(this.at, this.from), end: Math.max(this.at, this.from) + 1 };
     }
 
-    /** Shows which byte is the chosen one, and which are selected. */
+    /** Marks the chosen byte, and the selected ones. */
     mark() {
         for (const cell of this.hex.querySelectorAll('.at, .sel')) {
             cell.classList.remove('at', 'sel');
@@ -123,7 +123,7 @@ export class HexView {
 
     /**
      * @param {number} at
-     * @param {boolean} [middle] whether the byte comes to the middle
+     * @param {boolean} [middle] whether the byte is scrolled to the middle
      */
     reveal(at, middle = false) {
         const cell = this.hex.querySelector(`#byte-${Math.min(Math.max(at, 0), SECTOR_SIZE - 1)}`);
@@ -139,7 +139,7 @@ export class HexView {
     /**
      * Chooses a byte.
      * @param {number} at
-     * @param {boolean} [extend] whether what was selected grows or shrinks to it
+     * @param {boolean} [extend] whether the selection is extended or reduced to it
      */
     moveTo(at, extend = false) {
         if (this.shown === null) return;
@@ -158,7 +158,7 @@ export class HexView {
         this.moveTo(end - 1, true);
     }
 
-    /** @param {'hex' | 'text'} column in which one types from now on, and as which bytes are copied */
+    /** @param {'hex' | 'text'} column in which the user types from now on; bytes are copied in its form */
     typeIn(column) {
         this.column = column;
         this.moveTo(this.at, true);
@@ -177,7 +177,7 @@ export class HexView {
         return this.moveTo(moves[event.key], event.shiftKey);
     }
 
-    /** How many bytes a screen has. */
+    /** How many bytes fit on a screen. */
     screen() {
         return Math.max(1, Math.floor(this.hex.clientHeight / HEX_LINE_HEIGHT) - 2) * this.columns;
     }

@@ -1,4 +1,4 @@
-// Lists of known dumps (DAT, Logiqx XML): one that is opened names the disc, as long as the page is open.
+// Lists of known dumps (DAT, Logiqx XML), by which the disc is identified. A list is kept as long as the page is open.
 
 import { KnownDumps, beginsLikeDat } from '../../core/disc/index.js';
 import { fileReader } from '../open/index.js';
@@ -24,7 +24,7 @@ async function* piecesOf(file) {
 }
 
 /**
- * Takes a list of known dumps, and says so. Returns whether the file is one, by its name and what it begins with.
+ * Accepts a list of known dumps, and reports it. Returns false if the file is not one by its name and its first bytes.
  * @param {App} app
  * @param {File} file
  */
@@ -48,7 +48,7 @@ async function takeList(app, file) {
 }
 
 /**
- * What the lists say of the open image, as soon as its SHA-1 is known; null if there is no list.
+ * The result of looking up the open image in the lists; null if there is no list, or as long as its SHA-1 is not known.
  * @param {App} app
  * @param {Image} image
  */

@@ -1,4 +1,4 @@
-// The legend of the map, whose entries show only one mark.
+// The legend of the map. A pressed entry shows only its mark on the map.
 
 import * as texts from '../texts/index.js';
 import { counted } from '../texts/index.js';
@@ -8,24 +8,24 @@ import { element, fill, oneStop } from '../ui/index.js';
 /** @typedef {import('../app/marks.js').Look} Look */
 
 export class Legend {
-    /** @param {() => void} changed another entry is pressed, or none */
+    /** @param {() => void} changed called when a different entry is pressed, or none */
     constructor(changed) {
         this.changed = changed;
-        /** The name of the entry that is pressed, whose sectors alone are shown, or ''. */
+        /** The name of the pressed entry, whose sectors alone are shown, or ''. */
         this.alone = '';
         this.shown = '';
         this.part = element('div', { class: 'legend', role: 'group', 'aria-label': texts.discPressLegendEntry });
         oneStop(this.part, 'button');
     }
 
-    /** Presses no entry any more. */
+    /** Releases the pressed entry. */
     forget() {
         this.alone = '';
     }
 
     /**
-     * Shows the entries of a model, and returns the mark that alone is to be drawn, or -1 for all. Findings of which there are none are
-     * shown only as long as there may be some. Another model may not have the entry that is pressed: then all is drawn.
+     * Shows the entries of a model, and returns the only mark to be drawn, or -1 for all. Findings with a count of 0 are shown only until
+     * all sectors are read. If the model does not have the pressed entry, all marks are drawn.
      * @param {MapModel} model
      */
     show({ looks, counts, known, marks }) {

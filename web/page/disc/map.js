@@ -9,8 +9,9 @@ import { cellAt, layoutOf, paintMap, sectorAt } from './map_paint.js';
 /** @typedef {import('../app/marks.js').MapModel} MapModel */
 /** @typedef {import('./map_paint.js').MapLayout} MapLayout */
 /**
- * What the map asks whoever uses it: the text of a sector for the slider, the lines of the tip, and what happens when a place is
- * chosen (`open` if the sector is to be opened, and `focus` if the focus goes there) or a block is to be typed.
+ * Functions that the owner of a map provides: `spoken` and `tip` return the text of a sector for the slider and the lines of its tip.
+ * `choose` is called when a sector is chosen (`open` if it is to be opened, `focus` if it gets the focus), and `goTo` when the number of a
+ * block is to be typed.
  * @typedef {{ spoken: (sector: number) => string, tip: (sector: number) => string[],
  *     choose: (sector: number, how: { open: boolean, focus: boolean }) => void, goTo: () => void }} MapOwner
  */
@@ -55,7 +56,7 @@ export class DiscMap {
     }
 
     /**
-     * Shows another model, or the same one after it has changed.
+     * Shows a different model, or the same one after it has changed.
      * @param {MapModel | null} model
      * @param {number} [alone] the only mark that is drawn, or -1
      */
@@ -63,12 +64,12 @@ export class DiscMap {
         this.alone = alone;
         if (model === null || this.model === null || model.marks.length !== this.model.marks.length) this.at = -1;
         this.model = model;
-        // Less than a minute has no ruler. That is asked of the disc and not of the ruler, which depends on the room that it takes.
+        // A disc of less than a minute has no ruler. The labels of the ruler cannot decide this: they depend on the room that it takes.
         this.part.classList.toggle('short', model !== null && model.marks.length < SECTORS_A_MINUTE);
         this.draw();
     }
 
-    /** Draws soon, once for all that asked for it. */
+    /** Draws with the next frame, once for all calls until then. */
     draw() {
         if (this.waiting !== 0) return;
         this.waiting = requestAnimationFrame(() => {
@@ -110,7 +111,7 @@ export class DiscMap {
         fill(this.ruler, ...labels.length > 1 ? labels : []);
     }
 
-    /** Shows where the chosen sector is, and says it. */
+    /** Shows where the chosen sector is, also to screen readers. */
     drawPlace() {
         const { model, canvas, ring, layout, at } = this;
         if (model === null) return;
@@ -145,7 +146,7 @@ export class DiscMap {
     }
 
     /**
-     * The sector under the pointer. The canvas is drawn from a whole pixel on, even if the layout has it between two.
+     * The sector under the pointer. The canvas is drawn from a whole pixel on, even if the layout places it between two.
      * @param {MouseEvent} event
      */
     pointed(event) {
@@ -192,7 +193,7 @@ export class DiscMap {
     }
 
     /**
-     * Moves to the next finding, or to the previous one. Says whether there is one.
+     * Moves to the next finding, or to the previous one. Returns whether there is one.
      * @param {number} step
      */
     chooseFinding(step) {

@@ -1,11 +1,11 @@
-// Drawing a map: where each sector stands, and the pixels.
+// Lays out and draws a map: the place of each sector, and the pixels.
 
 import { MARK, loudMarks } from '../app/index.js';
 import { styleValue } from '../ui/index.js';
 
 /** @typedef {import('../app/marks.js').MapModel} MapModel */
 /**
- * How sectors are laid out: `per` of them share a cell, which is `cell` pixels wide and high; `columns` cells are a row.
+ * How sectors are laid out: `per` of them share a cell, which is `cell` pixels wide and high; `columns` cells form a row.
  * @typedef {{ per: number, cell: number, columns: number, rows: number, width: number, height: number }} MapLayout
  */
 
@@ -15,7 +15,7 @@ const HIGHEST = 520;
 const PART_OF_WINDOW = 0.62;
 
 /**
- * The layout of sectors: one pixel for a sector if they fit, several sectors a pixel if not, and cells of pixels if there are few.
+ * The layout of sectors: one pixel per sector if they fit, several sectors per pixel if not, and larger cells if there are few.
  * @param {number} count
  * @param {number} width
  * @param {number} windowHeight
@@ -42,7 +42,7 @@ export function cellAt({ per, cell, columns }, sector) {
 }
 
 /**
- * The sector that is meant by a point: the worst of those that share its pixel, or one whose mark reaches there.
+ * The sector at a point in pixels: the worst of those that share its cell, or a finding beside it whose mark extends there.
  * @param {MapLayout} layout
  * @param {MapModel} model
  * @param {number} x
@@ -63,7 +63,7 @@ export function sectorAt({ per, cell, columns, rows }, { marks, looks }, x, y) {
 }
 
 /**
- * Of some sectors the one with the greatest mark, or -1.
+ * The sector with the greatest mark in a range, or -1 past the last sector.
  * @param {Uint8Array} marks
  * @param {number} first
  * @param {number} count
@@ -104,7 +104,7 @@ export function paintMap(canvas, model, layout, alone) {
 }
 
 /**
- * The colour of each mark; two for what was not read.
+ * The colour of each mark, and the two colours of unread sectors.
  * @param {MapModel} model
  * @param {number} alone
  */
@@ -150,7 +150,7 @@ function paintCell(pixels, { cell, columns, width }, place, mark, { colours, sun
 }
 
 /**
- * Makes each finding two pixels wide and high, the worst ones last.
+ * Draws each finding two pixels wide and high, the worst ones last.
  * @param {Uint32Array} pixels
  * @param {MapLayout} layout
  * @param {Uint8Array} worst

@@ -1,4 +1,4 @@
-// The panel Disc: the map and what was found on the left, a sector on the right.
+// The panel Disc: the map and the findings on the left, a sector on the right.
 
 import { filesAt } from '../../core/iso/index.js';
 import { SecondCard } from '../second/index.js';
@@ -55,7 +55,7 @@ class DiscPanel {
         this.part = element('div', { class: 'disc-grid' }, this.left, this.right);
     }
 
-    /** Another image is open, or none. */
+    /** Resets the panel after a different image was opened, or none. */
     begin() {
         this.map.show(null);
         this.legend.forget();
@@ -71,14 +71,14 @@ class DiscPanel {
         const model = pair || survey.marks;
         this.findings.hide(pair !== null);
         this.map.show(model, this.legend.show(model));
-        const isAsked = this.sector.part.contains(document.activeElement); // for a block, while a second image is read
+        const isAsked = this.sector.part.contains(document.activeElement); // the user may type a block while a second image is read
         this.sector.part.hidden = this.app.second !== null && this.app.place.block < 0 && !isAsked;
         this.drawReadout();
     }
 
     /**
      * @param {boolean} wanted whether the place is scrolled to
-     * @param {boolean} comes whether the panel was not shown before, so that the focus was elsewhere
+     * @param {boolean} comes whether the panel was hidden before, so that the focus was elsewhere
      */
     drawPlace(wanted, comes) {
         const { survey, place } = this.app;
@@ -91,7 +91,7 @@ class DiscPanel {
         this.drawReadout();
     }
 
-    /** What is known of the chosen sector. */
+    /** Shows in words what is known of the chosen sector. */
     drawReadout() {
         const { app } = this;
         const { survey, place } = app;
@@ -107,7 +107,7 @@ class DiscPanel {
     }
 
     /**
-     * A sector was chosen on the map. It is shown at once; the focus stays on the map unless it is asked for.
+     * Shows a sector that was chosen on the map. The focus stays on the map unless `focus` is set.
      * @param {number} sector
      * @param {boolean} focus
      */
@@ -120,7 +120,7 @@ class DiscPanel {
 }
 
 /**
- * What a screen reader says of a sector.
+ * The text of a sector for screen readers.
  * @param {App} app
  * @param {number} sector
  */
@@ -137,7 +137,7 @@ function blockWords(block) {
 }
 
 /**
- * The file that a sector begins in, in words, or ''.
+ * The file that has the first user byte of a sector, in words, or ''.
  * @param {App} app
  * @param {number} block
  */

@@ -1,4 +1,4 @@
-// Findings grouped into places, and a guess what each looks like.
+// Groups findings into places, and guesses the cause of each.
 
 import { MARK } from '../app/index.js';
 import * as texts from '../texts/index.js';
@@ -7,10 +7,10 @@ import { told } from '../texts/index.js';
 /** @typedef {import('../app/marks.js').SurveyMarks} SurveyMarks */
 /** @typedef {{ first: number, last: number, sectors: number[], counts: Uint32Array }} Place sectors by their number in the image */
 
-/** How many sectors in a row without a finding end a place. */
+/** Findings this many sectors apart, or more, are in different places. */
 const PLACE_GAP = 700;
 
-/** A place is all over the disc if it has so many sectors at least, and half of all. */
+/** A place is all over the disc if it spans at least this many sectors, and half of all. */
 const ALL_OVER = 10 * PLACE_GAP;
 
 /** The spiral of a disc in millimetres: its first radius, its pitch, and the length of a sector at 1.3 m/s. */
@@ -42,7 +42,7 @@ export function placesOf({ marks, known }) {
 }
 
 /**
- * What was found at a place, in a few words, with the mark that stands for it.
+ * The findings of a place in a few words, with the mark that represents it.
  * @param {Place} place
  */
 export function placeWords({ counts }) {
@@ -59,7 +59,7 @@ export function placeWords({ counts }) {
 }
 
 /**
- * The base that the addresses say, if by the present one no sector of Mode 1 has the address of its block; else null.
+ * The base given by the addresses, if with the present base no sector of Mode 1 has the address of its block; else null.
  * @param {{ base: number, addressed: number | null }} image
  * @param {SurveyMarks} marks
  */
@@ -68,7 +68,7 @@ export function otherBase({ base, addressed }, marks) {
 }
 
 /**
- * Whether a place has no end on this disc.
+ * Whether a place extends all over the disc.
  * @param {Place} place
  * @param {number} known how many sectors were read
  */
@@ -77,7 +77,7 @@ export function isAllOver({ first, last }, known) {
 }
 
 /**
- * A guess from the distances, for people.
+ * A guess at the cause of a place, from the distances of its sectors, in words.
  * @param {Place} place
  * @param {boolean} isElsewhere whether no sector has the address of its block
  * @param {number} known how many sectors were read
@@ -97,10 +97,10 @@ export function placeGuess(place, isElsewhere, known) {
 }
 
 /**
- * A scratch crosses each turn of the spiral once, so that its distances are about a turn long. What is at other distances that are alike
- * is no scratch.
+ * A guess from the distances, or ''. A scratch crosses each turn of the spiral once, so that its sectors are about a turn apart. Sectors
+ * at a different regular distance are not a scratch.
  * @param {Place} place
- * @param {boolean} allOver the disc
+ * @param {boolean} allOver whether the place is all over the disc
  */
 function distanceGuess({ sectors, first }, allOver) {
     if (sectors.length < 8) return '';

@@ -1,4 +1,4 @@
-// The bytes of one sector: those of the file, and those that it has after the script.
+// The bytes of one sector, in the file and after the script.
 
 import { readBytes } from '../../core/bytes.js';
 import { SECTOR_SIZE } from '../../core/module/index.js';
@@ -8,7 +8,7 @@ import { applyInMemory } from '../../core/tasks/index.js';
 /** @typedef {import('../app/state.js').Image} Image */
 
 /**
- * A sector of the open image, before the script and after it. Damage is carried, so that each patch shows.
+ * Reads a sector of the open image, and applies the script to it. Damage is carried, so that each patch is visible.
  * @param {App} app
  * @param {Image} image
  * @param {number} block

@@ -1,4 +1,4 @@
-// The card of one sector: what is wrong with it in words, its fields, its bytes, and the byte that is chosen.
+// The card of one sector: its fault in words, its fields, its bytes, and the chosen byte.
 
 import { filesAt } from '../../core/iso/index.js';
 import { SECTOR_KIND, USER_SIZE } from '../../core/module/index.js';
@@ -29,7 +29,7 @@ export class SectorCard {
         this.drawn = 0;
         this.wantsFocus = false;
         this.isOld = false;
-        /** What is said of bytes that were copied, until another byte is chosen. */
+        /** The message that bytes were copied, until a different byte is chosen. */
         this.copied = '';
         this.view = new HexView((at, event) => this.edit.pressed(this.view, at, event));
         this.view.hex.addEventListener('moved', () => { this.copied = ''; });
@@ -60,7 +60,7 @@ export class SectorCard {
         this.close();
     }
 
-    /** The row of tools: to another block, and how bytes and offsets are shown. */
+    /** The row of tools: a field to go to a block, and choices of how bytes and offsets are shown. */
     tools() {
         const form = element('form', { submit: (/** @type {Event} */ event) => this.goToBlock(event) },
             element('label', { class: 'row small' }, texts.sectorGoToBlock, this.goTo));
@@ -72,13 +72,13 @@ export class SectorCard {
         return element('div', { class: 'row' }, form, encoding, offsets);
     }
 
-    /** Takes the focus to the bytes, now or as soon as they are there. */
+    /** Moves the focus to the bytes, now or as soon as they are shown. */
     focus() {
         this.wantsFocus = true;
         if (!this.body.hidden && this.number === this.drawn) this.takeFocus();
     }
 
-    /** Takes the focus to the field for a block. */
+    /** Moves the focus to the field for a block. */
     ask() {
         this.part.hidden = false;
         this.goTo.focus();
@@ -98,7 +98,7 @@ export class SectorCard {
         this.body.hidden = true;
     }
 
-    /** @param {boolean} changed whether it may look another way. It is read again only when it is seen. */
+    /** @param {boolean} changed whether the sector may look different. It is read again only when it is visible. */
     redraw(changed) {
         this.isOld = this.isOld || changed;
         if (this.isOld && this.app.panel === 'disc') this.draw(false);
@@ -106,7 +106,7 @@ export class SectorCard {
 
     /**
      * Shows the chosen place.
-     * @param {boolean} moved whether it is another one than before
+     * @param {boolean} moved whether it is a different one than before
      * @param {boolean} [wanted] whether it is scrolled to
      */
     async draw(moved, wanted = false) {
@@ -203,14 +203,14 @@ export class SectorCard {
             : keysIn(isUser ? keys : texts.sectorKeysOfOthers));
     }
 
-    /** Says over the bytes that they were copied by a key. */
+    /** Shows over the bytes that they were copied by a key. */
     sayCopied() {
         const { first, end } = this.view.selection();
         this.copied = told(texts.sectorBytesCopied, { n: end - first });
         this.drawFoot();
     }
 
-    /** How many bytes are selected. */
+    /** Words for how many bytes are selected; none for a single byte. */
     selectionWords() {
         const { view } = this;
         const { first, end } = view.selection();
@@ -218,7 +218,7 @@ export class SectorCard {
         return [element('span', {}, told(texts.sectorBytesSelected, { n: end - first, place: placeName(view.shown, first) }))];
     }
 
-    /** What becomes of bytes that are typed in a damaged sector. */
+    /** A warning that changes in a damaged sector will be refused, or ''. */
     damageHint() {
         const { shown } = this.view;
         if (shown === null || isSound(this.app.calls.survey(shown.old, 0), 0)) return '';
@@ -254,7 +254,7 @@ export class SectorCard {
 }
 
 /**
- * A number as programs write it that show bytes.
+ * A number in hexadecimal, as hex editors show it.
  * @param {number} number
  */
 function hexadecimal(number) {

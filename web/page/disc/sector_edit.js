@@ -1,4 +1,4 @@
-// What keys, copy and paste do with the bytes of a sector.
+// Edits the bytes of a sector with keys, copy, and paste.
 
 import { encodeText } from '../../core/encodings/index.js';
 import { bytesOfHex } from '../../core/hex_digits.js';
@@ -19,7 +19,7 @@ import { Typing } from './typing.js';
 export class SectorEdit {
     /**
      * @param {App} app
-     * @param {() => void} changed something else is to be said under the bytes
+     * @param {() => void} changed called when the text under the bytes changes
      */
     constructor(app, changed) {
         this.app = app;
@@ -27,7 +27,7 @@ export class SectorEdit {
         this.typing = new Typing(app);
         /** The first digit of a byte whose second one is not typed yet. */
         this.digit = '';
-        /** Why the bytes that were typed or pasted last are not taken, or ''. */
+        /** Why the bytes that were typed or pasted last were not accepted, or ''. */
         this.fault = '';
         this.view = /** @type {HexView | null} */ (null);
     }
@@ -50,7 +50,7 @@ export class SectorEdit {
         });
     }
 
-    /** A digit that was typed, and what was said, are of the byte that was chosen before. */
+    /** Discards the typed digit and the message, which belong to the byte that was chosen before. */
     forget() {
         this.digit = this.fault = '';
         this.changed();
@@ -77,7 +77,7 @@ export class SectorEdit {
     }
 
     /**
-     * What keys do that do not move within the sector.
+     * Handles the keys that do not move within the sector.
      * @param {HexView} view
      * @param {number} at
      * @param {KeyboardEvent} event
@@ -98,7 +98,7 @@ export class SectorEdit {
     }
 
     /**
-     * From texts back to digits, and from there to the map.
+     * Handles Escape, which leads from texts back to digits, and from there to the map.
      * @param {HexView} view
      */
     escape(view) {
@@ -108,7 +108,7 @@ export class SectorEdit {
     }
 
     /**
-     * A screen on or back; past the end, the next sector.
+     * Moves a screen forward or back, or beyond the sector's end to the next or previous sector.
      * @param {HexView} view
      * @param {number} at
      * @param {number} step
@@ -123,7 +123,7 @@ export class SectorEdit {
     }
 
     /**
-     * Takes back the digit or the bytes that were typed last.
+     * Undoes the digit or the bytes typed last.
      * @param {HexView} view
      */
     takeBack(view) {
@@ -146,8 +146,8 @@ export class SectorEdit {
     }
 
     /**
-     * Writes bytes from the first one on that is selected.
-     * @param {() => Uint8Array} bytesOf what is written. It may throw a Fault
+     * Writes bytes from the first selected byte on.
+     * @param {() => Uint8Array} bytesOf returns the bytes. It may throw a Fault
      */
     write(bytesOf) {
         const { view } = this;
@@ -173,7 +173,7 @@ export class SectorEdit {
     }
 
     /**
-     * Why so many bytes cannot be written at the chosen place, or ''.
+     * Why that many bytes cannot be written at the chosen place, or ''.
      * @param {number} count
      */
     faultOf(count) {
@@ -187,7 +187,7 @@ export class SectorEdit {
 }
 
 /**
- * The bytes of hexadecimal digits, with or without spaces. Throws a Fault if a text is none.
+ * Converts hexadecimal digits, with or without spaces, to bytes. Throws a Fault for any other text.
  * @param {string} text
  */
 function pastedBytes(text) {

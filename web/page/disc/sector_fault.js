@@ -1,4 +1,4 @@
-// What is wrong with a sector, in words: first the program's line, then what it means.
+// The fault of a sector in words: first the program's line, then what it means.
 
 import { RECORD, SECTOR_KIND, SECTOR_SIZE, USER_SIZE } from '../../core/module/index.js';
 import { firstLinesOf, lineText } from '../../core/script/index.js';
@@ -19,7 +19,7 @@ import { addressOf } from './sector_text.js';
  * @param {App} app
  * @param {number} block
  * @param {Uint8Array} sector as it is in the file
- * @param {Crossings | null} found of a Mode 1 sector
+ * @param {Crossings | null} found in a Mode 1 sector, null for other kinds
  */
 export function sectorFault(app, block, sector, found) {
     if (found === null) return otherKind(app, block, sector);
@@ -45,7 +45,7 @@ function mono(text) {
 
 /**
  * @param {Crossings} found
- * @param {boolean} either whether something else does not fit
+ * @param {boolean} either whether the EDC does not match, too
  * @returns {Child[]}
  */
 function crossingWords({ crossings, ...counts }, either) {
@@ -62,7 +62,7 @@ function crossingWords({ crossings, ...counts }, either) {
 }
 
 /**
- * What can be done about damage.
+ * The remedies for a damaged sector.
  * @param {App} app
  * @param {number} block
  */
@@ -79,7 +79,7 @@ function remedies(app, block) {
 }
 
 /**
- * A sector that the second image has sound.
+ * The message that the second image has a sound copy of a sector.
  * @param {App} app
  * @param {'taken' | 'doubtful'} copies
  */
@@ -99,7 +99,7 @@ function noCopy({ second }, copies) {
 }
 
 /**
- * What leads to a repair: from the second image, if that is only compared with, else from another one.
+ * The button for a repair: from the second image, if it is only compared with so far, else from an image to be chosen.
  * @param {App} app
  */
 function repairButton(app) {
@@ -110,7 +110,7 @@ function repairButton(app) {
 }
 
 /**
- * Which line of the script rebuilds a sector before any other writes in it, or ''.
+ * The message that a line of the script rebuilds a sector before any other line writes in it, or ''.
  * @param {App} app
  * @param {number} block
  */
@@ -127,7 +127,7 @@ function rebuildLine(block) {
 }
 
 /**
- * Adds a line that rebuilds a sector, before those that write in it: these would be refused.
+ * Adds a line that rebuilds a sector, before the lines that write in it, which would be refused without it.
  * @param {App} app
  * @param {number} block
  */

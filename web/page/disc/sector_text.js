@@ -1,4 +1,4 @@
-// A sector in words: what it is, and what was found in it, by the program's own text.
+// Describes a sector in words: its kind, and its finding as the program prints it.
 
 import { RECORD, RECORD_SIZE } from '../../core/module/index.js';
 import { addressText, findingOf } from '../../core/sectors/index.js';
@@ -11,7 +11,7 @@ import { told } from '../texts/index.js';
 /** @typedef {import('../app/state.js').Surveyed} Surveyed */
 
 /**
- * What `cdpatch audit` prints of a sector after its block, or ''.
+ * The text that `cdpatch audit` prints for a sector after its block, or ''.
  * @param {Calls} calls
  * @param {Surveyed} survey
  * @param {number} sector
@@ -21,7 +21,7 @@ export function findingAt(calls, { block, records }, sector) {
 }
 
 /**
- * What is known of a sector, in words: its kind, its finding, and what `audit` has of that.
+ * Describes a sector in words: its kind, its finding, and the text of `audit` for the finding.
  * @param {App} app
  * @param {Surveyed} survey
  * @param {number} sector
@@ -47,7 +47,7 @@ export function addressOf({ calls }, block) {
 }
 
 /**
- * All sectors of Mode 1, by their number.
+ * All Mode 1 sectors in words, with their number.
  * @param {number} count
  */
 export function modeOneSectors(count) {

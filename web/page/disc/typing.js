@@ -1,10 +1,10 @@
-// Bytes that are typed in the sector view become lines of the script.
+// Converts bytes that are typed in the sector view to lines of the script.
 
 import { lineText } from '../../core/script/index.js';
 
 /** @typedef {import('../app/state.js').App} App */
 
-/** The bytes that were typed one after the other, which are one line. */
+/** Bytes that are typed one after the other, which form one line. */
 export class Typing {
     /** @param {App} app */
     constructor(app) {
@@ -23,7 +23,7 @@ export class Typing {
         return lineText(lines => lines.set(this.block, this.offset, Uint8Array.from(this.fresh), Uint8Array.from(this.old)));
     }
 
-    /** Whether the last line is still in the script as it was written, wherever it stands by now. */
+    /** Whether the last line is still in the script as it was written, even if its number has changed. */
     stands() {
         return this.written !== null && this.app.script.lines[this.written.number - 1] === this.written;
     }
@@ -33,7 +33,7 @@ export class Typing {
      * @param {number} block
      * @param {number} offset
      * @param {Uint8Array} bytes
-     * @param {Uint8Array} before what stands there, after the script so far
+     * @param {Uint8Array} before the bytes there, after the script so far
      */
     type(block, offset, bytes, before) {
         const place = offset - this.offset;

@@ -8,17 +8,17 @@ import { announce, byId, element, fill, nameOf, setAttribute } from '../ui/index
 /** @typedef {import('../app/state.js').App} App */
 /** @typedef {import('../ui/fill.js').Child} Child */
 
-/** What is to be chosen for each job, as the start says it. */
+/** The text of the start that says what to choose for each job. */
 const WANTED = {
     play: texts.openChooseWithPatch,
     translate: texts.openChooseImage,
     repair: texts.openChooseBothDumps,
 };
 
-/** No browser says of each drag that it has ended: one of which nothing was heard for so many milliseconds has. */
+/** Milliseconds without an event after which a drag counts as ended, since no browser reports the end of every drag. */
 const DRAG_ENDS = 1000;
 
-/** The picker, and what is aimed at by what is chosen next. */
+/** The file picker, and the aim of the files that are chosen next. */
 class Chooser {
     /** @param {App} app */
     constructor(app) {
@@ -56,7 +56,7 @@ class Chooser {
         this.app.open(files, aim);
     }
 
-    /** Nothing was chosen. On the start what is dropped next is for the same job. */
+    /** Ends a choice without files. On the start, files that are dropped next are for the same job. */
     cancelled() {
         if (this.app.image !== null) this.aimAt('');
     }
@@ -84,7 +84,7 @@ export function mountChoosing(app) {
 }
 
 /**
- * What becomes of files that are dropped now.
+ * The text on what happens to files that are dropped now.
  * @param {App} app
  * @returns {Child[]}
  */

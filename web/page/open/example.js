@@ -1,4 +1,4 @@
-// An example disc, for who has none at hand: 300 sectors with a small volume, a Japanese text, a scratch and some audio.
+// Generates an example disc for users without one: 300 sectors with a small volume, a Japanese text, a scratch, and some audio.
 
 import { CP932, encodeText } from '../../core/encodings/index.js';
 import { SECTOR_SIZE, USER_SIZE } from '../../core/module/index.js';
@@ -17,7 +17,7 @@ const FILES = [
 const TEXT = ['スタート', 'つづきから', 'はじめから', '設定', 'ゲームをスタートします', 'セーブしますか？', 'はい', 'いいえ', 'ドアは鍵がかかっている。',
     '「だれかいるのか？', '返事をしてくれ」', '星空探偵、登場。'];
 
-/** @param {number} number in both orders of bytes */
+/** @param {number} number to be written in both byte orders */
 function bothOrders(number) {
     const bytes = new DataView(new ArrayBuffer(8));
     bytes.setUint32(0, number, true);
@@ -26,7 +26,7 @@ function bothOrders(number) {
 }
 
 /**
- * A record of a directory.
+ * A directory record.
  * @param {string} name
  * @param {number} block
  * @param {number} size
@@ -41,7 +41,7 @@ function recordOf(name, block, size, flags) {
     return record;
 }
 
-/** @param {Uint8Array} user that of the volume's descriptor */
+/** @param {Uint8Array} user data of the volume descriptor */
 function fillDescriptor(user) {
     user.set([1, 67, 68, 48, 48, 49, 1]);
     user.fill(32, 8, 72);
@@ -51,7 +51,7 @@ function fillDescriptor(user) {
     user.set(recordOf('\0', ROOT, USER_SIZE, 2), 156);
 }
 
-/** @param {Uint8Array} user that of the root directory */
+/** @param {Uint8Array} user data of the root directory */
 function fillRoot(user) {
     const records = [recordOf('\0', ROOT, USER_SIZE, 2), recordOf('\x01', ROOT, USER_SIZE, 2),
         ...FILES.map(({ name, block, sectors }) => recordOf(name, block, sectors * USER_SIZE, 0))];

@@ -1,4 +1,4 @@
-// Reading the files that were opened.
+// Reads the files that were opened.
 
 import { cancelled } from '../../core/faults.js';
 import * as texts from '../texts/index.js';
@@ -9,15 +9,15 @@ import { ownFault } from '../../sentences/index.js';
 /** @typedef {import('../../core/bytes.js').Reader} Reader */
 /** @typedef {import('../../core/crew/crew.js').Crew} Crew */
 
-/** Bytes of a slice if reads follow one another, and how many slices are asked for while one is used. */
+/** Bytes of a slice if reads follow one another, and how many slices are requested while one is used. */
 const SLICE_SIZE = 1 << 24;
 const SLICES_AHEAD = 2;
 
-/** So many bytes between two reads are read with them: a slice of its own takes longer. */
+/** Up to this many bytes between two reads are read with them: a separate slice would take longer. */
 const PASSED_OVER = 1 << 20;
 
 /**
- * That a file that was opened cannot be read any more.
+ * The error that an opened file cannot be read any more.
  * @param {string} name
  */
 function fileGone(name) {
@@ -37,10 +37,10 @@ export function fileReader(file) {
 }
 
 /**
- * The same reader. But for one who reads forward, hands of the crew that have nothing else to do read whole slices.
+ * The same reader, except that idle workers of the crew read whole slices when it is read forward.
  * @param {Reader} reader
  * @param {Pick<Crew, 'readLent'>} crew
- * @param {{ aborted: boolean }} signal which ends a read even if no hand answers
+ * @param {{ aborted: boolean }} signal which ends a read even if no worker answers
  * @returns {Reader}
  */
 export function readByHands(reader, crew, signal) {
@@ -55,7 +55,7 @@ export function readByHands(reader, crew, signal) {
 }
 
 /**
- * What cuts a file.
+ * Returns a function that reads a slice of a file.
  * @param {File} file
  * @returns {Reader['read']}
  */
@@ -64,7 +64,7 @@ function cutting(file) {
 }
 
 /**
- * A reader of a file for one who reads forward.
+ * A reader of a file for reading it forward.
  * @param {File} file
  * @param {Reader['read']} cut
  * @returns {Reader}
@@ -75,7 +75,7 @@ function forwardReader(file, cut) {
 }
 
 /**
- * What comes of a work, or `cancelled` as soon as a signal says so.
+ * Waits for work, but rejects with `cancelled` as soon as the signal is aborted.
  * @template T
  * @param {AbortSignal} signal
  * @param {Promise<T>} work
@@ -93,7 +93,7 @@ function unlessEnded(signal, work) {
 
 /** @typedef {{ from: number, to: number, bytes: Promise<Uint8Array> }} Slice */
 
-/** A file for one who reads forward. Bytes of a slice are not copied. */
+/** Reads a file forward, in slices requested ahead. The bytes of a slice are not copied. */
 class SlicesAhead {
     /**
      * @param {number} size of the file
@@ -104,7 +104,7 @@ class SlicesAhead {
         this.cut = cut;
         /** @type {Slice[]} the one that is used, and those after it */
         this.slices = [];
-        /** How many slices reads that follow one another have begun, and where the last of them has ended. */
+        /** How many slices were begun by reads that follow one another, and where the last read ended. */
         this.row = 0;
         this.end = -Infinity;
     }
@@ -139,7 +139,7 @@ class SlicesAhead {
      */
     ask(from, length) {
         const bytes = this.cut(from, length);
-        bytes.catch(() => {}); // it is thrown when its turn comes
+        bytes.catch(() => {}); // the error is thrown when the slice is used
         this.slices.push({ from, to: Math.min(from + length, this.size), bytes });
     }
 
@@ -149,7 +149,7 @@ class SlicesAhead {
 }
 
 /**
- * The same reading, whose failure says that the file is gone, unless it was cancelled.
+ * Wraps a read function: its failure is reported as a file that is gone, unless it was cancelled.
  * @param {File} file
  * @param {Reader['read']} read
  * @returns {Reader['read']}
@@ -173,7 +173,7 @@ export function fileOf(reader) {
 }
 
 /**
- * Whether two files are one, as far as a page can see.
+ * Whether two files are the same, as far as a page can see.
  * @param {File} one
  * @param {File} other
  */

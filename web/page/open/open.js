@@ -1,4 +1,4 @@
-// Opening files. What each file is decides what becomes of it.
+// Opens files, and uses each according to its kind.
 
 import { readBytes } from '../../core/bytes.js';
 import { kindOfFile, openDisc } from '../../core/disc/index.js';
@@ -56,7 +56,7 @@ async function openFiles(app, files, aim, waiting) {
         const earlier = new Set(waiting);
         for (const file of files) kinds.push(await takenAs(app, file, waiting));
         const others = files.filter((_, i) => kinds[i] === '');
-        // A patcher among them is shown in place of the panels now, and takes the image.
+        // A patcher among them is now shown in place of the panels, and gets the image.
         if (app.services !== services) return await app.open(others);
         const { sheet, second } = others.length === 0 ? NOTHING : await openImages(app, others);
         showNext(app, aim, kinds.includes('script'), image === null);
@@ -71,7 +71,7 @@ async function openFiles(app, files, aim, waiting) {
 }
 
 /**
- * Uses the files that wait for nothing any more. A list of known dumps says itself what it waits for.
+ * Uses the files that need not wait any more. A list of known dumps reports itself what it waits for.
  * @param {App} app
  * @param {Waiting[]} waiting
  */
@@ -84,7 +84,7 @@ async function useWaiting(app, waiting) {
 }
 
 /**
- * Says which files wait for an image.
+ * Reports which files wait for an image.
  * @param {App} app
  * @param {Waiting[]} waiting
  */
@@ -95,11 +95,11 @@ function sayWaiting(app, waiting) {
 }
 
 /**
- * Shows the panel with the next step: of a script and its image that it is checked, else that of a job.
+ * Shows the panel with the next step: for a script and its image the check, else the step of a job.
  * @param {App} app
  * @param {Aim} aim
  * @param {boolean} script whether a script was opened
- * @param {boolean} image whether an image was, if there is one
+ * @param {boolean} image whether the image, if there is one, was opened now
  */
 function showNext(app, aim, script, image) {
     if (app.image === null || !(script || image)) return;
@@ -115,7 +115,7 @@ function showNext(app, aim, script, image) {
 }
 
 /**
- * As what a file is taken: a script, something else than an image, or '' if it may be an image.
+ * Accepts a file that is not an image. Returns whether it is a script or something other than an image, or '' if it may be an image.
  * @param {App} app
  * @param {File} file
  * @param {Waiting[]} waiting
@@ -130,16 +130,16 @@ async function takenAs(app, file, waiting) {
         if (taken) return 'other';
     }
     const start = file.size > MOST_SCRIPT_BYTES ? new Uint8Array(0) : await fileReader(file).read(0, SCRIPT_START);
-    // What begins as a sector is no text: to read it as one takes long.
+    // A file that begins with a sector is not a text, and reading it as one takes long.
     if (start.length >= SECTOR_SIZE && app.calls.kind(start.subarray(0, SECTOR_SIZE)) !== SECTOR_KIND.NOSYNC) return '';
     const text = new TextEncoder().encode(textOfFile(start));
     if (!isScript(app.calls, text) && !isMeantAsScript(app.calls, text)) return '';
-    // The program reads no text with a mark of its encoding: what stands in the editor is in no file then.
+    // The program does not read a text with a byte order mark, so that the text in the editor is not in a file yet.
     const marked = MARKS.find(({ bytes }) => bytes.every((byte, i) => byte === start[i]));
     const whole = textOfFile(await readBytes(fileReader(file), 0, file.size));
     const known = isLong(whole) ? null : await modelInParts(app.calls, whole, nextTurn);
     await nextTurn();
-    encodingOf(app.encoding)?.text(new Uint8Array(0)); // to make its table takes as long as to draw lines with their texts
+    encodingOf(app.encoding)?.text(new Uint8Array(0)); // building its table takes as long as drawing lines with their texts
     await nextTurn();
     app.setScript(whole, file.name, !marked, known);
     app.showPanel('script');
@@ -153,15 +153,16 @@ async function takenAs(app, file, waiting) {
     return 'script';
 }
 
-/** How editors mark the encoding of a text. */
+/** The byte order marks by which editors mark the encoding of a text. */
 const MARKS = [{ name: texts.openUtf8WithMark, bytes: [0xEF, 0xBB, 0xBF] }, { name: 'UTF-16', bytes: [0xFF, 0xFE] },
     { name: 'UTF-16', bytes: [0xFE, 0xFF] }];
 
-/** That no image was opened of a cue sheet, and none as a second one. */
+/** The result if no image was opened from a cue sheet, nor as a second one. */
 const NOTHING = { sheet: /** @type {Image | null} */ (null), second: /** @type {Image | null} */ (null) };
 
 /**
- * Opens an image, or two. Returns the one that was opened of a cue sheet, and the one that is a second image, since one is open.
+ * Opens an image, or two. Returns a single image as `sheet`, since it may come from a cue sheet, and the image beside the open one as
+ * `second`.
  * @param {App} app
  * @param {File[]} files
  */
@@ -183,7 +184,7 @@ async function openImages(app, files) {
 }
 
 /**
- * Says which files were left out, since the cue sheet that was opened does not name them.
+ * Reports which files were left out, since the cue sheet that was opened does not name them.
  * @param {File[]} files
  * @param {Image | null} image
  */
@@ -215,11 +216,12 @@ async function openedImage(app, files) {
 }
 
 /**
- * The image in which a track of a disc lies: the one of a number, or the first with data; of a disc of audio, the first that is open.
+ * The image that contains a track of a disc: the track of the given number, or the first with data; on an audio disc, the first that is
+ * open.
  * @param {Disc} disc
  * @param {string} sheet
  * @param {number | null} number
- * @param {Map<string, string>} [renamed] those of its files that were saved patched
+ * @param {Map<string, string>} [renamed] those of its files that were saved patched, with their new names
  * @returns {Image}
  */
 export function imageOfTrack(disc, sheet, number, renamed = new Map()) {
@@ -233,7 +235,7 @@ export function imageOfTrack(disc, sheet, number, renamed = new Map()) {
 }
 
 /**
- * The first track with bytes of a disc that has no data, to be looked at; of other discs null.
+ * The first track with bytes of a disc that has no data, to be inspected; null for other discs.
  * @param {Disc} disc
  */
 function audioTrack({ files, tracks }) {
@@ -245,7 +247,7 @@ function audioTrack({ files, tracks }) {
 }
 
 /**
- * Says why files were not opened, with the command that makes a raw image of a CHD.
+ * Reports why files were not opened, with the command that converts a CHD to a raw image.
  * @param {App} app
  * @param {File[]} files
  * @param {unknown} error
@@ -263,7 +265,7 @@ async function showOpeningFailure(app, files, error) {
 }
 
 /**
- * The command that makes a raw image of a CHD. A name stands in it only if no shell of any system reads more in it than a name.
+ * The command that converts a CHD to a raw image. It contains the file's name only if every shell reads that as nothing but a name.
  * @param {string} name
  */
 function commandFor(name) {

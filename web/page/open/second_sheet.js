@@ -1,4 +1,4 @@
-// What is asked when a second image comes: nothing of it is read before that but what it is.
+// Asks what to do with a second image. Before the answer, only its kind is read.
 
 import { commonPart, isSameRange, trackBeside } from '../../core/tasks/index.js';
 import * as texts from '../texts/index.js';
@@ -14,7 +14,7 @@ import { countedAs, readImage } from './survey_image.js';
 /** @typedef {import('../ui/fill.js').Child} Child */
 
 /**
- * Asks what a second image is for, unless that was said, and does it.
+ * Asks what to do with a second image, unless the aim already says it, and does it.
  * @param {App} app
  * @param {Image} given
  * @param {Aim} aim
@@ -33,7 +33,7 @@ export async function takeSecond(app, given, aim) {
 }
 
 /**
- * Makes a second image the open one, which is repaired from the one that was open.
+ * Opens a second image in place of the open one, and repairs it from that one.
  * @param {App} app
  * @param {Image} second
  */
@@ -64,7 +64,7 @@ function askFor({ survey }, image, second, words) {
 }
 
 /**
- * Whether two images are one file, which was opened twice.
+ * Whether two images are the same file, opened twice.
  * @param {Image} image
  * @param {Image} second
  */
@@ -74,7 +74,7 @@ function isSameImage(image, second) {
 }
 
 /**
- * What is wrong with a second image; nothing if it can be another dump of the disc.
+ * The reasons why a second image does not match; none if it can be another dump of the disc.
  * @param {Image} image
  * @param {Image} second
  * @returns {Child[]}

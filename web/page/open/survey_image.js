@@ -1,4 +1,4 @@
-// Reading an image that was opened: the survey of its sectors, its files, and its hash.
+// Reads an image that was opened: surveys its sectors, lists its files, and hashes it.
 
 import { cancelled } from '../../core/faults.js';
 import { foundInSurvey, surveyedTrack } from '../../core/tasks/index.js';
@@ -11,7 +11,7 @@ import { isCancelled, refuseWhileSaving, showFailure } from '../ui/index.js';
 /** @typedef {import('../app/hashing.js').RangeSurvey} RangeSurvey */
 
 /**
- * Makes an image the open one, or closes it, and reads it.
+ * Opens an image and reads it, or with null closes the open one.
  * @param {App} app
  * @param {Image | null} image
  */
@@ -27,7 +27,7 @@ export async function readImage(app, image) {
 }
 
 /**
- * The survey of an image, again if it was done already, which ends as its reading does.
+ * Surveys an image, possibly again. The survey ends when its reading does, complete or not.
  * @param {App} app
  * @param {Image} image
  * @param {AbortSignal} signal
@@ -61,7 +61,7 @@ async function surveyOnly(app, image, signal) {
 }
 
 /**
- * Surveys an image and hashes it, by one reading.
+ * Surveys and hashes an image, reading it once.
  * @param {App} app
  * @param {Image} image
  * @param {AbortSignal} signal
@@ -94,7 +94,7 @@ async function listFiles(app, { opened }, signal) {
 }
 
 /**
- * Gives the image another base, and surveys it again.
+ * Changes the base of the image, and surveys it again.
  * @param {App} app
  * @param {number} base
  */
@@ -106,7 +106,7 @@ export function changeBase(app, base) {
 }
 
 /**
- * An image with the blocks of its track as they are counted otherwise.
+ * Returns an image with the blocks of its track numbered as in `opened`.
  * @param {Image} image
  * @param {OpenedTrack} opened
  */

@@ -1,4 +1,4 @@
-// The disc of what a player chose, in one choice or in two: a cue sheet waits for the files that it names, and the other way round.
+// Opens the disc of the files that a player chose. A cue sheet and the files that it names may be chosen one after the other.
 
 import { readBytes } from '../../core/bytes.js';
 import { kindOfFile, openDisc } from '../../core/disc/index.js';
@@ -14,12 +14,12 @@ export class ChosenDisc {
     /** @param {App} app */
     constructor(app) {
         this.app = app;
-        /** The files of the last choice, unless they were a cue sheet and all that it names. */
+        /** The files of the last choice, unless they were a cue sheet and all files that it names. */
         this.before = /** @type {File[]} */ ([]);
     }
 
     /**
-     * Opens files, together with those of the choice before if there was a cue sheet in just one of the two. Throws as openDisc.
+     * Opens files, together with those of the previous choice if just one of the two has a cue sheet. Throws what openDisc throws.
      * @param {File[]} files
      */
     async open(files) {
@@ -34,7 +34,7 @@ export class ChosenDisc {
     }
 
     /**
-     * The text of a cue sheet, '' of any other file.
+     * The text of a cue sheet; '' for any other file.
      * @param {File} file
      */
     async sheetText(file) {
@@ -47,7 +47,7 @@ export class ChosenDisc {
     }
 
     /**
-     * What each file is, '' if it can't be read.
+     * The kind of each file; '' if it cannot be read.
      * @param {File[]} files
      */
     kinds(files) {
@@ -60,7 +60,7 @@ export class ChosenDisc {
     }
 
     /**
-     * Why files are no image to patch.
+     * The notice on why files are not an image to patch.
      * @param {unknown} error
      * @param {File[]} files
      */

@@ -1,4 +1,4 @@
-// Patchers, as players see them, and what they are made of.
+// Patchers: as players see them, and as they are generated.
 
 export { mountPatchers } from './opened_patcher.js';
 export { pageSource, publishedSource } from './own_text.js';

@@ -1,4 +1,4 @@
-// Patchers that are opened: this page, if data stand after its last tag, or a file that is dropped on it.
+// Opens patchers: this page, if data follow its last tag, or a file that is dropped on it.
 
 import { kindOfFile } from '../../core/disc/index.js';
 import { isScript } from '../../core/script/index.js';
@@ -15,11 +15,11 @@ import { showPlayer } from './show.js';
 /** @typedef {ReturnType<typeof comparedWithPage>} Compared */
 
 const LARGEST_PATCHER = 1 << 28;
-/** A page says in its first bytes that it is one, if its name does not. */
+/** How many bytes of a file are searched for the marks of a page, if its name is not that of one. */
 const PAGE_START = 1 << 16;
 const PAGE_NAME = /\.(?:[xsd]?html?|xht|svgz?|mht|mhtml|xml)$/i;
 const PAGE_MARK = /<script\b|<!doctype html|<html\b|<plaintext hidden id="data">/i;
-/** Files that no browser opens as a page, whatever stands in them. */
+/** Kinds of files that no browser opens as a page, whatever they contain. */
 const IMAGES = ['raw', 'iso', 'subchannels', 'wave'];
 
 /** @param {App} app */
@@ -35,7 +35,7 @@ export async function mountPatchers(app) {
     }
 }
 
-/** Waits until the browser has all of this page: the data of a patcher stand after the script, and come later. */
+/** Waits until the browser has loaded all of this page: the data of a patcher follow the script, and arrive later. */
 async function wholeDocument() {
     if (document.readyState !== 'loading') return;
     showNotice('plain', texts.playerPageStillLoading, texts.playerOpensIfPatcher);
@@ -44,7 +44,7 @@ async function wholeDocument() {
 }
 
 /**
- * Whether a file is a page. The bytes of a patcher are compared with this page, and only its data are read.
+ * Accepts a file that is a page, and returns whether it is one. A patcher is compared with this page, and only its data are read.
  * @param {App} app
  * @param {File} file
  */

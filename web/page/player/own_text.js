@@ -1,4 +1,4 @@
-// The page's own text, of the parts that its document has: each is known by what it has, wherever it stands.
+// Rebuilds the page's own text from the parts of its document. Each part is recognised by its content, wherever it is.
 
 import { OWN } from '../app/index.js';
 import * as texts from '../texts/index.js';
@@ -25,7 +25,7 @@ function isOwnPolicy(text) {
 }
 
 /**
- * The page's own style and policy, wherever they stand, and whether each is the first of its kind. Throws if one of them is gone.
+ * The page's own style and policy, wherever they are, and whether both are the first of their kind. Throws if one is missing.
  * @param {Calls} calls
  */
 function ownParts(calls) {
@@ -47,7 +47,7 @@ export function pageSource(calls) {
 }
 
 /**
- * The same to be published, which no page is in which another style or policy came before its own.
+ * The page's own text, for publishing. Throws if a different style or policy comes before its own.
  * @param {Calls} calls
  */
 export function publishedSource(calls) {

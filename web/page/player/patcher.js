@@ -1,5 +1,5 @@
-// Patchers: the page's own bytes, and data after them. The data are a line with version, size and SHA-1, and base64 of deflated
-// bytes: a line of JSON, and the script.
+// Generates and reads patchers: the page's own bytes, and data after them. The data are a line with version, size, and SHA-1, and base64
+// of deflated bytes: a line of JSON, and the script.
 
 import { ByteList } from '../../core/bytes.js';
 import { Fault, failedBy } from '../../core/faults.js';
@@ -12,21 +12,21 @@ import { headFault, isImageName, takenHead } from './patcher_head.js';
 /** @typedef {import('../../core/module/calls.js').Calls} Calls */
 
 /**
- * What a patcher has. `cue` is the text of a cue sheet that names the patched image, or ''; `carry` says how it is applied; `image` is
- * what it was made for, and `result` the SHA-1 of what the author got.
+ * The data of a patcher. `cue` is the text of a cue sheet that names the patched image, or ''. `carry` says whether damaged sectors are
+ * patched too. `image` identifies the image that it was made for, and `result` is the SHA-1 of the author's patched image.
  * @typedef {{ title: string, author: string, note: string, name: string, cue: string, carry: boolean, base: number,
  *     image: { size: number, sha1: string }, result: string, script: string }} PatcherData
  */
 
 const LARGEST_HEAD = 1 << 20;
-/** Bytes that are inflated at a time: what they become has room, however they were made. */
+/** Bytes that are inflated at a time, few enough that the result fits in memory however they were compressed. */
 const INFLATE_STEP = 1 << 12;
 /** Bytes that are hashed at a time. */
 const HASH_STEP = 1 << 20;
 const FORM = /^\ncdpatch-data 1 (\d{1,9}) ([0-9a-f]{40})\n([A-Za-z0-9+/]+={0,2})\n$/;
 
 /**
- * Why the data of a patcher were not read.
+ * The error that the data of a patcher are not valid.
  * @param {string} message
  */
 function patcherFault(message) {
@@ -34,7 +34,7 @@ function patcherFault(message) {
 }
 
 /**
- * The bytes of a stream, but no more than a limit: then it throws a Fault.
+ * Reads the bytes of a stream. Throws a Fault if there are more than a limit.
  * @param {ReadableStream<Uint8Array>} stream
  * @param {number} most
  */
@@ -52,7 +52,7 @@ async function streamBytes(stream, most) {
 }
 
 /**
- * Bytes as a stream of small pieces. A browser makes all that one piece inflates to before it hands on any of it.
+ * Bytes as a stream of small pieces, since a browser inflates a whole piece before it delivers any of the result.
  * @param {Uint8Array} bytes
  */
 function inSmallPieces(bytes) {
@@ -86,7 +86,7 @@ export function checksum(calls, bytes) {
 }
 
 /**
- * What stands after the page's own bytes in a patcher.
+ * Generates the text that follows the page's own bytes in a patcher. Throws a Fault.
  * @param {Calls} calls
  * @param {PatcherData} data
  */
@@ -133,8 +133,8 @@ function jsonOf(bytes) {
 }
 
 /**
- * What a page that was dropped is, compared with this one: `same` if its first bytes are those of this page, `program` what stands before
- * its data, and `text` these, with line ends as a browser reads them; null if it has no data.
+ * Compares a page that was dropped with this one. `same` says whether its first bytes are those of this page, `program` has the bytes
+ * before its data, and `text` is the data, with line ends as a browser reads them. Returns null if it has no data.
  * @param {Uint8Array} file
  * @param {string} source the page's own text
  */
@@ -148,7 +148,7 @@ export function comparedWithPage(file, source) {
 }
 
 /**
- * Where the data of a page begin, after the mark, or 0.
+ * The offset of the data of a page, after their mark, or 0.
  * @param {string} text
  */
 function endOfProgram(text) {

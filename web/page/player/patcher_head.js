@@ -1,4 +1,4 @@
-// The head of a patcher's data: what each member has to be, and what is taken of a head that a stranger may have written.
+// Checks the head of a patcher's data, which a stranger may have written, and selects what is used of it.
 
 import { sheetOf } from '../../core/disc/index.js';
 import { LAST_BASE, MOST_SECTORS, SECTOR_SIZE } from '../../core/module/index.js';
@@ -8,17 +8,17 @@ import { told } from '../texts/index.js';
 
 /** @typedef {import('./patcher.js').PatcherData} PatcherData */
 
-/** A name that moves no directory, and that each system takes for a file's. */
+/** A name without a path, which every system accepts for a file. */
 const PLAIN_NAME = /^[^/\\:*?"<>|\p{C}\p{Zl}\p{Zp}]+$/u;
-/** What nobody sees in a name. A space is seen between others. */
+/** The invisible characters of a name. A space is visible between others. */
 const UNSEEN = /[\p{Default_Ignorable_Code_Point}\u2800]|(?! )\p{Z}/u;
-/** What Windows takes for a device, whatever stands after the dot. */
+/** The names of devices on Windows, whatever follows the dot. */
 const DEVICE = /^(con|prn|aux|nul|conin\$|conout\$|(com|lpt)[0-9¹²³]) *(\.|$)/i;
 const LONGEST_STEM = 120;
-/** What an image is called if its patcher has no name for it that can be used. */
+/** The name of a patched image if its patcher has no usable name for it. */
 const OTHER_NAME = 'patched.bin';
 
-/** @type {Record<string, (value: any) => boolean>} what each member of the head has to be */
+/** @type {Record<string, (value: any) => boolean>} the check of each member of the head */
 const HEAD_FORM = {
     title: value => isText(value, 200) && isSeen(value),
     author: value => isText(value, 200),
@@ -40,7 +40,7 @@ function isText(value, most) {
 }
 
 /**
- * Whether a text has a character that one sees.
+ * Whether a text has a visible character.
  * @param {string} text
  */
 export function isSeen(text) {
@@ -69,7 +69,7 @@ function hasMembers(value, names) {
 }
 
 /**
- * Why a head is not one of a patcher, or ''.
+ * Why a value is not the head of a patcher, or ''.
  * @param {any} head
  */
 export function headFault(head) {
@@ -79,7 +79,7 @@ export function headFault(head) {
 }
 
 /**
- * Whether a patched image may have this name: a plain one, with the ending of an image, so that no program runs what is in it.
+ * Whether a patched image may have this name. It must be plain and end like an image's name, so that no program runs the contents.
  * @param {string} name
  */
 export function isImageName(name) {
@@ -88,7 +88,7 @@ export function isImageName(name) {
 }
 
 /**
- * Whether a cue sheet can be read, and names only files that lie beside it.
+ * Whether a cue sheet can be read, and names only files beside it.
  * @param {string} text
  */
 export function isPlainSheet(text) {
@@ -106,7 +106,7 @@ function isPlainName(name) {
 }
 
 /**
- * The files of titles that a cue sheet names, which move no bytes, but are opened.
+ * The CD-TEXT files that a cue sheet names. They have no bytes of the disc, but are opened too.
  * @param {string} text
  */
 function textFiles(text) {
@@ -115,8 +115,8 @@ function textFiles(text) {
 }
 
 /**
- * What is taken of a right head: an image is never called what its author says if that is no image's name, and a sheet that an emulator
- * could read otherwise is none.
+ * Selects what is used of a valid head. The author's name for the image is replaced if it is not the name of an image, and a cue sheet
+ * that an emulator could read differently is dropped.
  * @template {Pick<PatcherData, 'name' | 'cue'>} Head
  * @param {Head} head
  * @returns {Head}

@@ -1,4 +1,4 @@
-// How a player plays what was saved.
+// Explains to players how to play the image that was saved.
 
 import { copyWords, downloadText, otherFiles, sheetNaming } from '../save/index.js';
 import * as texts from '../texts/index.js';
@@ -8,7 +8,7 @@ import { button, element, fill, icon, nameOf, notice } from '../ui/index.js';
 /** @typedef {import('../ui/fill.js').Child} Child */
 
 /**
- * A cue sheet that names the image to play: the player's, or else the author's, with another name in it; '' if neither names it.
+ * A cue sheet that names the image to play: the player's, or else the author's, with the name replaced; '' if neither names its image.
  * @param {string} name of the image to play
  * @param {string} sheet the player's
  * @param {string} image the name that the player's image had
@@ -30,10 +30,10 @@ export function playWords(name, sheet) {
 }
 
 /**
- * If no cue sheet is known: the player's own one, if he has one, is of the image as it was.
+ * The text if no cue sheet is known. If the player has one, it belongs to the unpatched image.
  * @param {string} name of the image to play
  * @param {string} sheet of a disc that has one track, or '' if this one may have more
- * @param {(file: File) => Promise<boolean>} take a cue sheet that the player has; says whether it names the image
+ * @param {(file: File) => Promise<boolean>} take accepts a cue sheet that the player has; returns whether it names the image
  * @returns {Child[]}
  */
 export function wordsWithoutSheet(name, sheet, take) {
@@ -45,7 +45,7 @@ export function wordsWithoutSheet(name, sheet, take) {
 }
 
 /**
- * The button by which a player chooses the cue sheet that he has.
+ * The button with which a player chooses an existing cue sheet.
  * @param {(file: File) => Promise<boolean>} take
  * @returns {Child[]}
  */
@@ -62,7 +62,7 @@ function sheetChooser(take) {
 }
 
 /**
- * The button that saves a cue sheet, and where it says what is to be opened then.
+ * The button that saves a cue sheet, and the status that then says what to open.
  * @param {string} name of the image
  * @param {string} sheet
  * @param {string} label

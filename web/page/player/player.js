@@ -19,7 +19,7 @@ import { imageOfSize, judgeImage } from './verdict.js';
 /** @typedef {import('./verdict.js').Judged} Judged */
 /** @typedef {import('../save/patch_job.js').Saved} Saved */
 /** @typedef {import('../ui/fill.js').Child} Child */
-/** What is said of the file that the patcher came in, and how one goes back to the page that showed it, if one can. */
+/** A note on the file of the patcher, and a function that goes back to the panel that showed it, or null. */
 /** @typedef {{ note: Child, back: (() => void) | null }} PlayerHow */
 /** @typedef {'now' | 'done' | 'later'} StepState */
 
@@ -44,9 +44,9 @@ export class Player {
         this.leaving = false;
         this.saving = false;
         this.number = 0;
-        /** The block of the image's first sector, as far as it is known. */
+        /** The block of the image's first sector, or null if it is not known. */
         this.base = /** @type {number | null} */ (null);
-        /** Ends the job that runs. */
+        /** Ends the running job. */
         this.stop = () => {};
         askBeforeLeaving(() => this.leaving);
         /** @type {HTMLInputElement} */
@@ -173,7 +173,7 @@ export class Player {
     }
 
     /**
-     * An image of which nothing shows that the patch belongs into it, or that it is what the author made: no button is the one to press.
+     * Shows an image that may be the wrong one for the patch, or may not be the author's result. No button is the main one.
      * @param {Element} name
      * @param {Element} said
      * @param {DiscImage} image
@@ -269,7 +269,7 @@ export class Player {
         const rest = [same, wait, left, unknown].map(text => text && element('p', {}, text));
         const third = this.playStep(name);
         this.show(first, this.step('2', 'done', texts.playerStepPatched, said, ...rest), third);
-        // Without a main button the step itself has the focus, which else went back to the first one.
+        // Without a main button the step itself gets the focus, which would otherwise return to the first step.
         if (!third.querySelector('.main') && this.steps.contains(document.activeElement)) {
             third.tabIndex = -1;
             third.focus({ preventScroll: true });

@@ -1,4 +1,4 @@
-// What a player is told of his image, and why.
+// The verdict on a player's image in words, with its reasons.
 
 import { RESULT } from '../../core/module/index.js';
 import * as texts from '../texts/index.js';
@@ -18,7 +18,7 @@ export const VERDICTS = {
     changed: ['warn', texts.playerPlacesHoldNewBytes],
 };
 
-/** Why a place or several refuse their patch, and what to think of it. */
+/** For each result, why places refuse their patch, and what that suggests. */
 const VERDICT_REASONS = /** @type {const} */ ([
     [RESULT.DIFFERS, texts.playerHoldOtherBytes, texts.playerOtherReleaseProbably],
     [RESULT.DAMAGED, texts.playerAreDamaged, texts.playerTryAnotherDump],
@@ -27,10 +27,10 @@ const VERDICT_REASONS = /** @type {const} */ ([
 ]);
 
 /**
- * Why a patch does not fit.
+ * Why a patch does not match.
  * @param {number} patches
- * @param {number[]} refused their results
- * @param {Record<number, string>} [advices] what to think of each result, if not what players are told
+ * @param {number[]} refused the results of the refused ones
+ * @param {Record<number, string>} [advices] the advice for each result, in place of the one for players
  */
 export function reasonsOf(patches, refused, advices = {}) {
     const places = told(texts.playerPlacesOfPatch, { n: patches });
@@ -41,10 +41,10 @@ export function reasonsOf(patches, refused, advices = {}) {
 }
 
 /**
- * Why the patch does not fit a player's image. An older version of it leaves the size of the image, and what its sectors are.
+ * Why the patch does not match a player's image. An image with an older version of the patch has the same size and kinds of sectors.
  * @param {Pick<Judged, 'patches' | 'refused'>} judged
  * @param {number} size of the image
- * @param {number} wanted that of the author's
+ * @param {number} wanted the size of the author's
  */
 export function refusalForPlayer({ patches, refused }, size, wanted) {
     const isOlder = size === wanted && refused.every(it => it === RESULT.DIFFERS);
@@ -52,10 +52,10 @@ export function refusalForPlayer({ patches, refused }, size, wanted) {
 }
 
 /**
- * What stands under the verdict on an image that is not refused, and not known by its SHA-1.
+ * The text under the verdict on an image that is neither refused nor recognised by its SHA-1.
  * @param {Judged} judged
  * @param {number} size of the image
- * @param {number} wanted that of the author's
+ * @param {number} wanted the size of the author's
  */
 export function reasonForPlayer({ verdict, patches, without, damaged }, size, wanted) {
     const sizes = size === wanted ? '' : told(texts.playerSizesDiffer, { n: size, wanted });

@@ -1,4 +1,4 @@
-// A patcher is shown as players see it, in place of the panels, until they open it in the full page.
+// Shows a patcher as players see it, until they open it in the full page.
 
 import { changeBase } from '../open/index.js';
 import * as texts from '../texts/index.js';
@@ -25,7 +25,7 @@ export function showPlayer(app, data, how) {
     const giveBack = app.serve({ open: files => player.open(files), dropSays });
     const refused = said();
     const leave = async (/** @type {boolean} */ full) => {
-        // A save of the panels goes on meanwhile, and can be cancelled only there.
+        // A save in the panels continues meanwhile, and can be cancelled only there.
         if ((full || player.saving) && refuseWhileSaving(app, [], refused)) return undefined;
         player.stop();
         giveBack();

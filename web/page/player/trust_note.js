@@ -1,4 +1,4 @@
-// What stands over the steps of a patcher, and under them: what its author writes, its script, and what one can do to be sure.
+// The texts above and below the steps of a patcher: the author's words, its script, and how to check whether it can be trusted.
 
 import { downloadText } from '../save/index.js';
 import * as texts from '../texts/index.js';
@@ -10,7 +10,7 @@ import { button, element, seenTitle } from '../ui/index.js';
 const MOST_SCRIPT_SHOWN = 200000;
 
 /**
- * The author's own words, in a frame: nothing of this page stands in it.
+ * The author's own words, in a frame that separates them from the page's.
  * @param {PatcherData} data
  */
 export function authorsWords({ title, author, note }) {

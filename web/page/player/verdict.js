@@ -1,5 +1,5 @@
-// What a player's image is to a patcher: the right disc, another dump that the patch fits or does not fit, or patched already; or one of
-// which the patch cannot say it.
+// Judges a player's image for a patcher: the right disc, another dump that the patch matches or does not match, an image that is already
+// patched, or one that cannot be judged by the patch.
 
 import { Fault } from '../../core/faults.js';
 import { RESULT, SECTOR_SIZE } from '../../core/module/index.js';
@@ -18,21 +18,22 @@ import { told } from '../texts/index.js';
 /** @typedef {import('./patcher.js').PatcherData} PatcherData */
 /** @typedef {import('../save/patch_job.js').PatchWork} PatchWork */
 /**
- * `right` and `patched` are said by the SHA-1 only. Any other image fits if it is as long as the author's and all that is written names its
- * old bytes; if some names none, it is `unknown`. In one that is `changed` all places have their new bytes already.
+ * Only the SHA-1 decides `right` and `patched`. Any other image `fits` if it is as long as the author's and all patches name their old
+ * bytes, which match; if it is of a different size, or some patches name none, it is `unknown`. In one that is `changed`, all places
+ * already have their new bytes.
  * @typedef {'right' | 'fits' | 'unknown' | 'other' | 'damaged' | 'patched' | 'changed'} Verdict
  */
 /**
- * A verdict, the SHA-1 of the image, '' if it was not needed; how many patches there are, and how many of them name no old bytes; the
- * results of those that are refused, and the program's words for the first of them; how many sectors are damaged of one that fits or is
- * unknown; and what is to be done.
+ * A verdict; the SHA-1 of the image, '' if it was not needed; how many patches there are, and how many of them are `without` old bytes;
+ * the results of the `refused` ones, and the program's `words` for the first of them; how many sectors are `damaged` in an image that
+ * fits or is unknown; and the `work` to be done.
  * @typedef {{ verdict: Verdict, sha1: string, patches: number, without: number, refused: number[], words: string, damaged: number,
  *     work: PatchWork }} Judged
  */
 /** @typedef {{ signal: { aborted: boolean }, progress: (done: number, all: number) => void }} JudgeWatch */
 
 /**
- * The image of the data track that has a size, or of the first one.
+ * The image of the data track with the given size, or of the first data track. Throws a Fault for a music track.
  * @param {Disc} disc
  * @param {number} size
  */
@@ -46,7 +47,7 @@ export function imageOfSize(disc, size) {
 }
 
 /**
- * Judges an image. First the patches, of which only the sectors are read, so that 'does not fit' comes at once; then the hash.
+ * Judges an image. The patches are tried first, reading only their sectors, so that a mismatch is reported at once; then it is hashed.
  * @param {App} app
  * @param {PatcherData} data
  * @param {DiscImage} image
@@ -87,7 +88,7 @@ async function damagedSectors({ crew }, { reader, base }, { signal, progress }) 
 }
 
 /**
- * The base that the addresses of an image say, or that of the author's if they say none.
+ * The base given by the addresses of an image, or the base of the author's if they give none.
  * @param {DiscImage} image
  * @param {number} other
  */

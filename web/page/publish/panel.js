@@ -1,4 +1,4 @@
-// The panel Publish: a copy of this page with the script, for players.
+// The panel Publish, which saves a copy of this page with the script, for players.
 
 import { RESULT } from '../../core/module/index.js';
 import { OWN, sha1Of } from '../app/index.js';
@@ -18,9 +18,9 @@ import { proposedName, triedOn } from './trial.js';
 /** @typedef {import('./trial.js').Tried} Tried */
 /** @typedef {[('good' | 'bad' | 'warn' | 'quiet'), ...Child[]]} Row */
 
-/** What stands in no name of a file. */
+/** The characters that no file name may contain. */
 const SIGNS_OF_PATHS = '\\ / : * ? " < > |';
-/** A browser may send what is typed to a service that checks its spelling. */
+/** Keeps typed text in the page: a browser may send it to a service that checks its spelling. */
 const PRIVATE = { autocomplete: 'off', spellcheck: 'false' };
 
 /** The panel. */
@@ -36,7 +36,7 @@ class PublishPanel {
         this.number = 0;
         this.trying = false;
         this.busy = false;
-        /** Whether something was typed that is in no patcher yet. */
+        /** Whether something was typed that is not in a patcher yet. */
         this.edited = false;
         const text = (/** @type {string} */ id) => element('input', { type: 'text', id, maxlength: 200, ...PRIVATE,
             input: () => this.typed() });
@@ -81,7 +81,7 @@ class PublishPanel {
                 element('p', { class: 'small quiet' }, texts.publishScriptSavedElsewhere)));
     }
 
-    /** @param {...Child} parts of how far a patcher has come */
+    /** @param {...Child} parts that show the progress of a patcher */
     say(...parts) {
         fill(this.state, ...parts);
     }
@@ -92,7 +92,7 @@ class PublishPanel {
     }
 
     /**
-     * Takes over what a patcher says of itself, so that the next one can be made of it.
+     * Fills in the form from the data of a patcher, so that the next one can be made from it.
      * @param {Pick<PatcherData, 'title' | 'author' | 'note' | 'name' | 'cue' | 'carry'>} data
      */
     take({ title, author, note, name, cue, carry }) {
@@ -223,8 +223,8 @@ class PublishPanel {
 
     /**
      * @param {Image} image
-     * @param {string} script of which `result` is the result
-     * @param {string} result
+     * @param {string} script as it was tried
+     * @param {string} result the SHA-1 of the patched image
      * @returns {PatcherData}
      */
     data(image, script, result) {
@@ -236,7 +236,7 @@ class PublishPanel {
     }
 
     /**
-     * The cue sheet that players are offered, or ''.
+     * The cue sheet that is offered to players, or ''.
      * @param {Image} image
      */
     cueOf(image) {

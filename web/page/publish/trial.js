@@ -1,4 +1,4 @@
-// What a patcher is made of: the script as it was tried on the image, and the name that the patched image gets.
+// Tries the script of a patcher on the image, and proposes a name for the patched image.
 
 import { RESULT } from '../../core/module/index.js';
 import { isImageName } from '../player/index.js';
@@ -8,14 +8,14 @@ import { stemOf } from '../ui/index.js';
 /** @typedef {import('../app/state.js').App} App */
 /** @typedef {import('../app/state.js').Image} Image */
 /**
- * What is known of a script on the image: how many patches are refused, the line of the first of them or 0, and how many of them for
- * damage; how many are without old bytes, and how many old bytes there are; and the patched image.
+ * The result of a script on the image: how many patches are `refused`, the line of the `first` of them or 0, and how many of them for
+ * damage; how many patches are `without` old bytes, and how many `old` bytes there are; and the patched image.
  * @typedef {{ script: string, patches: number, refused: number, first: number, damaged: number, without: number, old: number,
  *     result: import('../../core/bytes.js').Reader }} Tried
  */
 
 /**
- * The name that is proposed for the patched image.
+ * Proposes a name for the patched image.
  * @param {string} name of the image
  */
 export function proposedName(name) {
@@ -24,7 +24,7 @@ export function proposedName(name) {
     return names.find(isImageName) || names[1];
 }
 
-/** Characters of an image's name that go into that of the patched one if it is too long. */
+/** How many characters of an image's name are kept in the proposed name if it would be too long. */
 const LONGEST_PROPOSED = 100;
 
 /**
