@@ -1,6 +1,6 @@
-// Texts that are one in several spellings: composed or not, with a yen sign or a backslash; and loosely, half-width or full-width, and in
-// capitals or not. They are spellings of a part, as two codes of one kanji are: so the search knows nothing of them, and the bytes that are
-// replaced are those that stand there.
+// Spellings of a text that count as the same: composed or decomposed, with a yen sign or a backslash. A loose search also ignores the width
+// and the case of characters. They are spellings of a part, like two codes of one kanji: so the search needs no special case, and the bytes
+// that are replaced are those that were found.
 
 import { joinedBytes } from '../bytes.js';
 import { lacks, numbersOf } from '../encodings/index.js';
@@ -8,14 +8,14 @@ import { failedBy } from '../faults.js';
 
 /** @typedef {import('../encodings/encoding.js').Encoding} Encoding */
 
-/** What composes one character: a character with marks, or the letters of a Korean syllable. */
+/** Sequences that compose one character: a character with combining marks, or the letters of a Korean syllable. */
 const COMPOSING = /\P{M}\p{M}+|[\u1100-\u1112][\u1161-\u1175][\u11A8-\u11C2]?/gu;
 const HALF_WIDTH_KANA = /[\uFF61-\uFF9F]+/g;
 
-/** @type {Record<string, string>} Japanese sets of characters have them at one code */
+/** @type {Record<string, string>} Japanese character sets have both at one code */
 const SAME_SIGN = { '\\': '¥', '¥': '\\' };
 
-/** Half-width forms by the full-width ones, and the other way round. */
+/** Maps half-width forms to full-width ones, and vice versa. */
 const OTHER_WIDTHS = new Map();
 for (const code of numbersOf([0x3000, 0x3000], [0xFF01, 0xFF5E], [0xFF61, 0xFF9F], [0xFFE5, 0xFFE5])) {
     for (const mark of ['', 'ﾞ', 'ﾟ']) {
@@ -26,14 +26,13 @@ for (const code of numbersOf([0x3000, 0x3000], [0xFF01, 0xFF5E], [0xFF61, 0xFF9F
 }
 
 /**
- * By the encodings, what was asked for before: strictly and loosely, of each character its spellings and those of its other forms, none if
- * it has no others.
+ * Caches the results of `spelledAlike`: for each encoding, a strict and a loose map from characters.
  * @type {WeakMap<Encoding, Map<string, Uint8Array[]>[]>}
  */
 const spellingsAsked = new WeakMap();
 
 /**
- * The forms of a character that are one with it, itself first.
+ * The equivalent forms of a character, itself first.
  * @param {string} character
  * @param {boolean} loose
  */
@@ -49,7 +48,7 @@ function formsOf(character, loose) {
 }
 
 /**
- * The spellings of a form, none if the encoding lacks it.
+ * The spellings of a form; empty if the encoding lacks it.
  * @param {Encoding} encoding
  * @param {string} form
  */
@@ -64,7 +63,7 @@ function spellingsOf(encoding, form) {
 }
 
 /**
- * The spellings of a character and of its other forms, none if it has no others.
+ * The spellings of a character and of its other forms; empty if the encoding has no other form.
  * @param {Encoding} encoding
  * @param {string} character
  * @param {boolean} loose
@@ -75,8 +74,8 @@ function spelledAlike(encoding, character, loose) {
 }
 
 /**
- * The parts of a text as `Encoding.units` gives them, with the spellings that are one with its own. Throws a Fault, `text`, that names the
- * first character without any.
+ * The parts of a text as `Encoding.units` returns them, with all equivalent spellings. Throws a Fault, `text`, that names the first
+ * character without a spelling.
  * @param {Encoding} encoding
  * @param {string} text
  * @param {boolean} [loose]

@@ -14,24 +14,24 @@ import { visible } from './visible.js';
 /** @typedef {import('./range.js').AskedTexts} AskedTexts */
 /** @typedef {import('./range.js').Told} Told */
 /**
- * A stretch of user bytes that is a file, or what lies between files: from a sector of the part on, in the order of files. `before` is how
- * many bytes of the file come before it.
+ * A stretch of user bytes: a file, or the sectors between files. `first` is its first sector in the part, in the order of files; `before`
+ * is how many bytes of the file come before it.
  * @typedef {{ path: string, before: number, first: number, size: number }} Stretch
  */
 /**
- * What a table has: texts in what is asked for, of at least so many characters, each line of them in a row of its own if `asked` says so,
- * and a tab or a comma between cells. `signal` ends the job; `progress` hears of sectors.
+ * Options of a table: `asked` is the encoding, and whether each line has its own row; `least` is the fewest characters of a text; and
+ * `mark`, a tab or a comma, separates cells. `signal` ends the job; `progress` is called with numbers of sectors.
  * @typedef {{ asked: AskedTexts, least?: number, mark?: string, signal?: { aborted: boolean },
  *     progress?: (done: number, all: number) => void }} TableHow
  */
 
 const COLUMN_NAMES = ['block', 'offset', 'bytes', 'room', 'encoding', 'file', 'text', 'new'];
 
-/** The fewest characters of a row. A line of one character is a line. */
+/** The fewest characters of a row. A row for one line may have a single one. */
 const LEAST_CHARACTERS = 2;
 const LEAST_OF_LINES = 1;
 
-/** Stretches that are looked at side by side. */
+/** How many stretches are searched at the same time. */
 const STRETCHES_AT_ONCE = 64;
 
 /** @param {Stretch} stretch */
@@ -77,7 +77,7 @@ export function stretchesOf(part, files) {
  * @param {import('../crew/crew.js').Sharing} watch
  */
 async function textsOf(crew, { reader, order }, stretch, asked, watch) {
-    /** @type {Told[][]} of each range its own */
+    /** @type {Told[][]} one list for each range */
     const told = [];
     const { first, size } = stretch;
     const sectors = sliceOf(order ? order.reader : reader, first * SECTOR_SIZE, (first + sectorsOf(stretch)) * SECTOR_SIZE);
@@ -98,9 +98,9 @@ function cellsOf({ base, order }, { path, before, first }, { start, end, room, s
 }
 
 /**
- * The table of the texts of some stretches, in pieces, with how many texts each has. The first one names the columns.
+ * Generates the table of the texts of some stretches, in pieces, each with its number of texts. The first piece names the columns.
  * @param {Sharer} crew
- * @param {OrderedImage} part whose order is that of its files
+ * @param {OrderedImage} part whose `order` is that of its files
  * @param {Stretch[]} stretches
  * @param {TableHow} how
  * @returns {AsyncGenerator<{ text: string, count: number }>}
@@ -108,7 +108,7 @@ function cellsOf({ base, order }, { path, before, first }, { start, end, room, s
 export async function* tableOfTexts(crew, part, stretches, how) {
     const { asked, least = asked.lines ? LEAST_OF_LINES : LEAST_CHARACTERS, mark = '\t', signal, progress } = how;
     const all = stretches.reduce((sum, stretch) => sum + sectorsOf(stretch), 0);
-    // A character has two units at most.
+    // A character has at most two UTF-16 units.
     const isLong = (/** @type {Told} */ { text }) => text.length >= 2 * least || [...text].length >= least;
     let done = 0;
     const watchOne = () => {

@@ -1,28 +1,28 @@
-// The best way to read bytes around a place as characters of one encoding.
+// Finds the best way to read the bytes around a place as characters of one encoding.
 
 import { AFTER_KINDS } from './frequencies.js';
 import { ASCII, BAD, CONTROL, KANJI, codeAt } from './scores.js';
 
 /** @typedef {import('./scores.js').Scores} Scores */
 
-/** How far a text may reach in one go before a place and from there on, in bytes. */
+/** The most bytes before a place at which a path may begin, and the most bytes of a path. */
 const BACK = 32;
 const MOST = 4096;
 
 /** A text ends where its score has fallen by this many quarter bits. */
 const FALL = 56;
 
-/** In UTF-16 two bytes 00 over the border of two characters are the end of a text that is read with the other byte first. */
+/** The score of a UTF-16 character that begins with 00 after a 00: the two bytes end a text in the other byte order. */
 const ZEROS = -FALL - 4;
 
-/** What a control code after another one has more: two begin a new line in many games, and do not end a text. */
+/** The bonus of a control code after another one: in many games two of them begin a new line, and do not end a text. */
 const SECOND_CONTROL = 20;
 
-/** Only so many kanji in a row count, and no character that stands among the last ones. */
+/** Only this many kanji in a row count, and a character that repeats one of the last LAST_ONES does not. */
 const KANJI_IN_A_ROW = 6;
 const LAST_ONES = 3;
 
-/** The score of what counts nothing: its order does not either. */
+/** The score of a kanji that does not count; nothing is added for its order either. */
 const MUTE = -2;
 
 /** The most bytes of a character. */
@@ -30,14 +30,14 @@ const LONGEST = 3;
 
 const KINDS = AFTER_KINDS.length;
 
-/** Finds paths, one after the other. */
+/** Finds one path after the other, in the same arrays. */
 export class PathFinder {
     constructor() {
         this.order = Int8Array.from(AFTER_KINDS.flat());
         this.order[CONTROL * KINDS + CONTROL] = SECOND_CONTROL;
         this.order[CONTROL * KINDS + ASCII] = 0;
-        // By places after the first one: of the best path that ends there its score and its start, the kind of its last character, and how
-        // many kanji end it.
+        // By places after the first one, the best path that ends there: its score, its start, the kind of its last character, and how many
+        // kanji in a row it ends with.
         this.score = new Int32Array(MOST + LONGEST);
         this.start = new Int32Array(MOST + LONGEST);
         this.kind = new Uint8Array(MOST + LONGEST);
@@ -45,10 +45,10 @@ export class PathFinder {
     }
 
     /**
-     * The best path that ends after a place, from one before it on.
+     * The best path that ends after a place, and begins at most BACK bytes before it.
      * @param {Scores} scores
      * @param {Uint8Array} bytes
-     * @param {number} low where it begins at the earliest
+     * @param {number} low the earliest place at which it may begin
      * @param {number} place
      */
     find(scores, bytes, low, place) {
@@ -103,13 +103,13 @@ export class PathFinder {
     }
 
     /**
-     * What a character of several bytes adds to the best path before it.
+     * The score that a character of several bytes adds to the best path before it.
      * @param {Scores} scores
      * @param {Uint8Array} bytes
      * @param {number} at
      * @param {number} k
      * @param {number} code
-     * @param {number} row how many kanji in a row it ends
+     * @param {number} row the number of kanji in a row, with this one; 0 for other characters
      */
     added({ size, wide, pair, pairKind }, bytes, at, k, code, row) {
         const isEnd = wide && bytes[at] === 0 && at > 0 && bytes[at - 1] === 0;
@@ -121,11 +121,11 @@ export class PathFinder {
 }
 
 /**
- * Whether the character at a place stands before it too.
+ * Whether the character at a place also occurs before it.
  * @param {Uint8Array} bytes
  * @param {number} at
  * @param {number} size
- * @param {number} from where it is looked for
+ * @param {number} from the first place that is searched
  */
 function stoodBefore(bytes, at, size, from) {
     for (let before = at - size; before >= from; before -= size) {

@@ -1,4 +1,4 @@
-// Where characters begin in bytes of a disc.
+// Finds where characters begin in bytes of a disc.
 
 /** @typedef {import('../encodings/encoding.js').Encoding} Encoding */
 
@@ -9,11 +9,11 @@ export const LOOKED_BACK = 2048;
 export const LONGEST_CHARACTER = 4;
 
 /**
- * How many bytes from a place on belong to a character that begins before it; 0 if one begins there. The characters are read from after
- * the last byte before the place with which one has to end. If there is none in LOOKED_BACK bytes, nothing is known: 0.
+ * How many bytes from a place on belong to a character that begins before it; 0 if a character begins there. Characters are read from after
+ * the last byte before the place that must end a character. If LOOKED_BACK bytes have no such byte, this is unknown, and the result is 0.
  * @param {Encoding} encoding
  * @param {Uint8Array} bytes
- * @param {number} at the place in them: LOOKED_BACK or more, or as many bytes as there are before it
+ * @param {number} at the place, with LOOKED_BACK or more bytes before it, or as many as there are
  */
 export function bytesInside(encoding, bytes, at) {
     let from = at;
@@ -24,7 +24,7 @@ export function bytesInside(encoding, bytes, at) {
 }
 
 /**
- * The characters of bytes as texts, each with the place at which it begins and how many bytes it has.
+ * The characters of bytes as texts, each with its place and its size in bytes.
  * @param {Encoding} encoding
  * @param {Uint8Array} bytes
  * @param {number} [from] the place of the first one

@@ -1,4 +1,4 @@
-// Places of bytes that may be texts, each in one encoding, with a score.
+// Finds bytes that may be texts, each in one encoding and with a score.
 
 import { asWords } from '../sectors/index.js';
 import { PathFinder } from './best_path.js';
@@ -7,38 +7,41 @@ import { SURE } from './told.js';
 
 /** @typedef {import('./scores.js').Scores} Scores */
 /**
- * A text: where it begins and ends; where the part of it begins and ends whose characters are counted; its score in bits, its encoding, on
- * how many sides of it there is a 00, whether it is accepted only because of its neighbours, and its characters, '' if they are not decoded
- * yet. `limit` is where its room ends at the latest, if it is in a table.
+ * A text from `start` to `end`, whose characters from `from` to `to` are scored: its score in bits, its encoding, on how many sides it has
+ * a 00, whether it is accepted only because of its neighbours, and its characters, '' if they are not decoded yet. `limit` is where its
+ * room ends at the latest, if it is in a table.
  * @typedef {{ start: number, end: number, from: number, to: number, score: number, scores: Scores, zeros: number, near: boolean,
  *     text: string, limit?: number }} Candidate
  */
-/** @typedef {{ covered: number, end: number }} Known how far an encoding has been looked at, and where its last text ended */
+/** @typedef {{ covered: number, end: number }} Known how far an encoding has been searched, and where its last text ended */
 
-/** How many bits less are enough near something that is accepted by itself. */
+/** Near a text that is accepted by itself, this many bits less are enough. */
 export const LESS = 10;
 
-/** What a text in UTF-16 at an odd place has to have more: there the one byte order reads most characters of the other one. */
+/** A UTF-16 text at an odd place needs this many bits more: most characters of one byte order can be read there in the other. */
 const ODD = 14;
 
-/** A text is extended to a 00 over this many bytes, and a 00 on a side of it is worth this many bits. */
+/** A text is extended over at most this many bytes to a 00, and a 00 on one of its sides adds this many bits. */
 export const MOST_EXTENSION = 40;
 const ZERO = 6;
 
-/** How much neighbouring bytes of a text differ on average, unlike those of pictures; and which part of its characters are different. */
+/**
+ * The least average difference of neighbouring bytes in a text, unlike in a picture; the least share of distinct characters in a text; and
+ * how many of its characters are compared, at most and at least.
+ */
 const SMOOTH = 14;
 const DISTINCT = 0.55;
 const MOST_COMPARED = 24;
 const LEAST_COMPARED = 5;
 
-/** Of so many steps from a character to the next one not more than one goes the other way in Unicode than the others, in a table. */
+/** In a character table, at most one of this many steps from a character to the next one goes the other way in Unicode. */
 const STEPS = 8;
 const LEAST_STEPS = 3;
 
-/** Unlisted characters that a text is not extended over. */
+/** A text is not extended over characters with this score or less, such as user-defined ones. */
 const RAREST = -28;
 
-/** Finds the candidates in bytes. The tables take a while to make. */
+/** Finds the candidates in bytes. Creating its tables takes a while. */
 export class CandidateFinder {
     /** @param {Scores[]} [all] the encodings */
     constructor(all = allScores()) {
@@ -49,7 +52,7 @@ export class CandidateFinder {
     }
 
     /**
-     * The candidates, by encodings, in order in each.
+     * The candidates; those of each encoding are in order.
      * @param {Uint8Array} bytes
      */
     find(bytes) {
@@ -69,7 +72,7 @@ export class CandidateFinder {
     }
 
     /**
-     * The encodings of which two strong characters end at a place.
+     * The encodings, as bits, in which two strong characters end at a place.
      * @param {Uint8Array} bytes
      * @param {number} at
      */
@@ -81,7 +84,7 @@ export class CandidateFinder {
     }
 
     /**
-     * The first word from another one on in which two strong characters end, or the number of words.
+     * The first word from `from` on in which two strong characters end, or the number of words.
      * @param {Int32Array} words
      * @param {number} from
      */
@@ -114,17 +117,17 @@ export class CandidateFinder {
         const { size, wide, own, least } = scores;
         const last = bytes[at - 1] << 8 | bytes[at];
         const first = bytes[at - 3] << 8 | bytes[at - 2];
-        // One character twice counts once.
+        // The same character twice counts once.
         if (size === 2 && (last === first || strengthOf(scores, last) + strengthOf(scores, first) < least)) return null;
         const place = Math.max(at - size - 1, Math.min(known.end, at - 1));
         const { start, end, score } = this.paths.find(scores, bytes, Math.min(known.end, place), place);
         known.covered = Math.max(end, at + 1);
         if (score / 4 + 2 * ZERO < SURE - LESS) return null;
         const isSmooth = size < 3 && !own && isPicture(bytes, start, end);
-        // In UTF-8 the characters do not count: few other bytes are read as that.
+        // UTF-8 needs no check of its characters: few other bytes can be read as UTF-8.
         const text = size === 3 || isSmooth ? '' : scores.encoding.text(bytes.subarray(start, end));
         if (isSmooth || isRepeated(text)) {
-            // After a picture a text may stand.
+            // A text may follow a picture.
             known.covered = Math.min(known.covered, at + MOST_EXTENSION);
             return null;
         }
@@ -142,7 +145,7 @@ export class CandidateFinder {
 }
 
 /**
- * Whether a text ends before a place: at 00, or at the end of the bytes.
+ * Whether a text may end before a place: at the byte that ends texts, mostly 00, or at the end of the bytes.
  * @param {Scores} scores
  * @param {Uint8Array} bytes
  * @param {number} at
@@ -152,7 +155,7 @@ export function isZero({ wide, encoding: { end = 0 } }, bytes, at) {
 }
 
 /**
- * Whether bytes are those of a picture.
+ * Whether bytes differ as little from their neighbours as in a picture.
  * @param {Uint8Array} bytes
  * @param {number} start
  * @param {number} end
@@ -163,7 +166,7 @@ function isPicture(bytes, start, end) {
     return steps < SMOOTH * (end - start - 1);
 }
 
-/** @param {string} text whether it has the same characters over and over. A set would count them in three times the time. */
+/** @param {string} text whether it repeats few characters. Counting them with a set would take three times as long. */
 function isRepeated(text) {
     const compared = text.slice(0, MOST_COMPARED);
     let different = 0;
@@ -171,7 +174,7 @@ function isRepeated(text) {
     return compared.length >= LEAST_COMPARED && different < DISTINCT * compared.length;
 }
 
-/** @param {string} text whether each character comes after the one before it in Unicode, or before it, as in a table */
+/** @param {string} text whether its characters ascend in Unicode, or descend, as in a character table */
 function goesOneWay(text) {
     const ups = Array.from(text).filter((character, i) => i > 0 && character > text[i - 1]).length;
     const steps = text.length - 1;
@@ -179,7 +182,7 @@ function goesOneWay(text) {
 }
 
 /**
- * A text up to the 00 on both sides, over whatever can be read.
+ * Extends a text to the 00 on each side, if all characters up to it can be read.
  * @param {Scores} scores
  * @param {Uint8Array} bytes
  * @param {number} start
@@ -199,8 +202,8 @@ function extended(scores, bytes, start, end, low) {
 }
 
 /**
- * How far bytes can be read as characters from a place on: to a 00, to a limit, or to a byte that is not a character. A half-width kana by
- * itself does not count as one.
+ * Where the bytes end that can be read as characters from a place on: at a 00, at a limit, or at a byte that is not a character. A single
+ * half-width kana does not count as one.
  * @param {Scores} scores
  * @param {Uint8Array} bytes
  * @param {number} from

@@ -1,41 +1,41 @@
-// Tables as spreadsheets save them, with tabs, commas or semicolons between cells.
+// Tables as spreadsheets save them, with tabs, commas, or semicolons between cells.
 
 import { Fault } from '../faults.js';
 
 /** @typedef {{ number: number, cells: string[], isQuoted: boolean, overrun: number }} TableRow see Table.rows */
 
-/** A row has no more cells. A cell of more characters is no text that is taken: two quotes stay two. */
+/** The most cells of a row, and the most characters of a cell in which two quotes are read as one. Longer ones are not used as texts. */
 const MOST_CELLS = 1000;
 const LONGEST_CELL = 1 << 20;
 
-/** What may stand between cells: the first line of a table says which it is. */
+/** The possible separators of cells: the first line of a table shows which one it uses. */
 export const MARKS = ['\t', ',', ';'];
 
-/** Whether the quotes around this are needed: spreadsheets put others in quotes only if they do so with all cells. */
+/** Cells that need quotes. Spreadsheets quote others only if they quote all cells. */
 const NEEDS_QUOTES = /[\t\r\n"]/;
 
 /**
- * A table. In quotes a cell may have line ends, and two quotes for one. With tabs between cells, quotes that are not needed are kept, since
- * they were typed; without tabs they go.
+ * A table. A quoted cell may have line ends, and has two quotes for one. With tabs between cells, quotes that are not needed are kept,
+ * since they were typed; otherwise they are removed.
  */
 export class Table {
     /**
      * @param {string} text
-     * @param {string} mark what stands between cells
+     * @param {string} mark the separator of cells
      */
     constructor(text, mark) {
         this.text = text;
         this.mark = mark;
         this.hasLineFeeds = text.includes('\n');
         this.plain = new RegExp(`[^${mark}\\r\\n]*`, 'y');
-        /** Whether quotes go in any case, as a program wrote them around all cells. */
+        /** Whether quotes are always removed, since a program wrote them around all cells. */
         this.isQuoted = mark !== '\t';
-        /** @type {(line: string) => boolean} whether a line in a cell of several lines is a row of its own: see `rows` */
+        /** @type {(line: string) => boolean} whether a line in a cell of several lines is a separate row: see `rows` */
         this.isRow = () => false;
     }
 
     /**
-     * How many characters end a row at a place, 0 if none do. Python's csv writes \r\r\n on Windows. A \r elsewhere is part of a cell,
+     * The length of the line end at a place, 0 if there is none. Python's csv writes \r\r\n on Windows. A \r elsewhere is part of a cell,
      * unless the table has no other line ends.
      * @param {number} at
      */
@@ -49,7 +49,7 @@ export class Table {
     }
 
     /**
-     * The end of a cell in quotes, after its last quote, or -1 if it is none: then its quotes are part of it.
+     * The end of a quoted cell, after its last quote, or -1 if it is not quoted: then its quotes are part of it.
      * @param {number} at its first quote
      */
     endOfQuoted(at) {
@@ -76,7 +76,7 @@ export class Table {
     }
 
     /**
-     * How many rows after this one a cell in quotes runs on to one that is a row of its own; 0 if it does not.
+     * How many rows after this one a quoted cell has a line that is a separate row; 0 if it has none.
      * @param {number} at its first quote
      * @param {number} end after its last quote
      */
@@ -89,8 +89,8 @@ export class Table {
     }
 
     /**
-     * The rows, each with its number from 1, its cells, and whether all these are in quotes. Empty rows have no cells. If a cell in quotes
-     * runs on to a row of its own, it ends with its line all the same, and `overrun` says how many rows after this one that row is.
+     * The rows, each with its number from 1, its cells, and whether all of them are quoted. Empty rows have no cells. If a quoted cell
+     * extends to a separate row, it ends like a cell without quotes, and `overrun` is how many rows after this one that row is.
      * @returns {Generator<TableRow>}
      */
     *rows() {
@@ -137,9 +137,9 @@ export class Table {
 }
 
 /**
- * A row of a table, with a line end.
+ * Formats a row of a table, with a line end.
  * @param {(string | number)[]} cells
- * @param {string} mark what stands between them: for a comma they are in quotes if they have to be
+ * @param {string} mark their separator; with a comma, cells are quoted if necessary
  */
 export function rowText(cells, mark) {
     if (mark !== ',') return `${cells.join(mark)}\n`;

@@ -1,4 +1,4 @@
-// Texts in the cells of a table, in which bytes that are no plain character stand as codes, as {00}.
+// Texts in the cells of a table, in which bytes that are not a plain character are written as codes, such as {00}.
 
 import { usualBytes } from '../encodings/index.js';
 import { Fault, failedBy } from '../faults.js';
@@ -10,40 +10,41 @@ import { charactersFrom } from './boundaries.js';
 /** @typedef {import('../encodings/encoding.js').Encoding} Encoding */
 /** @typedef {{ number: number, encoding: string, text: string, fresh: string }} CodedRow a row with an old text and a new one */
 /**
- * A code that new texts leave out, as its digits; how often they do so in all, in how many rows, and the numbers of the first of these.
+ * A code that new texts leave out, as its digits; how often it is left out in all, in how many rows, and the numbers of the first of these.
  * @typedef {{ code: string, count: number, rows: number, first: number[] }} LeftCode
  */
 
-/** What stands as a code: what no character is, or one that can't be seen; and a brace. */
+/** Characters that are written as codes: invisible ones, braces, and bytes without a character. */
 const CODED = /[\p{C}\u2028\u2029\uFFFD{}]/u;
 
-/** What stands as a code at the beginning of a cell: a spreadsheet would take a quote away, and run the others as a formula. */
+/** Characters that are written as codes at the beginning of a cell: a spreadsheet would remove a quote, and run the others as a formula. */
 const CODED_FIRST = /^["=+\-@]/;
 
-/** The most bytes of one of these, in UTF-16. */
+/** The most bytes of one of these characters: two in UTF-16. */
 const LONGEST_SIGN = 2;
 
-/** Texts that are seen to have none of these in a tenth of the time. */
+/** Matches most texts without such characters in a tenth of the time. */
 const PLAIN = /^(?![=+@-])[\x20!\x23-\x7A|~\u3001-\u3003\u300C-\u300F\u3041-\u3096\u30A1-\u30FC\u4E00-\u9FA5\uFF01-\uFF5E]*$/;
 
 const CODE = /\{((?:[0-9A-Fa-f]{2})+)\}/;
 
-/** What may have been meant as a code: it is one only if its digits come in pairs. */
+/** Text that may be meant as a code. It is a code only if it has pairs of hexadecimal digits. */
 const LIKE_CODE = /\{[0-9A-Za-z]{1,16}\}/g;
 
-/** What spreadsheets write for a formula that they cannot work out. */
+/** The error values that spreadsheets write for a formula that they cannot evaluate. */
 const FORMULA_ERROR = /^(Err:\d{3}|#(NAME\?|(REF|VALUE|DIV\/0|NUM|NULL|ERROR|SPILL|CALC|FIELD|BLOCKED|CONNECT|UNKNOWN|BUSY)!|N\/A))$/;
 
 const CONTROLS = /\p{Cc}/gu;
 
-/** A cell of more characters is not read as a text, and its codes are not counted. */
+/** The most characters of a cell that is read as a text, and whose codes are counted. */
 export const LONGEST_TEXT = 1 << 16;
 
-/** How many rows are named that leave out a code. */
+/** How many of the rows that leave out a code are listed. */
 const FIRST_ROWS = 5;
 
 /**
- * The parts of a cell, as `Encoding.units` gives them; a code is its bytes. Throws a Fault, `text`, that names a character without bytes.
+ * The parts of a cell, as `Encoding.units` returns them; a code is read as its bytes. Throws a Fault, `text`, that names a character
+ * without bytes.
  * @param {Encoding} encoding
  * @param {string} cell
  */
@@ -52,7 +53,7 @@ export function unitsOfCell(encoding, cell) {
 }
 
 /**
- * Throws a Fault if nobody can have meant a new text: the error of a formula, or braces that look like a mistyped code and are not a sign
+ * Throws a Fault if a new text must be a mistake: the error value of a formula, or braces that look like a mistyped code and are not a sign
  * of the game's own table.
  * @param {Encoding} encoding
  * @param {string} cell
@@ -66,7 +67,7 @@ export function assertMeant(encoding, cell) {
 }
 
 /**
- * The bytes of a sign of an encoding, null if it has none, or needs more parts than so many.
+ * The bytes of a sign in an encoding, null if it has none, or more than `most` parts.
  * @param {Encoding} encoding
  * @param {string} sign
  * @param {number} most
@@ -82,9 +83,9 @@ function bytesOfSign(encoding, sign, most) {
 }
 
 /**
- * The codes of a cell, and its control characters, which have been typed or pasted in place of codes. The code at its beginning is none if
- * it stands for a character that is written so only there.
- * @param {Encoding[]} encodings that it may be in: the first one says how many bytes a code has
+ * The codes of a cell, and its control characters, which were typed or pasted instead of codes. A code at its beginning does not count if
+ * it is a character that is written as a code only there.
+ * @param {Encoding[]} encodings that the cell may be in; the first one decides how many bytes a code has
  * @param {string} cell
  * @returns {string[]}
  */
@@ -100,7 +101,7 @@ function codesOf(encodings, cell) {
 }
 
 /**
- * How often each code of a row's old text is left out in its new one.
+ * How often each code occurs in a row's old text, less how often in its new one.
  * @param {Encoding[]} encodings
  * @param {CodedRow} row
  */
@@ -115,10 +116,9 @@ function codesMissing(encodings, { text, fresh }) {
 }
 
 /**
- * The codes that the new texts of rows leave out, each once, in the order in which they are met. Call it with the rows that `replaceList`
- * was given.
+ * The codes that the new texts of rows leave out, each once, in the order of their first rows. Call it with the same rows as `replaceList`.
  * @param {CodedRow[]} rows
- * @param {(name: string) => Encoding[]} encodingsFor the encodings that a row may be in, by the name that it has, or ''
+ * @param {(name: string) => Encoding[]} encodingsFor the encodings that a row may be in, by the encoding name in the row, or ''
  * @param {import('../turns.js').Signal} [signal]
  * @returns {Promise<LeftCode[]>}
  */
@@ -140,7 +140,7 @@ export async function codesLeftOut(rows, encodingsFor, signal) {
 }
 
 /**
- * The cell of bytes. A brace is a code too, and at the beginning what a spreadsheet would take away or run.
+ * Formats bytes as a cell. A brace is written as a code too, and so is a first character that a spreadsheet would remove or run.
  * @param {Encoding} encoding
  * @param {Uint8Array} bytes
  * @param {string} [known] their text, if it is known
@@ -157,7 +157,7 @@ export function cellOf(encoding, bytes, known) {
 }
 
 /**
- * The cell of a text that is only looked at, as that of a hit: its first character is a code if a spreadsheet would run it.
+ * Formats a text that is only displayed, such as a hit, as a cell: its first character is written as a code if a spreadsheet would run it.
  * @param {string} text
  */
 export function shownCell(text) {

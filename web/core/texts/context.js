@@ -1,4 +1,4 @@
-// User bytes at a place of a data track and around it, and the text there.
+// Reads the user bytes around a place of a data track, and the text there.
 
 import { readBytes } from '../bytes.js';
 import { remark } from '../faults.js';
@@ -13,19 +13,19 @@ import { LONGEST_CHARACTER, LOOKED_BACK, bytesInside, charactersFrom } from './b
 /** @typedef {import('../encodings/encoding.js').Encoding} Encoding */
 /** @typedef {import('./find.js').Hit} Hit */
 /**
- * A hit's bytes; `doubt`, if it may begin in the middle of a character; and the characters before it, of it and after it.
+ * The bytes of a hit; `doubt`, if it may begin in the middle of a character; and the characters before it, in it, and after it.
  * @typedef {{ bytes: Uint8Array, doubt: import('../facts.js').Remark<'find/inside'> | null, before: string[], hit: string,
  *     after: string[] }} Context
  */
 
-/** Bytes that are read as text before a hit, and after it. */
+/** How many bytes are decoded as text before a hit, and after it. */
 const AROUND = 24;
 
-/** Bytes that are read for its context before a hit and after it. */
+/** How many bytes are read from the image before a hit, and after it. */
 const BEFORE = LOOKED_BACK + AROUND;
 const AFTER = AROUND + LONGEST_CHARACTER;
 
-/** Hits that begin within this many bytes are read for together. */
+/** Hits that begin within this many bytes share one read. */
 const READ_TOGETHER = 1 << 19;
 
 /**
@@ -38,7 +38,8 @@ export function bytesBefore({ base, order }, { block, offset }) {
 }
 
 /**
- * User bytes around a place, as many before it and from it on, or as many as there are, in that order; and the place in them.
+ * Reads `before` user bytes before a place and `after` from it on, or as many as there are, in the order of files; `at` is the place in
+ * them.
  * @param {OrderedImage} image
  * @param {Place} place
  * @param {number} before
@@ -82,7 +83,7 @@ function contextIn(encoding, bytes, at, size, around) {
 }
 
 /**
- * The same of a hit in an image.
+ * Reads the context of a hit in an image.
  * @param {OrderedImage} image
  * @param {Encoding} encoding
  * @param {Hit} hit
@@ -94,7 +95,7 @@ export async function contextOf(image, encoding, hit, around = AROUND) {
 }
 
 /**
- * The contexts of many hits in their order, by groups of those that lie near one another, for which is read at once.
+ * Reads the contexts of many hits, in their order. Hits that are near one another form a group that shares one read.
  * @param {OrderedImage} image
  * @param {Encoding} encoding
  * @param {Hit[]} hits
@@ -113,7 +114,7 @@ export async function* contextsOf(image, encoding, hits) {
 }
 
 /**
- * The contexts of hits, each read from as many bytes as if it were the only one.
+ * The contexts of hits, each decoded from the same bytes as if it were the only hit.
  * @param {OrderedImage} image
  * @param {Encoding} encoding
  * @param {{ start: number, bytes: Uint8Array }} read user bytes, and how many come before them
@@ -128,7 +129,7 @@ function* contextsIn(image, encoding, { start, bytes }, hits) {
 }
 
 /**
- * Whether one of several hits is not in the middle of a character.
+ * Whether at least one of several hits does not begin in the middle of a character.
  * @param {OrderedImage} image
  * @param {Encoding} encoding
  * @param {Hit[]} hits
@@ -142,9 +143,9 @@ export async function anyBegins(image, encoding, hits) {
     return false;
 }
 
-/** The files in which places lie that come one after the other: most of the files need not be looked at again. */
+/** Finds the files at places in ascending order, without searching all files each time. */
 export class FilesAlong {
-    /** @param {FileEntry[]} files by their blocks */
+    /** @param {FileEntry[]} files sorted by block */
     constructor(files) {
         this.files = files;
         this.begin = -1;
@@ -154,7 +155,7 @@ export class FilesAlong {
     }
 
     /**
-     * What filesWith says of a place.
+     * Returns `filesWith` of all files and a place.
      * @param {Place} place
      */
     with(place) {

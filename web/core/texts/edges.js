@@ -1,4 +1,4 @@
-// Where texts begin and end exactly: at what ends the texts of a file, or at the letters and marks beside what is counted of them.
+// Finds where texts begin and end exactly: by the byte that ends the texts of a file, or by the letters and marks beside their scored part.
 
 import { MOST_EXTENSION, isZero, readTo } from './candidates.js';
 import { ASCII, BAD, HALF_WIDTH } from './scores.js';
@@ -6,20 +6,20 @@ import { ASCII, BAD, HALF_WIDTH } from './scores.js';
 /** @typedef {import('./candidates.js').Candidate} Candidate */
 /** @typedef {import('./scores.js').Scores} Scores */
 
-/** A byte that follows this many texts, and this share of them, ends the texts of a file. */
+/** A byte that follows at least this many texts, and this share of all, is the one that ends the texts of a file. */
 const LEAST_ENDED = 6;
 const LEAST_SHARE = 0.2;
 
-/** A single letter before a text may be a length or a code. Of half-width kana, too, there are two at least. */
+/** The fewest letters, or half-width kana, that a text is extended over to its left: a single one may be a length or a code. */
 const LEAST_LETTERS = 2;
 
 const BEGINS = /[A-Za-z0-9([<"'`]/;
 
-/** What ends a sentence in a language that has spaces. */
+/** Marks that end a sentence in a language with spaces. */
 const EDGE_MARKS = Array.from('.!?)"\'', mark => mark.charCodeAt(0));
 
 /**
- * By encodings the byte, of those that are not a character, that ends most texts without a 00; -1 if there is none.
+ * By encodings, the byte that ends the most texts without a 00, and is not part of a character; -1 if there is none.
  * @param {Uint8Array} bytes
  * @param {Candidate[]} texts
  */
@@ -51,7 +51,7 @@ function isLead({ size, pair }, byte) {
 }
 
 /**
- * Texts with all that belongs to them at both ends.
+ * Extends texts to all that belongs to them at both ends.
  * @param {Uint8Array} bytes
  * @param {Candidate[]} texts in order
  */
@@ -69,7 +69,7 @@ export function withEdges(bytes, texts) {
 /**
  * @param {Uint8Array} bytes
  * @param {Candidate} text
- * @param {number} high where the next one begins
+ * @param {number} high where the next text begins
  * @param {number} last what ends texts
  */
 function endWithMarks(bytes, { end, scores }, high, last) {
@@ -110,7 +110,7 @@ function isPrinted({ oneKind }, byte) {
 }
 
 /**
- * How many bytes right before a text are letters and signs of one byte that belong to it, or half-width kana.
+ * How many bytes directly before a text are one-byte letters and signs, or half-width kana, that belong to it.
  * @param {Scores} scores
  * @param {Uint8Array} bytes
  * @param {number} from

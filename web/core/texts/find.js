@@ -1,26 +1,26 @@
-// Search over the user data of sectors, of any kind. A hit may lie over borders of sectors, and of the ranges that workers share.
+// Searches the user data of sectors of any kind. A hit may cross the borders of sectors, and of the ranges that workers share.
 
 import { joinedBytes } from '../bytes.js';
 import { USER_SIZE } from '../module/index.js';
 import { asWords, userOfRange } from '../sectors/index.js';
 
-/** How many bytes of a range are counted to know which are rare, and how many of the wanted ones are weighed. */
+/** How many bytes of a range are counted to find rare values, and how many of the first bytes of a hit are compared by rarity. */
 const SAMPLES = 4000;
 const MOST_OPENINGS = 64;
 
-/** How many tries that failed are kept. */
+/** How many failed attempts are remembered. */
 const KEPT_TRIES = 1 << 16;
 
-/** A part with more spellings looks the bytes at a place up, and does not compare them with each. */
+/** A part with more spellings is looked up in an index, not compared with each spelling. */
 const FEW_SPELLINGS = 16;
 
 /**
- * What is searched for: a text's parts in order, each in one of its spellings, as Encoding.units gives them.
+ * The parts of a wanted text, in order, each with its spellings, as `Encoding.units` returns them.
  * @typedef {Uint8Array[][]} Wanted
  */
-/** @typedef {{ block: number, offset: number, size: number }} Hit the user byte at which it begins, and how many bytes it has */
-/** @typedef {{ count: number, hits: Hit[] }} Found how many there are, and the first of them */
-/** @typedef {{ count: number, limit: number }} Limits in how many sectors hits begin, and how many hits are kept */
+/** @typedef {{ block: number, offset: number, size: number }} Hit the user byte at which it begins, and its size in bytes */
+/** @typedef {{ count: number, hits: Hit[] }} Found how many hits there are, and the first of them */
+/** @typedef {{ count: number, limit: number }} Limits in how many sectors hits may begin, and how many are kept */
 
 /**
  * The most bytes of a hit.
@@ -31,7 +31,7 @@ export function longestOf(wanted) {
 }
 
 /**
- * How many sectors after a range the search has to see, so that no hit that begins in the range is missed.
+ * How many sectors after a range the search must read to find each hit that begins in the range.
  * @param {Wanted} wanted
  */
 export function sectorsBeyond(wanted) {
@@ -40,8 +40,8 @@ export function sectorsBeyond(wanted) {
 }
 
 /**
- * The hits of each text that begin in the first `count` sectors of raw bytes: all are counted, and the first `limit` are kept. The bytes
- * have `sectorsBeyond` sectors more, or as many as the image has. Hits may overlap; a place counts once.
+ * Finds the hits of each text that begin in the first `count` sectors of raw bytes: all are counted, and the first `limit` are kept. The
+ * bytes have `sectorsBeyond` more sectors, or as many as the image has. Hits may overlap; a place counts once.
  * @param {Uint8Array} bytes of whole raw sectors
  * @param {number} firstBlock
  * @param {{ texts: Wanted[] } & Limits} args
@@ -74,7 +74,7 @@ function findInUser(user, firstBlock, parts, { count, limit }) {
 }
 
 /**
- * The hits of several ranges as those of one.
+ * Joins the hits of several ranges.
  * @param {Found[]} parts in the order of their blocks
  * @param {number} limit
  * @returns {Found}
@@ -93,7 +93,7 @@ function hitAt(firstBlock, at, stop) {
 }
 
 /**
- * What is wanted, with neighbours of one spelling each as one part.
+ * Joins adjacent parts that have one spelling each.
  * @param {Wanted} wanted
  */
 function joinedParts(wanted) {
@@ -109,8 +109,8 @@ function joinedParts(wanted) {
 }
 
 /**
- * The byte to look for first: which values it may have, and its distance from the beginning of a hit. Of all that have one
- * distance it is the one that is rarest here. If it is rare and has one value, `only` is that, which is found fastest, in `words`.
+ * Chooses the byte to look for first: the values that it may have, and its distance from the beginning of a hit. Of the bytes at a fixed
+ * distance, it is the rarest here. If it is rare and has one value, `only` is this value, which is found fastest, in `words`; else -1.
  * @param {Wanted} parts
  * @param {Uint8Array} user
  */
@@ -131,7 +131,8 @@ function anchorOf(parts, user) {
 }
 
 /**
- * The values that the first bytes of a hit may have, as far as they have one distance from its beginning, and a few at most.
+ * The values that each of the first bytes of a hit may have, up to MOST_OPENINGS, and as long as their distance from its beginning is
+ * fixed.
  * @param {Wanted} parts
  */
 function openings(parts) {
@@ -146,7 +147,7 @@ function openings(parts) {
 }
 
 /**
- * The next place from `at` on where a hit may begin, or one at which none fits in.
+ * The next place from `at` on where a hit may begin, or a place so near the end that no hit fits.
  * @param {ReturnType<typeof anchorOf>} anchor
  * @param {Uint8Array} user
  * @param {number} at
@@ -159,8 +160,8 @@ function nextStart({ distance, only, values, words }, user, at) {
 }
 
 /**
- * The first place of a value from a place on, or one that is not before the end: by 16 bytes at a time, which is faster than `indexOf`.
- * @param {Uint8Array} user whole sectors of it
+ * The first place of a value from a place on, or a place that is not before the end. Comparing 16 bytes at a time is faster than `indexOf`.
+ * @param {Uint8Array} user of whole sectors
  * @param {Int32Array} words the same bytes
  * @param {number} value
  * @param {number} from
@@ -182,7 +183,7 @@ function placeOf(user, words, value, from) {
 }
 
 /**
- * 0 if no byte of a word is 0.
+ * 0 if no byte of a word is 0, else a different number.
  * @param {number} word
  */
 function zeroByte(word) {
@@ -190,7 +191,7 @@ function zeroByte(word) {
 }
 
 /**
- * Where parts end that stand at a place, or -1.
+ * The end of parts that match at a place, or -1.
  * @param {Wanted} parts
  * @param {Uint8Array} bytes
  * @param {number} at
@@ -199,7 +200,7 @@ export function endOfMatch(parts, bytes, at) {
     return new Matching(parts, bytes).end(at);
 }
 
-/** Where parts end that stand at places. A try that failed is not made again, so that spellings of several lengths take no longer. */
+/** Matches parts at places. A failed attempt is not repeated, so that spellings of several lengths do not take longer. */
 class Matching {
     /**
      * @param {Wanted} parts
@@ -210,19 +211,19 @@ class Matching {
         this.user = user;
         this.indexes = parts.map(part => part.length > FEW_SPELLINGS ? indexOf(part) : null);
         const isOneLength = parts.every(part => part.every(bytes => bytes.length === part[0].length));
-        /** Of some tries that failed the part and the place, as one number. The last ones are kept. */
+        /** The last failed attempts: part and place, as one number. */
         this.failed = new Float64Array(isOneLength ? 0 : KEPT_TRIES);
     }
 
     /**
-     * Where the parts end if they stand at a place, or -1.
+     * The end of the parts if they match at a place, or -1.
      * @param {number} from
      */
     end(from) {
         const { parts, user, failed } = this;
         const [first = []] = parts;
         if (first.length === 1 && !standsAt(first[0], user, from)) return -1;
-        /** @type {Uint8Array[][]} of each part so far the spellings that stand there; the last one is tried */
+        /** @type {Uint8Array[][]} for each part so far, the spellings that match there; the last one is being tried */
         const tried = [];
         let at = from;
         while (tried.length < parts.length) {
@@ -242,7 +243,7 @@ class Matching {
     }
 
     /**
-     * The spellings of a part that stand at a place, the first one last; none if all were tried there.
+     * The spellings of a part that match at a place, the first one last; empty if they have all failed there.
      * @param {number} i
      * @param {number} at
      */
@@ -260,7 +261,7 @@ function keyOf(bytes) {
 }
 
 /**
- * The spellings of a part, each with its place among them, by their bytes; and their lengths.
+ * Indexes the spellings of a part, and their order, by their bytes; and lists their lengths.
  * @param {Uint8Array[]} part
  */
 function indexOf(part) {
@@ -269,7 +270,7 @@ function indexOf(part) {
 }
 
 /**
- * The spellings that stand at a place, in their order.
+ * The spellings that match at a place, in their order.
  * @param {ReturnType<typeof indexOf>} index
  * @param {Uint8Array} user
  * @param {number} at

@@ -1,4 +1,4 @@
-// Texts with a length before each, which is a number of 1, 2 or 4 bytes.
+// Recognises texts with a length before each, which is a number of 1, 2, or 4 bytes.
 
 import { readTo } from './candidates.js';
 import { plainTo } from './plain.js';
@@ -8,27 +8,27 @@ import { plainTo } from './plain.js';
 /** @typedef {(bytes: Uint8Array, at: number) => number} ReadLength */
 
 /**
- * So many texts, each right after the one before it, show that there are lengths before them: if these are control codes or have several
- * bytes; if the last one ends where all ends; or else. Letters, too, may look like lengths.
+ * The fewest texts, each directly after the one before it, that prove lengths: if more than CONTROL_SHARE of the lengths are control codes,
+ * or if they have several bytes; if the last text ends where everything ends; and otherwise, since letters may look like lengths.
  */
 const LEAST_CHAINED = 3;
 const LEAST_TO_END = 6;
 const LEAST_OF_LETTERS = 24;
 const CONTROL_SHARE = 0.1;
 
-/** How long texts with a length are. */
+/** The least and the greatest length of a text, in bytes. */
 const LEAST_LENGTH = 2;
 const MOST_LENGTH = 1024;
 
-/** The first length is at most so many bytes before the first character that is counted, or after the beginning of a long text. */
+/** The first length is at most MOST_BEFORE bytes before the first scored character, or MOST_AFTER after the beginning of a long text. */
 const MOST_BEFORE = 12;
 const MOST_AFTER = 256;
 
-/** How many bytes are read at most for a text and a form of lengths: that many times its own, and a few. */
+/** The most bytes that are read for a text and a form of lengths: this many times its size, and READ_FOR_ALL. */
 const READ_FOR_EACH = 8;
 const READ_FOR_ALL = 256;
 
-/** @type {[number, ReadLength][]} how many bytes a length has, and how it is written */
+/** @type {[number, ReadLength][]} how many bytes a length has, and how it is read */
 const FORMS = [
     [1, (bytes, at) => bytes[at]],
     [2, (bytes, at) => bytes[at] | bytes[at + 1] << 8],
@@ -37,13 +37,13 @@ const FORMS = [
     [4, (bytes, at) => bytes[at] === 0 && bytes[at + 1] === 0 ? bytes[at + 2] << 8 | bytes[at + 3] : 0],
 ];
 
-/** The same in UTF-16, in which characters may be counted. */
+/** The forms for UTF-16, in which a length may be a number of characters. */
 const WIDE_FORMS = FORMS.flatMap(([width, read]) => /** @type {[number, ReadLength][]} */ ([
     [width, read], [width, (bytes, at) => 2 * read(bytes, at)],
 ]));
 
 /**
- * Texts of which those that follow their lengths end where these say.
+ * Corrects texts that have lengths before them: each ends as its length says.
  * @param {Uint8Array} bytes
  * @param {Candidate[]} texts in order
  */
@@ -57,7 +57,7 @@ export function withLengths(bytes, texts) {
         for (let chain = chainOf(bytes, rest, low); chain !== null; chain = chainOf(bytes, rest, low)) {
             const { at, texts: found } = chain;
             const last = all[all.length - 1];
-            // Before the first length of several bytes the text before it was taken to go on.
+            // The text before it may include bytes of the first length, if that has several.
             if (last && last.start >= at) all.pop();
             else if (last && last.end > at) all[all.length - 1] = { ...last, end: at, to: Math.min(last.to, at), text: '' };
             for (const [start, end] of found) all.push({ ...it, start, end, from: start, to: end, text: '' });
@@ -73,10 +73,10 @@ export function withLengths(bytes, texts) {
 }
 
 /**
- * The texts of a chain in which there is the length of each before it, one of which is about where a text begins; or null.
+ * Finds a chain of texts with a length before each that begins near the beginning of a text; null if there is none.
  * @param {Uint8Array} bytes
  * @param {Candidate} text
- * @param {number} low where it begins at the earliest
+ * @param {number} low where the text before it ends
  */
 function chainOf(bytes, { start, end, from, scores }, low) {
     if (scores.own) return null;
@@ -84,7 +84,7 @@ function chainOf(bytes, { start, end, from, scores }, low) {
         const left = { bytes: READ_FOR_EACH * (end - start) + READ_FOR_ALL };
         const least = Math.max(low - width + 1, 0);
         const last = lastPlace(start, end, from - width, least);
-        // The nearest ones before the first character come first, and then those after the beginning.
+        // The nearest places before the first scored character are tried first, and then those after the beginning.
         for (let k = 0, at = from - width; at <= last; k++) {
             if (at >= least && areLengths(bytes, at, width, read)) {
                 const chain = chainFrom(bytes, scores, at, width, read, left);
@@ -100,7 +100,7 @@ function chainOf(bytes, { start, end, from, scores }, low) {
 }
 
 /**
- * The last place at which the first length may be. In a long text, of which only the end may be seen, it is some bytes after its beginning.
+ * The last place at which the first length may be. In a long text, of which perhaps only the end is known, it may be after the beginning.
  * @param {number} start
  * @param {number} end
  * @param {number} nearest
@@ -112,7 +112,7 @@ function lastPlace(start, end, nearest, least) {
 }
 
 /**
- * Whether texts follow one another by their lengths, and not by chance.
+ * Whether texts follow one another because of lengths, and not by chance.
  * @param {Uint8Array} bytes
  * @param {[number, number][]} chain
  * @param {number} width
@@ -123,20 +123,20 @@ function isChain(bytes, chain, width, at, { start, end, scores }) {
     const last = chain[chain.length - 1][1];
     const toEnd = last === end || last + MOST_LENGTH > bytes.length;
     if (width === 1 && last === end && chain.length > 1 && (at === start || at === start - 1)) return true;
-    // Of several bytes one is 00, which is in no text but in UTF-16.
+    // A length of several bytes has a 00, which no text has except in UTF-16.
     const isByte = width === 1 || (scores.wide && width === 2);
     const codes = isByte ? chain.filter(([from]) => isCode(bytes[from - 1] || bytes[from - 2])).length : chain.length;
     const isSure = codes > CONTROL_SHARE * chain.length && codes > 1;
     return chain.length >= (isSure ? LEAST_CHAINED : toEnd ? LEAST_TO_END : LEAST_OF_LETTERS);
 }
 
-/** @param {number} byte whether it is a control code, and not a tab or a line end */
+/** @param {number} byte whether it is a control code other than a tab or a line end */
 function isCode(byte) {
     return byte < 0x20 && byte !== 0x09 && byte !== 0x0A && byte !== 0x0D;
 }
 
 /**
- * Whether numbers from a place on may be lengths of texts.
+ * Whether the first numbers from a place on may be lengths of texts.
  * @param {Uint8Array} bytes
  * @param {number} from
  * @param {number} width
@@ -153,13 +153,13 @@ function areLengths(bytes, from, width, read) {
 }
 
 /**
- * The texts that follow one another, with a length before each.
+ * The chain of texts from a place on, with a length before each.
  * @param {Uint8Array} bytes
  * @param {Scores} scores
  * @param {number} from
  * @param {number} width
  * @param {ReadLength} read
- * @param {{ bytes: number }} left how many bytes may be read for texts that are not in a chain
+ * @param {{ bytes: number }} left how many more bytes may be read until a chain is long enough
  */
 function chainFrom(bytes, scores, from, width, read, left) {
     /** @type {[number, number][]} */
@@ -177,7 +177,7 @@ function chainFrom(bytes, scores, from, width, read, left) {
 }
 
 /**
- * Whether bytes after a length are a text, of whole characters.
+ * Whether the bytes after a length are a text of whole characters.
  * @param {Uint8Array} bytes
  * @param {Scores} scores
  * @param {number} at where the length begins
@@ -187,7 +187,7 @@ function chainFrom(bytes, scores, from, width, read, left) {
 function isText(bytes, scores, at, start, end) {
     const { size, wide, pair } = scores;
     if (wide) return readTo(scores, bytes, start, end) === end;
-    // A usual character is not the end of a length and the beginning of a text.
+    // If a length and the first byte after it form a common character, they are that character.
     if (size === 2 && start === at + 1 && pair[bytes[at] << 8 | bytes[start]] > 0) return false;
     for (let from = start; from < end;) {
         const read = readTo(scores, bytes, from, end);
@@ -198,7 +198,7 @@ function isText(bytes, scores, at, start, end) {
 }
 
 /**
- * Whether bytes have others than ASCII.
+ * Whether any of some bytes is not ASCII.
  * @param {Uint8Array} bytes
  * @param {number} start
  * @param {number} end

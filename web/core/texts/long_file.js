@@ -1,4 +1,4 @@
-// The text of a long file that somebody wrote, read and decoded in parts: others get turns in between.
+// Reads and decodes a long text file in parts, so that other work gets turns in between.
 
 import { joinedBytes, readBytes } from '../bytes.js';
 import { CP932, markOf } from '../encodings/index.js';
@@ -7,7 +7,7 @@ import { letOthersIn } from '../turns.js';
 /** @typedef {import('../bytes.js').Reader} Reader */
 /** @typedef {import('../turns.js').Signal} Signal */
 
-/** Bytes that are decoded at a time. */
+/** How many bytes are decoded at a time. */
 const PART = 1 << 20;
 
 const NEW_LINE = 0x0A;
@@ -16,7 +16,7 @@ const NEW_LINE = 0x0A;
  * The text of a file, as `textOfFile` reads it.
  * @param {Reader} reader
  * @param {Signal} [signal]
- * @param {number} [size] of a part
+ * @param {number} [size] of a part, in bytes
  */
 export async function longTextOf(reader, signal, size = PART) {
     /** @type {Uint8Array[]} */
@@ -56,7 +56,7 @@ async function decodedBy(decoder, parts, signal) {
 }
 
 /**
- * The same bytes in parts that end with a line, but for the last one: no character goes over a line feed.
+ * Cuts bytes into parts that end with a line, except the last one: no character extends over a line feed.
  * @param {Uint8Array[]} parts
  */
 function* cutAfterLines(parts) {

@@ -1,14 +1,14 @@
-// Characters that can be read in bytes, one after the other.
+// Reads bytes as the characters of a plain text.
 
 import { ASCII, CONTROL, HALF_WIDTH, LINE_END, codeAt } from './scores.js';
 
 /** @typedef {import('./scores.js').Scores} Scores */
 
-/** Characters that are not text: control codes but tabs and line ends, a user's own, and bytes without a character. */
+/** Characters that are not text: control codes except tabs and line ends, user-defined ones, and bytes without a character. */
 const NOT_PLAIN = /(?![\t\n\r])[\p{Cc}\uE000-\uF8FF\uFFFD]/u;
 
 /**
- * How many bytes the character at a place has: 1, or in UTF-16 2, if there is none.
+ * The size of the character at a place in bytes; if there is none, 1, or 2 in UTF-16.
  * @param {Scores} scores
  * @param {Uint8Array} bytes
  * @param {number} at
@@ -20,7 +20,7 @@ export function sizeAt(scores, bytes, at) {
 }
 
 /**
- * How many bytes the character at a place has if it is a character of a plain text, else 0.
+ * The size of the character at a place in bytes if it is one of a plain text, else 0.
  * @param {Scores} scores
  * @param {Uint8Array} bytes
  * @param {number} at
@@ -39,7 +39,7 @@ function plainSizeAt(scores, bytes, at, end) {
 }
 
 /**
- * How far bytes are a plain text from a place on.
+ * Where the plain text ends that begins at a place.
  * @param {Scores} scores
  * @param {Uint8Array} bytes
  * @param {number} from
@@ -52,7 +52,7 @@ export function plainTo(scores, bytes, from, end) {
 }
 
 /**
- * How many of bytes belong to characters that are not ASCII.
+ * How many bytes are not ASCII; in UTF-16, how many belong to characters that are not ASCII.
  * @param {Scores} scores
  * @param {Uint8Array} bytes
  */
@@ -63,19 +63,19 @@ function countOthers({ wide, pairKind }, bytes) {
     return count;
 }
 
-/** Bytes that may fill up a file after its text: 00, and the end of a file as DOS has it. */
+/** Bytes that may fill up a file after its text: 00, and the end-of-file character of DOS. */
 const AFTER_TEXT = [0x00, 0x1A];
 
-/** The most bytes of a part of a character at a border of what is seen, and of a mark of the byte order. */
+/** The most bytes of a partial character at either end of the bytes, and of a byte order mark. */
 const MOST_BESIDE = 3;
 
 /**
- * Where bytes are a plain text from their beginning to their end, or null. A few of them may be a mark before it or fill up after it.
+ * The bounds of a plain text that has all of the bytes, or null. A byte order mark may come before it, and filling after it.
  * @param {Scores} scores
  * @param {Uint8Array} bytes
  * @param {number[]} begins places at which a character may begin, the likeliest one first
  * @param {number} covered how many bytes are known to be text
- * @param {boolean} isFirst whether the first byte is that of a file
+ * @param {boolean} isFirst whether the first byte is the first one of a file
  */
 export function plainBounds(scores, bytes, begins, covered, isFirst) {
     let last = bytes.length;
@@ -91,7 +91,7 @@ export function plainBounds(scores, bytes, begins, covered, isFirst) {
 }
 
 /**
- * Where the characters begin that are before a place: at the beginning, after a mark of the byte order, or after a part of one; or -1.
+ * Where the plain text begins that ends at a place: at the beginning, after a byte order mark, or after a partial character; or -1.
  * @param {Scores} scores
  * @param {Uint8Array} bytes
  * @param {number} from

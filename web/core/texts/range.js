@@ -1,4 +1,4 @@
-// The texts of a range of sectors, which is a part of a file.
+// Recognises the texts in a range of sectors, which is a part of a file.
 
 import { encodingOf, fillingAfter, tableEncoding } from '../encodings/index.js';
 import { USER_SIZE } from '../module/index.js';
@@ -12,20 +12,20 @@ import { BESIDE } from './told.js';
 /** @typedef {import('../encodings/encoding.js').TableEncoding} TableEncoding */
 /** @typedef {import('./scores.js').Scores} Scores */
 /**
- * The name of an encoding, or a table, or neither for the usual encodings; and whether each line is a text by itself.
+ * The name of an encoding, or the text of a `.tbl` file, or neither for the usual encodings; and whether each line is a separate text.
  * @typedef {{ encoding?: string, table?: string, lines?: boolean }} AskedTexts
  */
 /**
- * A text, as it can be posted: its place in its file, how many bytes its room has, the name of its encoding, its score, whether only what
- * is beside it tells it, and itself.
+ * A recognised text, as it can be posted to a thread: its bounds in its file, how many bytes its room has, the name of its encoding, its
+ * score in bits, whether it is accepted only because of its neighbours, and the text itself.
  * @typedef {{ start: number, end: number, room: number, scores: string, score: number, near: boolean, text: string }} Told
  */
 
-/** The last one is kept, since it takes a while to make. */
+/** The last `TextTeller` is kept, since creating one takes a while. */
 let held = { key: '', teller: /** @type {TextTeller | null} */ (null) };
 
 /**
- * Who tells texts from other bytes in what is asked for.
+ * The `TextTeller` for an encoding, a table, or the usual encodings.
  * @param {AskedTexts} asked
  */
 function tellerOf({ encoding, table }) {
@@ -40,10 +40,10 @@ function tellerOf({ encoding, table }) {
 }
 
 /**
- * The texts that begin in a range. A job for a worker.
- * @param {Uint8Array} sectors with BEYOND more, or as many as the file has
- * @param {number} first of them in the file
- * @param {{ count: number, size: number } & AskedTexts} args how many are the range, and the bytes of the file
+ * Recognises the texts that begin in a range. A job for a worker.
+ * @param {Uint8Array} sectors of the range, and BEYOND more, or as many as the file has
+ * @param {number} first the place of the first sector in the file
+ * @param {{ count: number, size: number } & AskedTexts} args how many sectors the range has, and how many bytes the file has
  * @returns {Told[]}
  */
 export function textsOfRange(sectors, first, { count, size, lines, ...asked }) {

@@ -1,37 +1,37 @@
-// Texts in tables whose records have equal distances: a text, what fills up its field, and often numbers after it.
+// Recognises tables with records at equal distances: each has a text, the filling of its field, and often numbers after it.
 
 import { readTo } from './candidates.js';
 
 /** @typedef {import('./candidates.js').Candidate} Candidate */
 /** @typedef {import('./scores.js').Scores} Scores */
-/** @typedef {{ distance: number, column: number, members: number[] }} Table the distance of records, and where in it which texts begin */
-/** @typedef {{ filling: number[], from: number, to: number }} Filled what fills up the field of a record, and from where to where */
+/** @typedef {{ distance: number, column: number, members: number[] }} Table the distance of records, and where in a record which texts begin */
+/** @typedef {{ filling: number[], from: number, to: number }} Filled the filling of a record's field, and its bounds */
 
-/** Of this many texts on each side of one, so many begin at a multiple of the distance of records. */
+/** Of this many texts on each side of one in a table, at least LEAST_IN_COLUMN are a multiple of the distance of records away. */
 const NEIGHBOURS = 6;
 const LEAST_IN_COLUMN = 3;
 
-/** Between two records there are this many bytes at least that are not of a text. */
+/** The fewest bytes between the texts of two records. */
 const LEAST_BETWEEN = 3;
 
-/** A distance of records: the least, and the most. A table has so many texts, and no more records without one between two. */
+/** The least and the greatest distance of records; the fewest texts of a table; and the most records from one text to the next. */
 const LEAST_DISTANCE = 6;
 const MOST_DISTANCE = 1024;
 const LEAST_RECORDS = 5;
 const MOST_MISSING = 16;
 
-/** How far from the column of a table a text may begin that begins there in truth. */
+/** How many bytes from the column of its table a text may seem to begin. */
 const OFF = 6;
 
-/** So many units of a filling end the text of a field. */
+/** The fewest units of a filling that end the text of a field. */
 const LEAST_FILLED = 2;
 
-/** What fills up fields: in UTF-16 each is a character. Numbers are often 00 or FF themselves, but seldom spaces. */
+/** Fillings of fields; in UTF-16 each is a character. Numbers after a text are often 00 or FF themselves, but seldom spaces. */
 const BLANKS = [[0x20], [0x81, 0x40], [0xA1, 0xA1]];
 const NUMBERS = [[0x00], [0xFF]];
 
 /**
- * Texts of which those in tables begin at the column and end in the field of each record.
+ * Corrects texts in tables: each begins at the column of its record, and ends in its field.
  * @param {Uint8Array} bytes
  * @param {Candidate[]} texts in order
  */
@@ -42,7 +42,7 @@ export function withRecords(bytes, texts) {
 }
 
 /**
- * The distance of which most distances between neighbours around a text are a multiple; 0 if there is none.
+ * The distance that divides the most distances between neighbours around a text; 0 if there is none.
  * @param {Int32Array} distances
  * @param {number} i
  */
@@ -61,7 +61,7 @@ function distanceAt(distances, i) {
 }
 
 /**
- * The distances between texts and the next ones, 0 for those that are not of two records.
+ * The distance from each text to the next one, 0 if they cannot be in two records.
  * @param {Candidate[]} texts
  */
 function distancesOf(texts) {
@@ -73,7 +73,7 @@ function distancesOf(texts) {
 }
 
 /**
- * Whether a text begins at the column of others around it.
+ * Whether a text begins at the same column as others around it.
  * @param {Candidate[]} texts
  * @param {number} i
  * @param {number} distance
@@ -107,7 +107,7 @@ function tablesOf(texts) {
 }
 
 /**
- * Lets the texts of a table begin and end where its fields do.
+ * Changes the texts of a table so that they begin and end where its fields do.
  * @param {Uint8Array} bytes
  * @param {Candidate[]} texts
  * @param {Table} table
@@ -130,7 +130,7 @@ function fitTable(bytes, texts, { distance, column, members }) {
 }
 
 /**
- * Of numbers the one that there is most often, the least of several.
+ * The most frequent number, the least one of several.
  * @param {number[]} numbers
  */
 function mostOften(numbers) {
@@ -142,7 +142,7 @@ function mostOften(numbers) {
 }
 
 /**
- * Where a text begins in truth by the column of its table, or -1 if it is not in it.
+ * The true beginning of a text, at the column of its table, or -1 if it is not in that column.
  * @param {Uint8Array} bytes
  * @param {Candidate} text
  * @param {number} low where the text before it ends
@@ -172,7 +172,7 @@ function fitted(bytes, text, start, { filling, field, room }) {
 }
 
 /**
- * What fills up the field of a record after its text, or null.
+ * The first filling of a record's field after its text, or null.
  * @param {Uint8Array} bytes
  * @param {Candidate} text
  * @param {number} distance
@@ -188,7 +188,7 @@ function filledIn(bytes, text, distance) {
 }
 
 /**
- * Where a filling stands in a record, at least so often that it ends the text, or null.
+ * Where a record has a filling, with enough units to end the text; or null.
  * @param {Uint8Array} bytes
  * @param {Candidate} text
  * @param {number} distance
@@ -230,7 +230,7 @@ function unitOf({ wide, encoding }, filling) {
 }
 
 /**
- * The filling of most records, or null.
+ * The filling of the most records, or null if there are too few.
  * @param {Filled[]} all
  */
 function usualFilling(all) {

@@ -1,4 +1,4 @@
-// Long texts: what belongs to one text is joined, and what is too long for a row is cut where a reader would.
+// Joins the parts of a text, and cuts a text that is too long for a row where a reader would.
 
 import { plainTo, sizeAt, plainBounds } from './plain.js';
 
@@ -6,14 +6,14 @@ import { plainTo, sizeAt, plainBounds } from './plain.js';
 /** @typedef {import('./scores.js').Scores} Scores */
 
 /**
- * A row has at most LONGEST_ROW bytes. A longer text is cut before places that are GRID bytes apart in the file, so that all ranges that
- * see it cut it alike: at the last line end within WINDOW bytes before such a place, or else at the end of a sentence.
+ * A row has at most LONGEST_ROW bytes. A longer text is cut before places that are GRID bytes apart in the file, so that all ranges with
+ * parts of it cut it alike: at the last line end within WINDOW bytes before such a place, or else at the end of a sentence.
  */
 const LONGEST_ROW = 4096;
 const WINDOW = 1024;
 const GRID = LONGEST_ROW - WINDOW;
 
-/** The most bytes between two texts that are one, as a line in a language that is not counted. */
+/** The most bytes between two parts of one text, such as a line in a language that is not scored. */
 const MOST_BETWEEN = 512;
 
 const SENTENCE_END = /[。．！？.!?…」』]/;
@@ -21,8 +21,7 @@ const CR = '\r';
 const LF = '\n';
 
 /**
- * The texts of bytes in which those that follow one another without anything else between them are one; and all of the bytes if they are
- * nothing but text.
+ * Joins texts with nothing but plain text between them. If the bytes are nothing but text, all of them are one.
  * @param {Uint8Array} bytes
  * @param {Candidate[]} texts in order
  * @param {number} shift how many bytes of the file come before them
@@ -36,7 +35,7 @@ export function joinedTexts(bytes, texts, shift) {
         const last = joined[joined.length - 1];
         const before = last && last.scores !== it.scores ? joined[joined.length - 2] : last;
         if (before && isOneWith(bytes, before, it) && (before === last || last.score < Math.max(before.score, it.score))) {
-            // What is between them in a different encoding is a part of them that was misread.
+            // A text between them in a different encoding is a misread part of them.
             if (before !== last) joined.pop();
             const score = Math.max(before.score, it.score);
             joined[joined.length - 1] = { ...before, end: it.end, to: it.to, text: '', score, near: before.near && it.near };
@@ -56,7 +55,7 @@ function isOneWith(bytes, { end, scores }, next) {
 }
 
 /**
- * All of bytes as one text if they are nothing else, in the encoding of most texts; or null.
+ * All bytes as one text in the encoding that most of them have, if they are nothing but text; or null.
  * @param {Uint8Array} bytes
  * @param {Candidate[]} texts
  * @param {number} shift
@@ -70,7 +69,7 @@ function allText(bytes, texts, shift) {
     const [scores, count] = most;
     const own = texts.filter(it => it.scores === scores);
     const longest = own.reduce((last, it) => it.to - it.from > last.to - last.from ? it : last);
-    // The longest text is most likely read from the right byte on. At the beginning of a file there is no doubt.
+    // The longest text most likely begins at the right byte. At the beginning of a file there is no doubt.
     const bounds = plainBounds(scores, bytes, shift === 0 ? [0, longest.from] : [longest.from], count, shift === 0);
     if (bounds === null) return null;
     const score = own.reduce((best, it) => Math.max(best, it.score), 0);
@@ -78,7 +77,7 @@ function allText(bytes, texts, shift) {
 }
 
 /**
- * The pieces of a text that are rows.
+ * Cuts a text into the pieces that are rows.
  * @param {Uint8Array} bytes
  * @param {Candidate} text
  * @param {number} shift how many bytes of the file come before the bytes
@@ -99,7 +98,7 @@ export function piecesOf(bytes, text, shift, byLines) {
 }
 
 /**
- * The character of one unit that a byte or two are, or '' for others.
+ * The CR or LF at a place, or '' for other characters.
  * @param {Scores} scores
  * @param {Uint8Array} bytes
  * @param {number} at
@@ -130,7 +129,7 @@ function linesOf(bytes, { start, end, scores }) {
 }
 
 /**
- * Where a text is cut that is too long for a row.
+ * Where to cut a text that is too long for a row.
  * @param {Uint8Array} bytes
  * @param {Scores} scores
  * @param {number} start
@@ -150,7 +149,7 @@ function cutsOf(bytes, scores, start, end, shift) {
 }
 
 /**
- * The first place of the grid from one on.
+ * The first place of the grid from `from` on.
  * @param {number} from
  * @param {number} shift
  */
@@ -159,7 +158,7 @@ function nextLine(from, shift) {
 }
 
 /**
- * The last place at which a text may be cut: at the end of a line, or of a sentence, or at least of a character.
+ * The last place up to `last` at which to cut a text: at the end of a line, else of a sentence, else of a character.
  * @param {Uint8Array} bytes
  * @param {Scores} scores
  * @param {number} from where a character begins
