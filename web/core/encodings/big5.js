@@ -1,10 +1,10 @@
-// Big5 with the rows that ETEN has added, as Taiwan writes it. What Hong Kong has before A1 and after F9 is not in it.
+// Big5 as used in Taiwan, with the rows that ETEN added. The rows that Hong Kong has before A1 and after F9 are not included.
 
 import { numbersOf, pairsOf } from './characters.js';
 import { TableEncoding } from './encoding.js';
 import { addStandard } from './standard.js';
 
-/** Of a character with two codes the first is the usual one, but for these numerals, which are kanji too. */
+/** Of a character with two codes, the first is the usual one, except for these numerals, which are kanji too. */
 const NUMERALS = [0xA2CC, 0xA2CE];
 const CODES = pairsOf(numbersOf([0xA1, 0xF9]), numbersOf([0x40, 0x7E], [0xA1, 0xFE]));
 

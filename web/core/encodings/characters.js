@@ -1,17 +1,17 @@
-// Tables of characters and their bytes, and what they are filled with.
+// Tables of characters and their bytes, and the functions that fill them.
 
 import { Fault } from '../faults.js';
 import { hexText } from '../hex_digits.js';
 
 const NO_CHARACTER = '\uFFFD';
 
-/** Characters by which a long text is joined: they take more memory as long as they stand by themselves. */
+/** How many characters of a long text are joined at a time: separate ones need more memory. */
 const PIECE = 1 << 12;
 
 /**
  * @param {string} name of an encoding
  * @param {string} text
- * @param {number} at where the character that it lacks stands in the text
+ * @param {number} at the place in the text of the character that it lacks
  */
 export function lacks(name, text, at) {
     const place = [...text.slice(0, at)].length + 1;
@@ -20,35 +20,35 @@ export function lacks(name, text, at) {
 }
 
 /**
- * What is known of some bytes: the text that they mean, '' if they mean none; how many bytes after them are its parameters; and what is
- * known of them and one more.
+ * A node of the tree of spellings, for some bytes: the text that they mean, '' if they mean none; how many bytes after them are its
+ * parameters; and the nodes for one byte more.
  * @typedef {{ text: string, parameters: number, next: Map<number, Branch> | null }} Branch
  */
 
 /** @returns {Branch} */
 const newBranch = () => ({ text: '', parameters: 0, next: null });
 
-/** Characters and their bytes, as a character set or a game's table has them. The longest match is taken, both ways. */
+/** The characters of a character set or a game's table, and their bytes. The longest match is used in both directions. */
 export class CharacterTable {
     /** @param {string} name */
     constructor(name) {
         this.name = name;
         /** @type {Map<string, Uint8Array[]>} */
         this.spellings = new Map();
-        /** What bytes mean, a byte after the other. */
+        /** The root of the tree of spellings, which has a level for each byte. */
         this.root = newBranch();
-        /** 1 for each byte after which a spelling has more. */
+        /** 1 for each byte after which a spelling may continue. */
         this.inner = new Uint8Array(256);
         this.longestText = 0;
-        /** Characters that the two bytes at a place decide, by these. @type {({ size: number, text: string } | undefined)[]} */
+        /** Caches the characters that two bytes determine, by these bytes. @type {({ size: number, text: string } | undefined)[]} */
         this.known = new Array(65536);
     }
 
     /**
-     * Adds bytes and what they mean. What was added first is the usual spelling. Returns whether the bytes were new.
+     * Adds bytes and the text that they mean. Its usual spelling is the one that was added first. Returns whether the bytes were new.
      * @param {Uint8Array} bytes
      * @param {string} text
-     * @param {number} [parameters] how many bytes after them belong to them
+     * @param {number} [parameters] how many bytes after these are their parameters
      */
     add(bytes, text, parameters = 0) {
         const branch = this.branchOf(bytes);
@@ -64,7 +64,7 @@ export class CharacterTable {
     }
 
     /**
-     * What is known of bytes, which is there then.
+     * The node for some bytes, which is added if there is none.
      * @param {Uint8Array} bytes
      */
     branchOf(bytes) {
@@ -79,7 +79,7 @@ export class CharacterTable {
     }
 
     /**
-     * Lets a text be written as another one.
+     * Gives a text without spellings those of another text.
      * @param {string} text
      * @param {string} other
      */
@@ -104,7 +104,7 @@ export class CharacterTable {
     }
 
     /**
-     * Whether a character may go on after a byte.
+     * Whether a character may continue after a byte.
      * @param {number} byte
      */
     goesOn(byte) {
@@ -112,8 +112,8 @@ export class CharacterTable {
     }
 
     /**
-     * The character at a place, of the longest bytes that are one; of one byte if none begins there. Its parameters are codes after its
-     * text, which is the cell of the bytes then.
+     * The character at a place, with the longest match; one byte if none begins there. Its parameters are written as codes after its text,
+     * and then `isCell` is true.
      * @param {Uint8Array} bytes
      * @param {number} at
      * @returns {{ size: number, text: string, isCell?: boolean }}
@@ -159,7 +159,7 @@ export class CharacterTable {
 }
 
 /**
- * How much of a text from a place on is the longest key of a map, 0 if none is.
+ * The length of the longest key of a map at a place of a text, 0 if there is none.
  * @param {Map<string, unknown>} map
  * @param {string} text
  * @param {number} at
@@ -172,15 +172,15 @@ function longestIn(map, text, at, longest) {
 }
 
 /**
- * The numbers of runs, in order.
- * @param {...number[]} runs first and last
+ * All numbers of some runs, in order.
+ * @param {...number[]} runs the first and the last number of each
  */
 export function numbersOf(...runs) {
     return runs.flatMap(([first, last]) => Array.from({ length: last - first + 1 }, (_, i) => first + i));
 }
 
 /**
- * The codes of pairs of bytes.
+ * The codes of all pairs of a lead byte and a trail byte.
  * @param {number[]} leads
  * @param {number[]} trails
  */
@@ -216,7 +216,7 @@ export function addCodes(table, codes, characters) {
 }
 
 /**
- * Adds ASCII. No decoder is asked: they differ in 1A, 1C, 7F and 80.
+ * Adds ASCII, without a decoder: decoders differ in 1A, 1C, 7F, and 80.
  * @param {CharacterTable} table
  */
 export function addAscii(table) {

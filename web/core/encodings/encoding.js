@@ -1,32 +1,32 @@
-// What an encoding is, and what can be said of each by what it has.
+// The interface of encodings, and functions for any encoding.
 
 import { joinedBytes } from '../bytes.js';
 import { failedBy } from '../faults.js';
 import { CharacterTable } from './characters.js';
 
 /**
- * One way to write texts. Options take `name` and `aliases`, in capitals or not; lists show `label`; and `find` tries it by itself if it
- * is `searched`. `hasCharacters` is false if it only spells bytes. `space` and `wideSpace` are the texts that may fill up a shorter one, ''
- * if it has none. `units` cuts texts into parts and gives the bytes of each, first as they are usually written, then in other ways that
- * are read as the same; `text` reads bytes, with U+FFFD for a byte that begins no character. `characterAt` reads the one at a place, and
- * how many bytes it has; `goesOn` says whether a character may have bytes after one like this. `end` is the byte that ends a text, if it
- * is not 00. `usual` is by what its texts are told from other bytes, if it is a set of characters of a language other than Japanese.
+ * An encoding of texts. Options accept `name` and `aliases`, in capitals or not; lists show `label`; and `find` searches in it by default
+ * if it is `searched`. `hasCharacters` is false if it only spells bytes. `space` and `wideSpace` are the texts that may fill up a shorter
+ * one, '' if it has none. `units` cuts a text into parts and returns the spellings of each, the usual one first; `text` decodes bytes, with
+ * U+FFFD for a byte that begins no character. `characterAt` decodes the character at a place, and returns how many bytes it has; `goesOn`
+ * is whether a character may continue after a byte. `end` is the byte that ends a text, if it is not 00. `usual` is how its texts are
+ * recognised, if it is a character set for a language other than Japanese.
  * @typedef {{ name: string, label: string, aliases: string[], searched: boolean, hasCharacters: boolean, space: string, wideSpace: string,
  *     units: (text: string) => Uint8Array[][], text: (bytes: Uint8Array) => string,
  *     characterAt: (bytes: Uint8Array, at: number) => Character, goesOn: (byte: number) => boolean, end?: number,
  *     usual?: Usual, leftOut?: number[] }} Encoding
  */
 /**
- * How many bytes a character has, and what they mean; `isCell` if parameters stand as codes in that already.
+ * How many bytes a character has, and their text; `isCell` if the text already has parameters as codes.
  * @typedef {{ size: number, text: string, isCell?: boolean }} Character
  */
-/** @typedef {{ first: number, last: number, score: number }} Usual pairs of bytes that stand often in texts, and what each scores */
+/** @typedef {{ first: number, last: number, score: number }} Usual pairs of bytes that are frequent in texts, and the score of each */
 /** @typedef {Uint8Array | 'end' | null} Filler what fills up a shorter text: bytes, the byte that ends texts, or the encoding's space */
-/** @typedef {{ name: string, label?: string, aliases?: string[], searched?: boolean, usual?: Usual }} Names what an encoding is called */
+/** @typedef {{ name: string, label?: string, aliases?: string[], searched?: boolean, usual?: Usual }} Names an encoding's properties */
 
 export const SPACES = { space: ' ', wideSpace: '\u3000' };
 
-/** An encoding by a table of characters, which is made when it is first needed. */
+/** An encoding with a table of characters, which is created when it is first needed. */
 export class TableEncoding {
     /**
      * @param {Names} names
@@ -43,7 +43,7 @@ export class TableEncoding {
         this.wideSpace = SPACES.wideSpace;
         this.fill = fill;
         this.end = 0;
-        /** @type {number[]} the lines of a game's own table that mean nothing here */
+        /** @type {number[]} the numbers of the ignored lines of a game's own table */
         this.leftOut = [];
         this.made = /** @type {CharacterTable | null} */ (null);
     }
@@ -98,7 +98,7 @@ export function encodeText(encoding, text) {
 }
 
 /**
- * The bytes of a text, or null if a character has none.
+ * The bytes of a text, or null if it is empty or a character has none.
  * @param {Encoding} encoding
  * @param {string} text
  */
@@ -111,7 +111,7 @@ function bytesIfAny(encoding, text) {
     }
 }
 
-/** @type {WeakMap<Encoding, (Uint8Array | null)[]>} the spaces that were asked for, as a table of texts asks for them for each */
+/** @type {WeakMap<Encoding, (Uint8Array | null)[]>} a cache of spaces: a table of texts needs them for each text */
 const spaces = new WeakMap();
 
 /** @param {Encoding} encoding */
@@ -122,7 +122,7 @@ function spacesIn(encoding) {
 }
 
 /**
- * What fills up a shorter text if nothing else is asked for, or null if the encoding has no space.
+ * The bytes that fill up a shorter text by default, or null if the encoding has no space.
  * @param {Encoding} encoding
  */
 export function spaceIn(encoding) {
@@ -147,7 +147,7 @@ export function fillerOf(encoding, filler) {
 }
 
 /**
- * What may fill up a shorter text: the spaces that the encoding has, and 00.
+ * The fillers that a shorter text may have: the spaces of the encoding, and 00.
  * @param {Encoding} encoding
  */
 export function fillsOf(encoding) {
@@ -161,15 +161,15 @@ export function fillsOf(encoding) {
     return fills;
 }
 
-/** What may fill up the room of a text after it, beside the wide space. */
+/** Bytes that may fill up the room after a text, besides the wide space. */
 const FILLING = [0x00, 0x20, 0xFF];
 
 /**
- * How many bytes after a text only fill up its room. The last 00, or what else ends texts, ends this one.
+ * How many bytes after a text only fill up its room. The last byte that ends texts, mostly 00, is not one of them.
  * @param {Encoding} encoding
  * @param {Uint8Array} bytes
  * @param {number} from where the text ends in them
- * @param {number} [to] where the next one begins
+ * @param {number} [to] where the next text begins
  */
 export function fillingAfter(encoding, bytes, from, to = bytes.length) {
     const wide = wideSpaceIn(encoding);
@@ -184,7 +184,7 @@ export function fillingAfter(encoding, bytes, from, to = bytes.length) {
 }
 
 /**
- * How many bytes from a place on repeat some.
+ * How many bytes from a place on repeat some given ones.
  * @param {Uint8Array} repeated
  * @param {Uint8Array} bytes
  * @param {number} from

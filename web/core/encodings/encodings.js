@@ -1,4 +1,4 @@
-// The encodings by their names, and the texts of files.
+// Finds encodings by name, and decodes text files.
 
 import { Fault } from '../faults.js';
 import { BIG5 } from './big5.js';
@@ -14,25 +14,25 @@ import { textOf1252 } from './windows_1252.js';
 
 /** @typedef {import('./encoding.js').Encoding} Encoding */
 
-/** @type {Encoding[]} all, in the order in which they are listed and those are searched that are */
+/** @type {Encoding[]} all encodings, in the order in which they are listed and searched */
 export const ENCODINGS = [HEX, CP932, EUC_JP, UTF8, UTF16LE, UTF16BE, BIG5, GBK, EUC_KR];
 
-/** Those that are searched if none is named: what Japanese discs have. */
+/** The encodings that are searched if none is named: those of Japanese discs. */
 export const SEARCHED = ENCODINGS.filter(({ searched }) => searched);
 
-/** What is taken if none is named. */
+/** The encoding that is used if none is named. */
 export const USUAL_ENCODING = CP932;
 
-/** A table has no more bytes: some 65536 lines of two bytes and a character take a tenth. */
+/** The most bytes of a table: 65536 lines of two bytes and a character need a tenth of them. */
 const LARGEST_TABLE = 1 << 23;
 
 const strictUtf8 = new TextDecoder('utf-8', { fatal: true });
 
-/** UTF-16, which has a mark at its beginning, as some editors and spreadsheets save texts. */
+/** UTF-16 with a byte order mark, as some editors and spreadsheets save texts. */
 const MARKED = [UTF16LE, UTF16BE];
 
 /**
- * The encoding of a name, in capitals or not, or null.
+ * Finds an encoding by its name, regardless of case and punctuation; or null.
  * @param {string} name
  */
 export function encodingOf(name) {
@@ -41,7 +41,7 @@ export function encodingOf(name) {
 }
 
 /**
- * The encoding whose mark bytes begin with, undefined if it is none.
+ * The encoding whose byte order mark some bytes begin with; or undefined.
  * @param {Uint8Array} bytes
  */
 export function markOf(bytes) {
@@ -49,7 +49,7 @@ export function markOf(bytes) {
 }
 
 /**
- * The text of a small file that somebody wrote, such as a table: UTF-16 if it has its mark, UTF-8 if it is that, else CP932.
+ * Decodes a small text file, such as a table: as UTF-16 if it has a byte order mark, as UTF-8 if it is valid, else as CP932.
  * @param {Uint8Array} bytes
  */
 export function textOfFile(bytes) {
@@ -57,7 +57,7 @@ export function textOfFile(bytes) {
 }
 
 /**
- * What the text of such a file may be: the second one, if there is one, is in Windows-1252.
+ * The possible texts of such a file; the second one, if any, is decoded as Windows-1252.
  * @param {Uint8Array} bytes
  */
 export function textsOfFile(bytes) {

@@ -6,7 +6,7 @@ import { addAlike, addHalfWidth } from './japanese.js';
 
 const PAIR_CODES = pairsOf(numbersOf([0xA1, 0xFE]), numbersOf([0xA1, 0xFE]));
 
-/** Two bytes come before three (8F, JIS X 0212). */
+/** EUC-JP: spellings of two bytes come before those of three (8F, JIS X 0212). */
 export const EUC_JP = new TableEncoding({ name: 'EUC-JP', searched: true }, table => {
     addAscii(table);
     addHalfWidth(table, [0x8E]);

@@ -1,4 +1,4 @@
-// EUC-KR, with the syllables that Windows has added in CP949.
+// EUC-KR, with the syllables that Windows added in CP949.
 
 import { addCodes, numbersOf, pairsOf } from './characters.js';
 import { TableEncoding } from './encoding.js';
@@ -11,7 +11,7 @@ export const EUC_KR = new TableEncoding({
     name: 'EUC-KR', aliases: ['CP949', 'UHC', 'KS X 1001'], usual: { first: 0xB0A1, last: 0xC8FE, score: 19 },
 }, table => {
     addStandard(table, 'euc-kr', pairsOf(numbersOf([0xA1, 0xFE]), numbersOf([0xA1, 0xFE])));
-    // Those that KS X 1001 lacks come in order, where it has no codes.
+    // The syllables that KS X 1001 lacks are in order, at codes that it does not use.
     const free = [...pairsOf(numbersOf([0x81, 0xA0]), TRAILS), ...pairsOf(numbersOf([0xA1, 0xC6]), TRAILS.filter(trail => trail < 0xA1))];
     addCodes(table, free, numbersOf(SYLLABLES).map(code => String.fromCharCode(code)).filter(text => !table.spellings.has(text)));
 });

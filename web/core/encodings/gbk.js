@@ -1,4 +1,4 @@
-// GBK, with the characters that GB 18030 has added in two bytes.
+// GBK, with the two-byte characters that GB 18030 added.
 
 import { numbersOf, pairsOf } from './characters.js';
 import { TableEncoding } from './encoding.js';

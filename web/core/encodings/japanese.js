@@ -1,10 +1,10 @@
-// What the Japanese sets of characters share.
+// The characters that Japanese character sets share.
 
 import { numbersOf } from './characters.js';
 
 /** @typedef {import('./characters.js').CharacterTable} CharacterTable */
 
-/** Signs that they have twice in Unicode: what people type, and what the decoders give. */
+/** Signs with two code points in Unicode: the one that people type, and the one that decoders return. */
 const ALIKE = { '—': '―', '〜': '～', '−': '－', '‖': '∥', '¢': '￠', '£': '￡', '¬': '￢' };
 
 /**

@@ -1,4 +1,4 @@
-// Sets of pairs of bytes that engines read differently: of each what all read alike, and then what the Encoding Standard has beside it.
+// Two-byte character sets that engines decode differently: first the pairs that all decode alike, then others as in the Encoding Standard.
 
 import { addAscii, addCodes, addPairs } from './characters.js';
 import { PAIRS } from './pairs.js';
@@ -6,10 +6,10 @@ import { PAIRS } from './pairs.js';
 /** @typedef {import('./characters.js').CharacterTable} CharacterTable */
 
 /**
- * Adds ASCII and a set.
+ * Adds ASCII and a character set.
  * @param {CharacterTable} table
- * @param {string} label of the standard
- * @param {number[]} codes all that the set has room for; of several that mean one character the first is the usual one
+ * @param {string} label of the Encoding Standard
+ * @param {number[]} codes all that the set has room for; of several for one character, the first is the usual one
  */
 export function addStandard(table, label, codes) {
     const { same, own } = PAIRS[label];

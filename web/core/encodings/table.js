@@ -1,32 +1,33 @@
-// A game's own tables of characters (.tbl).
+// Reads a game's own table of characters (.tbl).
 
 import { Fault, remark } from '../faults.js';
 import { bytesOfHex } from '../hex_digits.js';
 import { TableEncoding } from './encoding.js';
 
-/** A table has no longer bytes and texts than these, so that what a line costs is bounded. */
+/** The most bytes and characters of an entry, so that the cost of a line is bounded. */
 const LONGEST_KEY = 8;
 const LONGEST_VALUE = 64;
 
-/** What is read of a line: more than it may have. */
+/** How many characters of a line are read: more than a valid entry has. */
 const LONGEST_LINE = 4 * (LONGEST_KEY + LONGEST_VALUE);
 
-/** A line has no more bytes of parameters after its own. */
+/** The most bytes of parameters of an entry. */
 const MOST_PARAMETERS = 8;
 
-/** Lines that say nothing: blank ones and comments. */
+/** Blank lines and comments. */
 const SILENT = /^(\s*$|[;#]|\/\/)/;
 
 /**
- * Lines that mean something to the tools that dump and insert scripts, and nothing here: the name of a table and a change to another one,
- * the marks of Thingy, bytes without a text, and parameters that are given by their forms.
+ * Lines for tools that dump and insert scripts, which are ignored here: the name of a table, a change to another table, the marks of
+ * Thingy, bytes without a text, and parameters with formats.
  */
 const OTHER_TOOLS = /^([@!([{]|[$*/]?([0-9A-Fa-f]{2})+=$|\$[0-9A-Fa-f]+=.*,%)/;
 
 /**
- * The encoding of the text of a `.tbl` file: lines HEX=TEXT. `*HEX` is a line end, `/HEX=TEXT` or `/HEX` ends a text, and in `$HEX=TEXT,N`
- * the N bytes after it are its parameters. Blank lines and comments after `;`, `#`, or `//` say nothing; `leftOut` has the lines of other
- * tools that mean nothing here. A line has at most 8 bytes and a text of 64 characters. Throws a Fault that names the line.
+ * The encoding that the text of a `.tbl` file defines, in lines HEX=TEXT. `*HEX` is a line end, `/HEX=TEXT` or `/HEX` ends a text, and in
+ * `$HEX=TEXT,N` the N bytes after it are its parameters. Blank lines and comments after `;`, `#`, or `//` are skipped; `leftOut` has the
+ * numbers of lines for other tools, which are ignored. A line has at most 8 bytes and a text of 64 characters. Throws a Fault that names
+ * the line.
  * @param {string} file
  */
 export function tableEncoding(file) {
@@ -42,7 +43,7 @@ export function tableEncoding(file) {
 }
 
 /**
- * Adds a line of a table. Throws a Fault if something is wrong with it.
+ * Adds a line of a table. Throws a Fault if it is invalid.
  * @param {TableEncoding} made
  * @param {string} written
  * @param {number} line its number
@@ -61,7 +62,7 @@ function addLine(made, written, line) {
 }
 
 /**
- * The lines of a table that mean nothing here, null if there are none.
+ * A remark on the ignored lines of a table, null if there are none.
  * @param {import('./encoding.js').Encoding} encoding
  */
 export function linesLeftOut({ leftOut = [] }) {

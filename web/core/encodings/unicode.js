@@ -1,4 +1,4 @@
-// What the encodings of all of Unicode share. They lack only the halves of characters.
+// Encodings of all of Unicode. They lack only unpaired surrogates.
 
 import { lacks } from './characters.js';
 import { SPACES } from './encoding.js';

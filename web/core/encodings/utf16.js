@@ -1,4 +1,4 @@
-// UTF-16, with either byte first.
+// UTF-16 in both byte orders.
 
 import { unicodeEncoding } from './unicode.js';
 

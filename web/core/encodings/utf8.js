@@ -2,7 +2,7 @@
 
 import { unicodeEncoding } from './unicode.js';
 
-/** The first bytes of characters of two, three and four. */
+/** The lowest first bytes of characters of two, three, and four bytes. */
 const FIRST_BYTES = [0xC2, 0xE0, 0xF0];
 
 /** @param {string} character */

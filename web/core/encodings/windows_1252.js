@@ -1,10 +1,10 @@
-// Windows-1252, in which programs for Western Windows write cue sheets and lists. Some engines read it as Latin-1.
+// Windows-1252, in which programs for Western Windows write cue sheets and lists. Some engines decode it as Latin-1.
 
-/** The characters of the bytes 80 to 9F; those without one keep their number. */
+/** The characters of the bytes 80 to 9F; bytes without one keep their number. */
 const HIGH = '€\x81‚ƒ„…†‡ˆ‰Š‹Œ\x8DŽ\x8F\x90‘’“”•–—˜™š›œ\x9DžŸ';
 
 /**
- * A text in Windows-1252 that was read as Latin-1.
+ * Corrects a text in Windows-1252 that was decoded as Latin-1.
  * @param {string} latin
  */
 export function windowsText(latin) {

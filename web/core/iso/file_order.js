@@ -1,4 +1,4 @@
-// The order in which the files of a track have its sectors: the extents of a file may lie apart.
+// The sectors of a track in the order of its files: the extents of a file may be apart.
 
 import { firstAfter } from '../bytes.js';
 import { SECTOR_SIZE, USER_SIZE } from '../module/index.js';
@@ -6,10 +6,10 @@ import { SECTOR_SIZE, USER_SIZE } from '../module/index.js';
 /** @typedef {import('../bytes.js').Reader} Reader */
 /** @typedef {import('./files.js').FileEntry} FileEntry */
 /** @typedef {{ reader: Reader, base: number, sectors: number }} RawTrack */
-/** @typedef {{ from: number, count: number }} Sectors some of a track, by their places in it */
+/** @typedef {{ from: number, count: number }} Sectors a run of sectors, by the index of the first one in the track */
 
 /**
- * The last of several runs that begins at a place or before it; the first one if none does.
+ * The last run that begins at a place or before it; the first run if none does.
  * @template T
  * @param {T[]} runs
  * @param {number[]} begins where each begins, in order
@@ -19,11 +19,11 @@ function runAt(runs, begins, place) {
     return runs[Math.max(firstAfter(begins, place) - 1, 0)];
 }
 
-/** The sectors of a track, those of each file one after the other, and all others as they lie. */
+/** The sectors of a track, reordered so that those of each file are consecutive; all others keep their order. */
 export class FileOrder {
     /**
      * @param {RawTrack} track
-     * @param {Sectors[]} runs all of it, in this order
+     * @param {Sectors[]} runs all sectors of the track, in this order
      */
     constructor({ reader, base, sectors }, runs) {
         let next = 0;
@@ -57,7 +57,7 @@ export class FileOrder {
 }
 
 /**
- * The extents that go on with a file elsewhere than after the one before them, by the place at which that ends.
+ * The extents of files that are not directly after the extent before them, by the place at which that one ends.
  * @param {RawTrack} track
  * @param {FileEntry[]} files
  */
@@ -75,7 +75,7 @@ function laterExtents({ base }, files) {
 }
 
 /**
- * The order of a track's files, undefined if it is that of the sectors, or if extents have sectors of others.
+ * The order of a track's files; undefined if it is the order of the sectors, or if extents overlap.
  * @param {RawTrack} track
  * @param {FileEntry[]} files
  */
@@ -101,7 +101,7 @@ export function fileOrder(track, files) {
 }
 
 /**
- * Whether each of so many sectors is in just one of several runs.
+ * Whether each sector of a track is in exactly one run.
  * @param {Sectors[]} runs
  * @param {number} sectors
  */

@@ -14,14 +14,14 @@ import { walked } from './walk.js';
 /** @typedef {import('./records.js').ExtentFault} ExtentFault */
 /** @typedef {import('./own_blocks.js').OwnBlock} OwnBlock */
 /**
- * A file, or one extent of a file that has several, and how many bytes it has before that. `fault` says why its bytes are not just those
- * from its block on, null if they are; `record` is where its directory names it.
+ * A file, or one extent of a file that has several; `before` is how many bytes of the file come before it. `fault` says why its bytes are
+ * not simply those from its block on, null if they are; `record` is the place of its directory record.
  * @typedef {{ path: string, block: number, size: number, fault: ExtentFault | null, before: number, record: Place }} FileEntry
  */
 /**
- * The files by their blocks, with the best names that there are; what could not be read; all that the trees of
- * names have, some of it several times; whether UDF names the files too; which blocks are the volume's own, each with what it is; those of
- * its path tables; and the number that the volume gives the first sector of its track.
+ * The files, sorted by block and with the best names available; what could not be read; all entries of the trees of names, some of them
+ * several times; whether UDF names the files too; which blocks are the volume's own, each with its kind; those of its path tables; and the
+ * number that the volume gives the first sector of its track.
  * @typedef {{ files: FileEntry[], faults: Remark[], entries: FileEntry[], udf: boolean, own: Map<number, OwnBlock>, tables: number[],
  *     first: number }} VolumeFiles
  */
@@ -35,12 +35,12 @@ const ROOT_RECORD = 156;
 const ESCAPES = 88;
 const NUMBER_IN_SET = 124;
 
-/** What descriptors name in a row: ISO 9660, and UDF with its beginning and end. */
+/** The identifiers of consecutive descriptors: ISO 9660, and UDF with its beginning and end. */
 const STANDARDS = ['CD001', 'BEA01', 'NSR02', 'NSR03', 'TEA01'];
-/** Most sectors that are kept: many records may be continued in the same ones, and a browser takes long for each reading. */
+/** The most sectors that are kept: many records may be continued in the same ones, and each read is slow in a browser. */
 const MOST_KEPT = 4096;
 
-/** The user data of a track, by the block numbers of its volume. */
+/** Reads the user data of a track by the block numbers of its volume. */
 export class VolumeReader {
     /**
      * @param {Reader} reader
@@ -52,7 +52,7 @@ export class VolumeReader {
         this.sectors = sectorCount(reader.size);
         /** The number that the volume gives the first sector. */
         this.first = 0;
-        /** How many places were read in which records are continued. */
+        /** How many areas were read in which records are continued. */
         this.areas = 0;
         /** @type {Map<number, Uint8Array>} the user data of sectors that were read one by one */
         this.kept = new Map();
@@ -74,7 +74,7 @@ export class VolumeReader {
     }
 
     /**
-     * The user data of sectors in one piece.
+     * The user data of consecutive sectors.
      * @param {number} extent
      * @param {number} count
      */
@@ -89,7 +89,7 @@ export class VolumeReader {
     }
 
     /**
-     * The record of a directory on itself, if one stands first in a sector.
+     * The record of a directory for itself, if a sector begins with one; or null.
      * @param {number} extent
      */
     async ownRecord(extent) {
@@ -100,7 +100,7 @@ export class VolumeReader {
 }
 
 /**
- * The files of a track's volume. Throws a Fault, `volume`, if there is none, and what the reader throws.
+ * The files of a track's volume. Throws a Fault, `volume`, if there is none, and the errors of the reader.
  * @param {Reader} reader of the track
  * @param {number} base the block of its first sector
  * @returns {Promise<VolumeFiles>}
@@ -128,7 +128,7 @@ export async function filesOf(reader, base) {
 }
 
 /**
- * The file that the entries of a path are. Throws a Fault if they are not just its bytes.
+ * Joins the entries of a path into one file. Throws a Fault if they do not have exactly its bytes.
  * @param {FileEntry[]} entries
  * @returns {WholeFile}
  */
@@ -156,9 +156,9 @@ export function endOfExtent({ block, size }) {
 }
 
 /**
- * A line for each entry of a list of files.
+ * Formats each entry of a list of files as a line.
  * @param {FileEntry[]} files
- * @param {(path: string) => string} shown a path as it is printed
+ * @param {(path: string) => string} shown formats a path
  * @param {(fault: ExtentFault) => string} said
  */
 export function filesLines(files, shown, said) {
@@ -171,7 +171,7 @@ function numberIn(descriptor) {
 }
 
 /**
- * The files of the first tree, and those of another one whose bytes it does not name.
+ * The files of the first tree, and those of the other tree at blocks that the first one does not name.
  * @param {FileEntry[][]} trees
  */
 function joinedFiles([files, others = []]) {
@@ -180,7 +180,7 @@ function joinedFiles([files, others = []]) {
 }
 
 /**
- * The files that a user byte of a block lies in: several if they share it.
+ * The files that contain a user byte of a block: several if they share it.
  * @param {FileEntry[]} files
  * @param {number} block
  * @param {number} offset
@@ -193,7 +193,7 @@ export function filesAt(files, block, offset) {
 }
 
 /**
- * The descriptors of a volume: the primary one, and Joliet's, if there is one; and how many sectors have descriptors.
+ * The descriptors of a volume: the primary one, and Joliet's, if any; whether it has UDF; and how many sectors have descriptors.
  * @param {VolumeReader} volume
  */
 export async function descriptorsOf(volume) {
@@ -232,8 +232,8 @@ function rootOf(descriptor) {
 }
 
 /**
- * The root directory's record on itself, and the number that a volume gives the first sector of its track: 0, or the track's block if it
- * counts from the disc's start. That record has its own extent, which decides.
+ * The root directory's record for itself, and the number that the volume gives the first sector of its track: 0, or the track's block if it
+ * counts from the start of the disc. The extent in the record decides.
  * @param {VolumeReader} volume
  * @param {number} root its extent
  */

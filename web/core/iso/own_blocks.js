@@ -7,18 +7,18 @@ import { USER_SIZE } from '../module/index.js';
 
 export const FIRST_DESCRIPTOR = 16;
 
-/** Where a descriptor has the bytes of a path table, and the sectors of four, of which the last two count with the high byte first. */
+/** Where a descriptor has the size of a path table in bytes, and the sectors of four path tables, the last two with the high byte first. */
 const TABLE_SIZE = 132;
 const PATH_TABLES = 140;
 
-/** The most sectors of a path table that are taken for it: 8 MiB. */
+/** The most sectors of a path table that are used: 8 MiB. */
 const MOST_TABLE = 4096;
 
 /**
  * The blocks of descriptors and directories.
  * @param {VolumeReader} volume
  * @param {number} descriptors how many there are
- * @param {number[]} directories their sectors, as the volume counts
+ * @param {number[]} directories their sectors, as the volume numbers them
  */
 export function ownBlocks(volume, descriptors, directories) {
     const own = new Map(directories.map(extent => [volume.blockOf(extent), /** @type {OwnBlock} */ ('directory')]));

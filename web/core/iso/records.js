@@ -1,4 +1,4 @@
-// The records of a directory of ISO 9660, and what Rock Ridge adds to them.
+// Reads the directory records of ISO 9660, and the Rock Ridge entries in them.
 
 import { joinedBytes, sameBytes } from '../bytes.js';
 import { textOfFile } from '../encodings/index.js';
@@ -8,15 +8,15 @@ import { USER_SIZE } from '../module/index.js';
 /** @typedef {import('../facts.js').Remark} Remark */
 /** @typedef {import('../facts.js').Remark<import('../facts.js').CodesOf<'extent'>>} ExtentFault */
 /**
- * A directory record: its place in the bytes, where its extent begins, its bytes, whether both are the same with the most significant byte
- * first, the volume of the set that it lies on, its flags, its name as it stands there, and its System Use field.
+ * A directory record: its place in the bytes, where its extent begins, how many bytes that has, whether both are the same with the most
+ * significant byte first, its volume in the set, its flags, its undecoded name, and its System Use field.
  * @typedef {{ at: number, extent: number, size: number, agrees: boolean, volume: number, flags: number, interleaved: boolean,
  *     name: Uint8Array, system: Uint8Array, length: number }} DirectoryRecord
  */
 /** @typedef {{ kind: 'file' | 'directory', path: string, extent: number, size: number, fault: ExtentFault | null }} Entry */
-/** @typedef {{ entry: Entry, at: number, before: number }} RecordPlace where a record is, and how much of its file others have before it */
+/** @typedef {{ entry: Entry, at: number, before: number }} RecordPlace where a record is, and how many bytes of its file come before it */
 /**
- * The sectors of a volume, and how many of those were read in which records are continued.
+ * The sectors of a volume, and how many areas were read in which records are continued.
  * @typedef {{ user(extent: number, count: number): Promise<Uint8Array>, available(extent: number, count: number): number, areas: number }}
  *     Blocks
  */
@@ -30,7 +30,7 @@ const ASSOCIATED = 4;
 const MORE_EXTENTS = 128;
 const MOST_CONTINUATIONS = 64;
 
-/** Where a record has the size of its extent, and how many bytes that is: once in each byte order. */
+/** Where a record has the size of its extent, and how many bytes that field has: the size in each byte order. */
 export const SIZE_FIELD = Object.freeze({ offset: 10, length: 8 });
 
 /**
@@ -42,7 +42,7 @@ function numberAt(bytes, at) {
 }
 
 /**
- * Whether a number that stands there twice is the same with the most significant byte first. Some writers leave that 0.
+ * Whether a number in both byte orders is the same in both. Some writers leave 0 for the one with the most significant byte first.
  * @param {Uint8Array} bytes
  * @param {number} at
  */
@@ -52,7 +52,7 @@ function agreesAt(bytes, at) {
 }
 
 /**
- * A number that stands there twice, or null if it is not the same in both byte orders.
+ * A number in both byte orders, or null if it is not the same in both.
  * @param {Uint8Array} bytes
  * @param {number} at
  */
@@ -61,7 +61,7 @@ export function numberInBoth(bytes, at) {
 }
 
 /**
- * The record at a place, or null if none can stand there.
+ * The record at a place, or null if none can be there.
  * @param {Uint8Array} bytes
  * @param {number} at
  * @returns {DirectoryRecord | null}
@@ -87,7 +87,7 @@ export function recordAt(bytes, at) {
 }
 
 /**
- * Whether a record is a directory's on itself.
+ * Whether a record is the one of a directory for itself.
  * @param {DirectoryRecord} record
  */
 export function isSelf({ name }) {
@@ -102,7 +102,7 @@ function isParent({ name }) {
 /**
  * How many bytes of each System Use field come before Rock Ridge's entries, or null if the volume has none.
  * @param {Blocks} blocks
- * @param {DirectoryRecord} own the root's
+ * @param {DirectoryRecord} own the root's record for itself
  */
 export async function sharingSkip(blocks, { system }) {
     // CD-ROM XA has 14 bytes of its own there.
@@ -162,8 +162,8 @@ async function continuation(blocks, data) {
 }
 
 /**
- * What Rock Ridge says of a record: its name, '' if it has none, whether it is a link or a directory that belongs to another place,
- * and the extent of a directory whose place is here.
+ * The Rock Ridge data of a record: its name, '' if it has none; whether it is a link, or a directory that belongs elsewhere; and the extent
+ * of a directory that is elsewhere and belongs here.
  * @param {Blocks} blocks
  * @param {Uint8Array} area
  */
@@ -180,7 +180,7 @@ async function rockRidge(blocks, area) {
 }
 
 /**
- * The files and directories that the records of a directory name, in their order. A record whose file has more extents goes on in the next
+ * The files and directories that the records of a directory name, in order. The record of a file with more extents is continued by the next
  * one, if that has the same name.
  * @param {Selves} blocks
  * @param {Uint8Array} user of the whole directory
@@ -210,7 +210,7 @@ function* recordsOf(user, fault) {
         const record = recordAt(user, at);
         if (record === null && user[at] !== 0) fault(remark('tree/no-record', { at }));
         if (record !== null) yield record;
-        // A record lies in one sector. After the last one there come zeros.
+        // A record is in one sector. Zeros follow the last one.
         at = record === null ? (Math.floor(at / USER_SIZE) + 1) * USER_SIZE : at + record.length;
     }
 }
@@ -219,7 +219,7 @@ function* recordsOf(user, fault) {
  * @param {Selves} blocks
  * @param {DirectoryRecord} record
  * @param {Reading} reading
- * @returns {Promise<Entry | null>} null for a link, and for a directory that is listed in another place
+ * @returns {Promise<Entry | null>} null for a link, and for a directory that is listed elsewhere
  */
 async function entryOf(blocks, record, reading) {
     const more = reading.skip === null ? null : await rockRidge(blocks, record.system.subarray(reading.skip));
@@ -234,7 +234,7 @@ async function entryOf(blocks, record, reading) {
 }
 
 /**
- * A directory that Rock Ridge has moved: its record has no size.
+ * A directory that Rock Ridge moved: the record that names it has no size.
  * @param {Selves} blocks
  * @param {number} extent
  * @param {string} path

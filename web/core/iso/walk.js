@@ -1,4 +1,4 @@
-// What the directories of a volume have. A volume may lie: its sectors are read once, and what is kept is bounded by its image.
+// Reads the directories of a volume. Its data may be hostile, so sectors are read only once, and the size of the image limits the results.
 
 import { remark } from '../faults.js';
 import { USER_SIZE } from '../module/index.js';
@@ -17,15 +17,15 @@ const LARGEST_DIRECTORY = 1 << 24;
 const DEEPEST = 255;
 
 /**
- * A volume has at most as many entries as its image has sectors, or at least FEWEST_ENTRIES; for each of them a number of characters of
- * paths; and half as many places in which Rock Ridge continues them.
+ * The limits of a volume: as many entries as its image has sectors, or FEWEST_ENTRIES if that is more; CHARACTERS_AN_ENTRY characters of
+ * paths for each of them; and for every two, one area in which Rock Ridge continues records.
  */
 const FEWEST_ENTRIES = 1 << 16;
 const CHARACTERS_AN_ENTRY = 128;
 
 const MOST_FAULTS = 1000;
 
-/** The directories of one tree of a volume. */
+/** Reads the directories of one tree of a volume. */
 class Walk {
     /**
      * @param {VolumeReader} volume
@@ -56,7 +56,7 @@ class Walk {
         this.characters += path.length + JSON.stringify(why).length;
     }
 
-    /** Why nothing more is read, null if nothing is too much. */
+    /** Why nothing more is read, null if no limit is exceeded. */
     excess() {
         const characters = CHARACTERS_AN_ENTRY * this.most;
         if (this.entries > this.most) return remark('tree/many-entries', { most: this.most });
@@ -82,9 +82,9 @@ class Walk {
     }
 
     /**
-     * Adds what a directory has.
+     * Adds the entries of a directory.
      * @param {Directory} directory
-     * @param {Directory[]} directories those that are read, to which its own are added
+     * @param {Directory[]} directories the directories to read, to which its own are added
      */
     async read(directory, directories) {
         const { path, depth } = directory;
@@ -105,7 +105,7 @@ class Walk {
     }
 
     /**
-     * The user data of a directory, as far as it can be read. What can't be is said.
+     * The user data of a directory, as far as it can be read. The rest is reported as a fault.
      * @param {Directory} directory
      * @param {(why: Remark) => void} fault
      */
@@ -140,7 +140,7 @@ class Walk {
 }
 
 /**
- * What all directories of a tree have, the upper ones first.
+ * Reads all directories of a tree, the upper ones first.
  * @param {VolumeReader} volume
  * @param {{ extent: number, size: number }} root
  * @param {Tree} tree

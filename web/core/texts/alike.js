@@ -1,5 +1,5 @@
 // Spellings of a text that count as the same: composed or decomposed, with a yen sign or a backslash. A loose search also ignores the width
-// and the case of characters. They are spellings of a part, like two codes of one kanji: so the search needs no special case, and the bytes
+// and the case of characters. They are spellings of a part, like two codes of one kanji, so the search needs no special case, and the bytes
 // that are replaced are those that were found.
 
 import { joinedBytes } from '../bytes.js';

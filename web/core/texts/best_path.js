@@ -36,8 +36,8 @@ export class PathFinder {
         this.order = Int8Array.from(AFTER_KINDS.flat());
         this.order[CONTROL * KINDS + CONTROL] = SECOND_CONTROL;
         this.order[CONTROL * KINDS + ASCII] = 0;
-        // By places after the first one, the best path that ends there: its score, its start, the kind of its last character, and how many
-        // kanji in a row it ends with.
+        // For each place after the first one, the best path that ends there: its score, its start, the kind of its last character, and how
+        // many kanji in a row it ends with.
         this.score = new Int32Array(MOST + LONGEST);
         this.start = new Int32Array(MOST + LONGEST);
         this.kind = new Uint8Array(MOST + LONGEST);
@@ -125,7 +125,7 @@ export class PathFinder {
  * @param {Uint8Array} bytes
  * @param {number} at
  * @param {number} size
- * @param {number} from the first place that is searched
+ * @param {number} from the lowest place that is searched
  */
 function stoodBefore(bytes, at, size, from) {
     for (let before = at - size; before >= from; before -= size) {

@@ -19,7 +19,7 @@ const BEGINS = /[A-Za-z0-9([<"'`]/;
 const EDGE_MARKS = Array.from('.!?)"\'', mark => mark.charCodeAt(0));
 
 /**
- * By encodings, the byte that ends the most texts without a 00, and is not part of a character; -1 if there is none.
+ * For each encoding, the byte that ends the most texts without a 00, and is not part of a character; -1 if there is none.
  * @param {Uint8Array} bytes
  * @param {Candidate[]} texts
  */

@@ -11,7 +11,7 @@ const MOST_OPENINGS = 64;
 /** How many failed attempts are remembered. */
 const KEPT_TRIES = 1 << 16;
 
-/** A part with more spellings is looked up in an index, not compared with each spelling. */
+/** The most spellings of a part that are compared one by one; more are looked up in an index. */
 const FEW_SPELLINGS = 16;
 
 /**
@@ -131,8 +131,7 @@ function anchorOf(parts, user) {
 }
 
 /**
- * The values that each of the first bytes of a hit may have, up to MOST_OPENINGS, and as long as their distance from its beginning is
- * fixed.
+ * The values that each of the first MOST_OPENINGS bytes of a hit may have, as far as their distance from its beginning is fixed.
  * @param {Wanted} parts
  */
 function openings(parts) {
@@ -243,7 +242,7 @@ class Matching {
     }
 
     /**
-     * The spellings of a part that match at a place, the first one last; empty if they have all failed there.
+     * The spellings of a part that match at a place, the first one last; empty if all have failed there before.
      * @param {number} i
      * @param {number} at
      */

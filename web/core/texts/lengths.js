@@ -9,7 +9,8 @@ import { plainTo } from './plain.js';
 
 /**
  * The fewest texts, each directly after the one before it, that prove lengths: if more than CONTROL_SHARE of the lengths are control codes,
- * or if they have several bytes; if the last text ends where everything ends; and otherwise, since letters may look like lengths.
+ * or if they have several bytes; if the last one ends with the whole text, or near the end of the bytes; and otherwise, since letters may
+ * look like lengths.
  */
 const LEAST_CHAINED = 3;
 const LEAST_TO_END = 6;
@@ -24,7 +25,7 @@ const MOST_LENGTH = 1024;
 const MOST_BEFORE = 12;
 const MOST_AFTER = 256;
 
-/** The most bytes that are read for a text and a form of lengths: this many times its size, and READ_FOR_ALL. */
+/** The most bytes that are read for a text and a form of lengths: this many times its size, plus READ_FOR_ALL. */
 const READ_FOR_EACH = 8;
 const READ_FOR_ALL = 256;
 
@@ -100,7 +101,8 @@ function chainOf(bytes, { start, end, from, scores }, low) {
 }
 
 /**
- * The last place at which the first length may be. In a long text, of which perhaps only the end is known, it may be after the beginning.
+ * The last place at which the first length may be. In a long text, of which perhaps only the end is known, it may be up to MOST_AFTER bytes
+ * after its beginning.
  * @param {number} start
  * @param {number} end
  * @param {number} nearest

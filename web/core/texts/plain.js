@@ -8,7 +8,7 @@ import { ASCII, CONTROL, HALF_WIDTH, LINE_END, codeAt } from './scores.js';
 const NOT_PLAIN = /(?![\t\n\r])[\p{Cc}\uE000-\uF8FF\uFFFD]/u;
 
 /**
- * The size of the character at a place in bytes; if there is none, 1, or 2 in UTF-16.
+ * The size in bytes of the character at a place; if there is none, 1, or 2 in UTF-16.
  * @param {Scores} scores
  * @param {Uint8Array} bytes
  * @param {number} at
@@ -20,7 +20,7 @@ export function sizeAt(scores, bytes, at) {
 }
 
 /**
- * The size of the character at a place in bytes if it is one of a plain text, else 0.
+ * The size in bytes of the character at a place if it is one of a plain text, else 0.
  * @param {Scores} scores
  * @param {Uint8Array} bytes
  * @param {number} at
@@ -39,7 +39,7 @@ function plainSizeAt(scores, bytes, at, end) {
 }
 
 /**
- * Where the plain text ends that begins at a place.
+ * The end of the plain text that begins at a place.
  * @param {Scores} scores
  * @param {Uint8Array} bytes
  * @param {number} from
@@ -70,7 +70,7 @@ const AFTER_TEXT = [0x00, 0x1A];
 const MOST_BESIDE = 3;
 
 /**
- * The bounds of a plain text that has all of the bytes, or null. A byte order mark may come before it, and filling after it.
+ * The bounds of plain text if the bytes are nothing else, or null. A byte order mark may come before it, and filling after it.
  * @param {Scores} scores
  * @param {Uint8Array} bytes
  * @param {number[]} begins places at which a character may begin, the likeliest one first
@@ -91,7 +91,7 @@ export function plainBounds(scores, bytes, begins, covered, isFirst) {
 }
 
 /**
- * Where the plain text begins that ends at a place: at the beginning, after a byte order mark, or after a partial character; or -1.
+ * The beginning of the plain text before a place: the first byte, or after a byte order mark or a partial character; or -1.
  * @param {Scores} scores
  * @param {Uint8Array} bytes
  * @param {number} from

@@ -16,8 +16,8 @@ import { BESIDE } from './told.js';
  * @typedef {{ encoding?: string, table?: string, lines?: boolean }} AskedTexts
  */
 /**
- * A recognised text, as it can be posted to a thread: its bounds in its file, how many bytes its room has, the name of its encoding, its
- * score in bits, whether it is accepted only because of its neighbours, and the text itself.
+ * A recognised text, in a form that can be posted to a thread: its bounds in its file, how many bytes its room has, the name of its
+ * encoding, its score in bits, whether it is accepted only because of its neighbours, and the text itself.
  * @typedef {{ start: number, end: number, room: number, scores: string, score: number, near: boolean, text: string }} Told
  */
 
@@ -42,7 +42,7 @@ function tellerOf({ encoding, table }) {
 /**
  * Recognises the texts that begin in a range. A job for a worker.
  * @param {Uint8Array} sectors of the range, and BEYOND more, or as many as the file has
- * @param {number} first the place of the first sector in the file
+ * @param {number} first the index in the file of the first of these sectors
  * @param {{ count: number, size: number } & AskedTexts} args how many sectors the range has, and how many bytes the file has
  * @returns {Told[]}
  */
@@ -53,7 +53,7 @@ export function textsOfRange(sectors, first, { count, size, lines, ...asked }) {
     const texts = tellerOf(asked).tell(bytes, shift, lines);
     /** @type {Told[]} */
     const told = [];
-    /** @type {Map<Scores, number>} by encodings, where the next text begins */
+    /** @type {Map<Scores, number>} for each encoding, where the next text begins */
     const next = new Map();
     for (const { start, end, scores, score, near, text: known, limit = bytes.length } of texts.reverse()) {
         const { encoding } = scores;

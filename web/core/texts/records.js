@@ -1,13 +1,13 @@
-// Recognises tables with records at equal distances: each has a text, the filling of its field, and often numbers after it.
+// Corrects texts in tables whose records have equal distances: a record is a text, the filling of its field, and often numbers.
 
 import { readTo } from './candidates.js';
 
 /** @typedef {import('./candidates.js').Candidate} Candidate */
 /** @typedef {import('./scores.js').Scores} Scores */
-/** @typedef {{ distance: number, column: number, members: number[] }} Table the distance of records, and where in a record which texts begin */
+/** @typedef {{ distance: number, column: number, members: number[] }} Table the record distance, and at which column which texts begin */
 /** @typedef {{ filling: number[], from: number, to: number }} Filled the filling of a record's field, and its bounds */
 
-/** Of this many texts on each side of one in a table, at least LEAST_IN_COLUMN are a multiple of the distance of records away. */
+/** Of this many texts on each side of one in a table, at least LEAST_IN_COLUMN begin a multiple of the record distance away. */
 const NEIGHBOURS = 6;
 const LEAST_IN_COLUMN = 3;
 
@@ -130,7 +130,7 @@ function fitTable(bytes, texts, { distance, column, members }) {
 }
 
 /**
- * The most frequent number, the least one of several.
+ * The most frequent number; the least of several equally frequent ones.
  * @param {number[]} numbers
  */
 function mostOften(numbers) {
@@ -230,7 +230,7 @@ function unitOf({ wide, encoding }, filling) {
 }
 
 /**
- * The filling of the most records, or null if there are too few.
+ * The most frequent filling, or null if too few records have it.
  * @param {Filled[]} all
  */
 function usualFilling(all) {

@@ -21,7 +21,7 @@ const CR = '\r';
 const LF = '\n';
 
 /**
- * Joins texts with nothing but plain text between them. If the bytes are nothing but text, all of them are one.
+ * Joins texts with nothing but plain text between them. If the bytes are nothing but text, they are one text.
  * @param {Uint8Array} bytes
  * @param {Candidate[]} texts in order
  * @param {number} shift how many bytes of the file come before them

@@ -1,4 +1,4 @@
-// How likely bytes are Japanese text: scores of characters in quarter bits, by encodings.
+// Scores how likely bytes are Japanese text: each character of each encoding has a score in quarter bits.
 
 import { CP932, SEARCHED, TableEncoding, encodeText } from '../encodings/index.js';
 import { CHARACTERS_BY_BITS } from './frequencies.js';
@@ -6,42 +6,42 @@ import { CHARACTERS_BY_BITS } from './frequencies.js';
 /** @typedef {import('../encodings/encoding.js').Encoding} Encoding */
 /** @typedef {import('../encodings/encoding.js').Usual} Usual */
 /**
- * An encoding whose texts can be told from other bytes: by each byte and each pair what it scores as a character, and its kind; whether
- * characters have two bytes always; how many bytes those of more than one have, two, or in UTF-8 three; whether it is a game's own table;
- * and how much two neighbours have together.
+ * An encoding whose texts can be recognised among other bytes: for each byte and each pair of bytes, its score and its kind as a character;
+ * whether all characters have two bytes; how many bytes longer characters have, two, or in UTF-8 three; whether it is a game's own table;
+ * and the least score of two neighbours together.
  * @typedef {{ encoding: Encoding, wide: boolean, size: number, own: boolean, one: Int8Array, oneKind: Uint8Array, pair: Int8Array,
  *     pairKind: Uint8Array, least: number }} Scores
  */
 /** @typedef {{ bytes: Uint8Array, score: number, kind: number }} Scored bytes that are a character */
 
-/** What is no character. */
+/** The score of bytes that are not a character. */
 export const BAD = -128;
 
-/** Kinds of characters: those of AFTER_KINDS, of which 0 is what is none. */
+/** Kinds of characters: indices into AFTER_KINDS, of which 0 is no character. */
 export const KANJI = 3;
 export const ASCII = 6;
 export const LINE_END = 7;
 export const CONTROL = 8;
 export const HALF_WIDTH = 9;
 
-/** What characters of one byte score, by their kinds. */
+/** The scores of one-byte characters, by their kinds. */
 const ONES = { [ASCII]: -1, [LINE_END]: -16, [CONTROL]: -32, [HALF_WIDTH]: -1 };
 
-/** What a character scores that the table lacks, by the rows of CP932: signs, the usual kanji, the others, NEC's, a user's own, IBM's. */
+/** Scores of characters that CHARACTERS_BY_BITS lacks, by rows of CP932: signs, usual kanji, others, NEC's, user-defined ones, IBM's. */
 export const USUAL_KANJI = 3;
 const RARE = [[0x8900, -24], [0x9873, USUAL_KANJI], [0xED00, -20], [0xF000, -27], [0xFA00, -28], [0x10000, -27]];
 
-/** What signs score that man pages have seldom and games often: those that end a sentence, and others. */
+/** The scores of signs that are rare in man pages and frequent in games: those that end a sentence, and others. */
 const SIGNS = /** @type {[number, string][]} */ ([[24, '！？…'], [16, '『』♪～']]);
 
-/** Two neighbours of a text have this score each at least, and so much together. */
+/** The least score of each of two neighbours in a text, and of both together. */
 const STRONG = 8;
 const STRONG_PAIR = 24;
 
-/** What a character of three bytes has more than one of two, which random bytes are more often. */
+/** The bonus of a three-byte character: random bytes are more often a two-byte one. */
 const THREE = 24;
 
-/** The first two bytes of those of three that stand often in texts: of kana and signs, of kanji, and of wide letters. */
+/** The first two bytes of three-byte characters that are frequent in texts: of kana and signs, of kanji, and of wide letters. */
 const FIRST_OF_THREE = [[0xE380, 0xE383], [0xE480, 0xE9BF], [0xEFBC, 0xEFBD]];
 
 /** @param {number} code of a wide character */
@@ -52,7 +52,7 @@ function kindOf(code) {
     return /[０-９Ａ-Ｚａ-ｚ]/.test(String.fromCharCode(code)) ? 5 : 4;
 }
 
-/** @param {number} byte of a character that has no others */
+/** @param {number} byte the only one of a character */
 function kindOfOne(byte) {
     if ([0x09, 0x0A, 0x0D].includes(byte)) return LINE_END;
     if (byte >= 0x80) return HALF_WIDTH;
@@ -65,7 +65,7 @@ function scoredOne(byte) {
     return { score: ONES[kind], kind };
 }
 
-/** The scores and kinds of characters. Kanji that the table has seldom score more: the words of games are others. */
+/** The scores and kinds of characters. Kanji that are rare in the table score more than there: games use different words. */
 function knownCharacters() {
     const known = new Map(Array.from(CP932.table.spellings, ([text, [[first, second]]]) => {
         const [, score] = RARE.find(([end]) => (first << 8 | second) < end) || [];
@@ -83,10 +83,10 @@ function knownCharacters() {
 }
 
 /**
- * The scores of an encoding by those of its characters. Of several with the same bytes the first one counts.
+ * The scores of an encoding by those of its characters. If several have the same bytes, the first one counts.
  * @param {Encoding} encoding
  * @param {Iterable<Scored>} scored
- * @param {Partial<Scores>} more what it has else
+ * @param {Partial<Scores>} more its other properties
  * @returns {Scores}
  */
 function scoresOf(encoding, scored, { size = 2, wide = false, own = false, least = STRONG_PAIR }) {
@@ -101,7 +101,7 @@ function scoresOf(encoding, scored, { size = 2, wide = false, own = false, least
 }
 
 /**
- * What an encoding has of the characters that are known.
+ * The known characters that an encoding has.
  * @param {Encoding} encoding
  * @param {ReturnType<typeof knownCharacters>} known
  * @returns {Generator<Scored>}
@@ -115,7 +115,7 @@ function* scoredIn(encoding, known) {
     }
 }
 
-/** The encodings whose texts can be told from other bytes: those that are searched. */
+/** The scores of the encodings whose texts can be recognised without naming them: those that are searched. */
 export function allScores() {
     const known = knownCharacters();
     return SEARCHED.map(encoding => {
@@ -124,21 +124,21 @@ export function allScores() {
     });
 }
 
-/** What pairs of bytes score that are rare in texts of another language. Its signs are as frequent as its usual characters. */
+/** The score of rare pairs of bytes of a language other than Japanese, and its signs, which are as frequent as its usual characters. */
 const SELDOM = -16;
 const USUAL_SIGNS = '、。，．！？：；…—・·「」『』《》〈〉（）“”‘’';
 
-/** What the small Latin letters and the space of a game's own table score, as texts in English have them, and what is in no table. */
+/** Scores in a game's own table: of small Latin letters and the space, as in English texts, and of characters that have no score. */
 const LATIN = 45;
 const OTHER = 16;
 
-/** One of 256 bytes scores less than one of 65536 pairs, but no less than this; and two neighbours together have so much. */
+/** A single byte scores less than a pair, as one of 256 and not of 65536, but at least LEAST_ONE; two neighbours at least STRONG_BYTES. */
 const ONE_BYTE = -32;
 const LEAST_ONE = -8;
 const STRONG_BYTES = 20;
 
 /**
- * The scores of a game's own table: of its characters of two bytes, and of one, which are as frequent as if there were no others.
+ * The scores of a game's own table. Its one-byte characters are scored as if there were no others.
  * @param {TableEncoding} encoding
  * @param {{ text: string, bytes: Uint8Array }[]} spelled
  */
@@ -156,8 +156,8 @@ function ownScores(encoding, spelled) {
 }
 
 /**
- * The scores of a game's own table; or of a set of characters of another language, by the pairs of bytes that stand often in its texts, as
- * if all of them were as frequent.
+ * The scores of a game's own table, or of a character set for a language other than Japanese. The pairs of bytes that are frequent in its
+ * texts score as if all of them were equally frequent.
  * @param {TableEncoding} encoding
  */
 export function tableScores(encoding) {
@@ -174,7 +174,7 @@ export function tableScores(encoding) {
 }
 
 /**
- * What two bytes score as a character, or as two.
+ * The score of two bytes as one character or as two, whichever is more.
  * @param {Scores} scores
  * @param {number} code
  */
@@ -183,7 +183,7 @@ export function strengthOf({ one, pair }, code) {
 }
 
 /**
- * The code of the character of several bytes at a place, 0 for none.
+ * The code of the character of several bytes at a place, 0 if there is none.
  * @param {Scores} scores
  * @param {Uint8Array} bytes
  * @param {number} at
@@ -195,7 +195,7 @@ export function codeAt({ size, pair }, bytes, at, end) {
 }
 
 /**
- * The code of two bytes, or of a character of three in UTF-8, 0 for none.
+ * The code of two bytes, or of a three-byte character of UTF-8, 0 if there is none.
  * @param {number} size
  * @param {Uint8Array} bytes
  * @param {number} at
@@ -210,8 +210,7 @@ function codeOf(size, bytes, at) {
 }
 
 /**
- * By each pair of bytes, the second one first, a bit for each encoding in which it is a character that stands often in texts, or begins
- * one.
+ * For each pair of bytes, as a number with the second byte first, a bit for each encoding in which it is, or begins, a frequent character.
  * @param {Scores[]} all
  */
 export function seedBits(all) {

@@ -1,4 +1,4 @@
-// A text searched in the user data of a data track, in one encoding or in several.
+// Searches the user data of a data track for a text, in one encoding or in several.
 
 import { failedBy } from '../faults.js';
 import { unitsAlike } from './alike.js';
@@ -10,14 +10,14 @@ import { joinFound, sectorsBeyond } from './find.js';
 /** @typedef {import('../crew/crew.js').Sharing} Sharing */
 /** @typedef {import('../encodings/encoding.js').Encoding} Encoding */
 /** @typedef {import('./find.js').Found} Found */
-/** @typedef {Found & { encoding: Encoding, begins: boolean }} Hits whether one of them is not in the middle of a character */
+/** @typedef {Found & { encoding: Encoding, begins: boolean }} Hits whether one of them does not begin in the middle of a character */
 
 /**
- * The encodings that have a text, the first of those in which it is the same bytes; the names of all that have it; and why others have
- * it not. Throws a Fault, `text`, if none has it.
+ * The encodings that have a text, only the first of those in which it has the same bytes; the names of all that have it; and the Faults of
+ * those that lack it. Throws a Fault, `text`, if all lack it.
  * @param {Encoding[]} encodings
  * @param {string} text
- * @param {boolean} [loose] as `unitsAlike` takes it
+ * @param {boolean} [loose] as in `unitsAlike`
  */
 export function encodingsWith(encodings, text, loose) {
     /** @type {Map<string, Encoding>} by the bytes of the text */
@@ -39,17 +39,17 @@ export function encodingsWith(encodings, text, loose) {
 }
 
 /**
- * The hits of a text in each encoding in which it stands there. One in which it stands only in the middle of characters, which may be
- * bytes of another one, comes last.
+ * The hits of a text in each encoding in which it occurs. Encodings in which it occurs only in the middle of characters come last: these
+ * hits may be parts of other characters.
  * @param {Sharer} crew
  * @param {OrderedImage} image
- * @param {{ text: string, encodings: Encoding[], limit: number, loose?: boolean }} asked how many hits are kept in each
- *     encoding, one at least
+ * @param {{ text: string, encodings: Encoding[], limit: number, loose?: boolean }} asked `limit` is how many hits are kept in each
+ *     encoding, at least one
  * @param {Sharing} [watch]
  */
 export async function searchText(crew, image, { text, encodings, limit, loose }, watch) {
     const texts = encodings.map(encoding => unitsAlike(encoding, text, loose));
-    /** @type {Found[][]} by the encodings */
+    /** @type {Found[][]} for each encoding */
     const parts = texts.map(() => []);
     const how = { base: image.base, beyond: Math.max(...texts.map(sectorsBeyond)), ...watch };
     const { order } = image;
@@ -67,7 +67,7 @@ export async function searchText(crew, image, { text, encodings, limit, loose },
 }
 
 /**
- * Adds the hits of a range, of which those after the limit are counted only.
+ * Adds the hits of a range. From the limit on they are only counted.
  * @param {Found[]} parts
  * @param {Found} found
  * @param {number} limit

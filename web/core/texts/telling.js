@@ -1,4 +1,4 @@
-// Which bytes of a stretch of a disc are texts, told from code, pictures and sound by how likely they are Japanese.
+// Recognises texts in a stretch of a disc, among code, pictures, and sound, by how likely the bytes are Japanese.
 
 import { CandidateFinder, LESS, isZero } from './candidates.js';
 import { withEdges } from './edges.js';
@@ -11,31 +11,33 @@ import { SURE } from './told.js';
 /** @typedef {import('./candidates.js').Candidate} Candidate */
 /** @typedef {import('./scores.js').Scores} Scores */
 
-/** What is accepted near a sure text lies within this many bytes of it, and if no 00 adjoins it, within a few. */
+/** A weaker text is accepted within this many bytes of an accepted one, or within a few if no 00 adjoins it. */
 const REACH = 64;
 const REACH_WITHOUT_ZERO = 4;
 
 /**
- * So many texts with 00 on both sides, each this many bytes from the next one at most, are sure together, as a list of short words is. So
- * many of them have to begin with different characters, and end with different ones: those of addresses do not.
+ * LISTED texts with 00 on both sides, each at most APART bytes from the next one, are sure together, such as a list of short words. At
+ * least DIFFERENT of them must begin with different characters, and as many end with different ones, unlike addresses.
  */
 const LISTED = 10;
 const APART = 8;
 const DIFFERENT = 6;
 
-/** If a smaller share of candidates has LESS bits more, they are there by chance. */
+/** If a smaller share of the candidates has LESS bits more, they are texts only by chance. */
 const MOST_BY_CHANCE = 0.4;
 
-/** Beside a text, over this many bytes of filling, others up to 00 are accepted from a few bits on, by a game's own table from 0 on. */
+/**
+ * Beside a text, over this many units of filling, weaker texts up to a 00 are accepted from a few bits on, in a game's own table from 0.
+ */
 const BETWEEN = 8;
 const LEAST_BESIDE = 4;
 const LONGEST_BESIDE = 256;
 
-/** What kanji score there at least, in quarter bits: a table of names has many that stand in no sentence. */
+/** The least scores of usual and of rare kanji there, in quarter bits: a table of names has many that no sentence has. */
 const KANJI_BESIDE = 8;
 const RARE_BESIDE = -8;
 
-/** The texts of a stretch, in their order. */
+/** Recognises the texts of a stretch, in their order. */
 export class TextTeller extends CandidateFinder {
     /**
      * @param {Uint8Array} bytes
@@ -50,7 +52,7 @@ export class TextTeller extends CandidateFinder {
 }
 
 /**
- * Texts with those beside them.
+ * Adds the texts that are beside sure ones.
  * @param {Uint8Array} bytes
  * @param {Candidate[]} sure
  */
@@ -68,7 +70,7 @@ function withNeighbours(bytes, sure) {
 }
 
 /**
- * Of candidates that overlap, the one with the higher score.
+ * Keeps the one with the higher score of candidates that overlap.
  * @param {Candidate[]} candidates
  */
 function withoutOverlaps(candidates) {
@@ -82,8 +84,8 @@ function withoutOverlaps(candidates) {
 }
 
 /**
- * By encodings, from which score on a text is sure that has not 00 on both sides. In sound many bytes are characters by chance: then most
- * candidates are weak, and of the others most are so with as many bits more, and so on. It is higher by so many steps that none is left.
+ * For each encoding, the score from which a text is sure that does not have 00 on both sides. In sound many bytes are characters by chance:
+ * then each step of LESS bits leaves only a small share of the candidates. The score is raised by as many steps as leave none.
  * @param {Candidate[]} candidates
  */
 function sureWithoutZeros(candidates) {
@@ -103,7 +105,7 @@ function sureWithoutZeros(candidates) {
  * @param {Candidate[]} candidates in order
  */
 function listedOf(bytes, candidates) {
-    /** @type {Map<Scores, Candidate[]>} by encodings, the last ones that follow one another */
+    /** @type {Map<Scores, Candidate[]>} for each encoding, the last ones that follow one another */
     const lists = new Map();
     /** @type {Set<Candidate>} */
     const listed = new Set();
@@ -120,7 +122,7 @@ function listedOf(bytes, candidates) {
 }
 
 /**
- * Whether most of some texts begin, and end, with different characters.
+ * Whether enough texts begin with different characters, and end with different ones.
  * @param {Uint8Array} bytes
  * @param {Candidate[]} texts
  */
@@ -131,7 +133,7 @@ function areDifferent(bytes, texts) {
 }
 
 /**
- * The candidates that are sure, and those near them in their encoding.
+ * The candidates that are sure, and those of the same encoding near them.
  * @param {Uint8Array} bytes
  * @param {Candidate[]} candidates in order
  */
@@ -140,7 +142,7 @@ function acceptedOf(bytes, candidates) {
     const listed = listedOf(bytes, candidates);
     const accepted = candidates.map(it => listed.has(it) || it.score >= (it.zeros === 2 ? SURE : least.get(it.scores) || SURE));
     for (const step of [1, -1]) {
-        /** @type {Map<Scores, Candidate>} by encodings, the one that was accepted last */
+        /** @type {Map<Scores, Candidate>} for each encoding, the one that was accepted last */
         const last = new Map();
         for (let i = step > 0 ? 0 : candidates.length - 1; i >= 0 && i < candidates.length; i += step) {
             const { start, end, scores, zeros } = candidates[i];
@@ -154,7 +156,7 @@ function acceptedOf(bytes, candidates) {
 }
 
 /**
- * The bits of bytes as a text beside another one, or -1 if they are none or have no wide character.
+ * The score in bits of bytes as a text beside another one, or -1 if they are not a text or have no wide character.
  * @param {Scores} scores
  * @param {Uint8Array} bytes
  * @param {number} start
@@ -176,7 +178,7 @@ function bitsOf(scores, bytes, start, end) {
 }
 
 /**
- * The texts on a side of another one, of the same encoding, over filling, one after the other.
+ * The texts on one side of a text, in the same encoding, with filling between them.
  * @param {Uint8Array} bytes
  * @param {Candidate} text
  * @param {number} limit where the text on that side ends or begins

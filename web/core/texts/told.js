@@ -1,18 +1,18 @@
-// How far a range of a file is seen whose texts are told, and which of its texts are kept when all ranges are told.
+// The overlap of ranges of a file in which texts are recognised, and the choice of the texts to keep when all ranges are done.
 
 /** From this many bits on a text is accepted by itself. */
 export const SURE = 27;
 
-/** Texts go over borders of ranges: one begins after these sectors, which it sees of the one before it, and sees as many after itself. */
+/** Texts cross the borders of ranges: so each range also reads this many sectors before it, and as many after it. */
 export const BESIDE = 4;
 export const BEYOND = 2 * BESIDE;
 
-/** A text in another encoding than most of its file has to have this many bits more, and most is this share. */
+/** A text in a different encoding than most of its file needs this many bits more. Most is at least MAIN_SHARE. */
 const FOREIGN = 8;
 const MAIN_SHARE = 0.8;
 
 /**
- * The texts of a file that are kept: those in the encoding of most of it, and others only if they are surer.
+ * The texts of a file to keep: those in the encoding of most of it, and others only if they are surer.
  * @template {{ score: number, scores: unknown, near: boolean }} T
  * @param {T[]} texts
  */

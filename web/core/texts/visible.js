@@ -1,4 +1,4 @@
-// Texts and names of a disc as they are printed.
+// Prepares texts and names of a disc for printing.
 
 /**
  * Replaces control and invalid characters by dots.
