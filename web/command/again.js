@@ -1,5 +1,5 @@
-// A process whose address space is limited (`ulimit -v`). Node reserves gigabytes for the memory of a module, so that no access has to be
-// tested; it takes no more than it needs if it is told so when it starts.
+// Runs the command again if the address space is limited (`ulimit -v`). Node reserves gigabytes for the memory of a module, so that it need
+// not test each access. With a flag at its start, node tests each access, and reserves only the memory that it needs.
 
 import { spawn } from 'node:child_process';
 import { readFileSync } from 'node:fs';
@@ -8,12 +8,12 @@ const TESTED = '--disable-wasm-trap-handler';
 /** Bytes of addresses that are enough for the memories of all threads. */
 const ENOUGH = 1e12;
 
-/** Whether this is such a process. Threads would reserve as much again each, and node ends if it gets none. */
+/** Whether this process was started with the flag. Each thread would reserve as much again, and node ends if it gets no memory. */
 export function isTested() {
     return process.execArgv.includes(TESTED);
 }
 
-/** Whether the address space is limited, and this process is not such a one but another can be. */
+/** Whether the address space is limited, and the command can be run again with the flag. */
 export function isLimited() {
     if (isTested() || !process.allowedNodeEnvironmentFlags.has(TESTED)) return false;
     try {
@@ -25,9 +25,9 @@ export function isLimited() {
 }
 
 /**
- * Runs the command in a process that tests each access, and ends as that does. Signals that end this one go on to it.
+ * Runs the command in a child process with the flag, and ends with its status or signal. Signals are passed to the child.
  * @param {string[]} signals
- * @param {(error: unknown) => void} failed is told why there is none
+ * @param {(error: unknown) => void} failed is called if the child cannot be started
  */
 export function runAgain(signals, failed) {
     const child = spawn(process.execPath, [TESTED, ...process.execArgv, ...process.argv.slice(1)], { stdio: 'inherit' });

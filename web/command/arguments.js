@@ -1,4 +1,4 @@
-// The arguments of the command line.
+// Parses the arguments of the command line.
 
 import { LAST_TRACK } from '../core/disc/index.js';
 import { ENCODINGS, encodingOf } from '../core/encodings/index.js';
@@ -12,7 +12,7 @@ import { didYouMean } from './suggesting.js';
 /** @typedef {import('./forms.js').Options} Options */
 /** @typedef {{ job: string, names: string[], options: Options }} Given */
 
-/** Options of which only one is given. */
+/** Pairs of options that exclude each other. */
 const EXCLUDING = [
     ['encoding', 'table'], ['fields', 'skipDamaged'], ['fields', 'partial'], ['skipDamaged', 'partial'],
     ['list', 'all'], ['list', 'inside'], ['list', 'loose'], ['base', 'first'],
@@ -41,7 +41,7 @@ function knownEncoding(name) {
     return name;
 }
 
-/** @type {Record<string, (text: string) => string | number | Uint8Array>} how the values of options are read; the others are texts */
+/** @type {Record<string, (text: string) => string | number | Uint8Array>} the parsers of option values; other values are texts */
 const VALUES = {
     base: text => numberOf(text.replace(/^\+(?=\d)/, ''), '--base', 0, LAST_BASE),
     track: text => numberOf(text, '--track', 1, LAST_TRACK),
@@ -53,7 +53,7 @@ const VALUES = {
 };
 
 /**
- * Cuts the words of the command line into options and names.
+ * Sorts the words of the command line into options and names.
  * @param {string[]} words
  */
 function sorted(words) {
@@ -94,7 +94,7 @@ function takeOption(options, word, left) {
 }
 
 /**
- * What a job takes, as FORMS has it.
+ * The arguments of a job with these options, in the notation of FORMS.
  * @param {string} job
  * @param {Options} options
  */
@@ -119,7 +119,7 @@ function checkNames(job, names, options) {
 }
 
 /**
- * What a job takes, as help shows it.
+ * The arguments of a job, in the notation of help.
  * @param {string[]} takes
  */
 export function usageOf(takes) {
@@ -127,7 +127,7 @@ export function usageOf(takes) {
 }
 
 /**
- * What a command line asks for. Throws a Fault.
+ * Parses a command line. Throws a Fault.
  * @param {string[]} words
  * @returns {Given}
  */

@@ -1,4 +1,4 @@
-// The jobs that are the program's: `list`, `audit`, `check` and `apply`, with its texts, statuses and limits.
+// The jobs that the program cdpatch has too: `list`, `audit`, `check`, and `apply`, with the program's messages, statuses, and limits.
 
 import { sampledBase } from '../core/disc/index.js';
 import { Fault, failedBy } from '../core/faults.js';
@@ -16,9 +16,9 @@ import { openTrackOf } from './opening.js';
 /** @typedef {import('./run.js').Run} Run */
 
 /**
- * What the program says, on standard output as it does.
+ * A Fault with a message of the program, which is printed on standard output, as the program does.
  * @param {string | Uint8Array} text one of MESSAGES, or a line of the module
- * @param {string} [advice] what it does not say
+ * @param {string} [advice] is printed on standard error
  */
 function programFault(text, advice = '') {
     const message = typeof text === 'string' ? `cdpatch: ${text}\n` : new TextDecoder().decode(text);
@@ -26,7 +26,7 @@ function programFault(text, advice = '') {
 }
 
 /**
- * A job that says what fails as the program does.
+ * Wraps a job, so that its errors are reported as the program reports them.
  * @param {(run: Run) => Promise<number>} job
  * @returns {(run: Run) => Promise<number>}
  */
@@ -44,14 +44,14 @@ function asProgram(job) {
     };
 }
 
-/** What the program says if an image can't be opened, read or written. */
+/** The program's messages for an image that cannot be opened, read, or written. */
 const OF_IMAGES = { open: MESSAGES.no_image, read: MESSAGES.read_failed, make: MESSAGES.no_output, write: MESSAGES.write_failed };
 
-/** What it says of a script. */
+/** The program's messages for a script. */
 const OF_SCRIPTS = { ...OF_IMAGES, open: MESSAGES.no_script, read: MESSAGES.no_script };
 
 /**
- * What is tried, with the program's message if a file fails.
+ * Runs `tried`, and converts the error of a file or a script to a Fault with the program's message.
  * @template T
  * @param {typeof OF_IMAGES} messages
  * @param {() => T | Promise<T>} tried
@@ -69,12 +69,12 @@ async function orSay(messages, tried) {
     }
 }
 
-/** The fewest addresses of which most decide. */
+/** The minimum number of addresses whose majority decides. */
 const FEWEST_ADDRESSES = 16;
 
 /**
- * Blocks count from 0 without `--base`, as the program counts them. Throws a Fault if most addresses say another base; if only a few are
- * there, and all do, it is said.
+ * Checks that blocks can be counted from 0 without `--base`, as the program counts them. Throws a Fault if most addresses give a different
+ * base. If there are only a few addresses, and all give that base, prints a message.
  * @param {Run} run
  * @param {string} name
  * @param {Reader} reader
@@ -88,7 +88,7 @@ async function checkBase(run, name, reader) {
 }
 
 /**
- * The image of a job and its base: a file as the program takes it, or the image of a cue sheet.
+ * Opens the image of a job: a file as the program reads it, or the image of a cue sheet. Returns it with its base.
  * @param {Run} run
  * @returns {Promise<{ reader: Reader, base: number }>}
  */
@@ -105,7 +105,7 @@ async function openImage(run) {
 /**
  * @param {Run} run
  * @param {typeof listText} textOf
- * @param {'survey' | 'kinds'} job what it needs to know of the sectors
+ * @param {'survey' | 'kinds'} job the survey of the sectors that it needs
  */
 async function report(run, textOf, job) {
     const { reader, base } = await openImage(run);
@@ -121,7 +121,7 @@ export const listJob = asProgram(run => report(run, listText, 'kinds'));
 export const auditJob = asProgram(run => report(run, auditText, 'survey'));
 
 /**
- * The script that a job names.
+ * Reads the script of a job.
  * @param {Run} run
  * @returns {Promise<ReadScript>}
  */
@@ -131,7 +131,7 @@ async function scriptNamed(run) {
 }
 
 /**
- * Says what to do if a script is for another base.
+ * Throws the error that a script is for a different base, with advice; any other error as it is.
  * @param {unknown} error
  * @returns {never}
  */
@@ -141,7 +141,7 @@ function adviseBase(error) {
 }
 
 /**
- * Applies the patches of the script, and prints what became of them.
+ * Applies the patches of the script, and prints their outcomes. Returns the status.
  * @param {Run} run
  * @param {{ reader: Reader, base: number }} image
  * @param {ReadScript} script
@@ -149,7 +149,7 @@ function adviseBase(error) {
  */
 async function patch(run, image, script, take) {
     const { carry } = run.options;
-    const taken = imageTooLong(image.reader.size) ? null : take; // of such an image nothing is written, only said
+    const taken = imageTooLong(image.reader.size) ? null : take; // an image that is too long is only reported
     const how = { carry, near: NEAR_WRITTEN, take: taken };
     const made = await orSay(OF_IMAGES, () => applyScript(run, image, script, how, run.watch).catch(adviseBase));
     if (made.status === STATUS.FAILED) throw programFault(made.text);

@@ -1,4 +1,4 @@
-// The files that `scan` looks at.
+// Collects the files that `scan` examines.
 
 import { fstatSync, readFileSync, readdirSync, realpathSync, statSync } from 'node:fs';
 import { dirname, join } from 'node:path';
@@ -14,12 +14,12 @@ import { pathsOfSheet } from './sheet_files.js';
 /** Standard input, as a name. */
 const INPUT = '-';
 
-/** What is looked at, each once: by the paths that were given, directories and all below them in the order of their names. */
+/** The files to examine, each once: the given paths, and everything in directories and below, in the order of the names. */
 export class Collection {
     /**
      * @param {(text: string) => void} fault
-     * @param {import('./run.js').Target} target which is no part of it, wherever it is
-     * @param {string} lock the place of its lock, which is none either
+     * @param {import('./run.js').Target} target which is excluded, wherever it is
+     * @param {string} lock the path of its lock, which is excluded too
      */
     constructor(fault, { descriptor }, lock) {
         this.fault = fault;
@@ -40,7 +40,7 @@ export class Collection {
     /** @param {string[]} paths that were given */
     async addPaths(paths) {
         for (const path of paths) await this.addNamed(path);
-        // A directory that a link leads to has the names of its real place, if that is in the collection too.
+        // If the directory to which a link leads is in the collection too, its files have the names of their real place.
         for (const path of this.links) await this.addLinked(path);
     }
 
@@ -67,7 +67,7 @@ export class Collection {
         }
     }
 
-    /** @param {string} path of a file, or of a link to whatever */
+    /** @param {string} path of a file, or of a link to anything */
     addEntry(path) {
         const found = statSync(pathOf(path));
         if (found.isFile()) this.addFile(path, false);
@@ -75,7 +75,7 @@ export class Collection {
     }
 
     /**
-     * Searches a directory by a link, unless the link is in it and leads round.
+     * Searches a directory by a link, unless the link is inside that directory, which would be a loop.
      * @param {string} path
      */
     async addLinked(path) {
@@ -107,7 +107,7 @@ export class Collection {
         }
     }
 
-    /** Cue sheets first, so that what they name is not looked at twice. */
+    /** The collected files, cue sheets first, so that the files that they name are not examined twice. */
     names() {
         return [...this.found.values()].sort((a, b) => Number(isSheetName(b.name)) - Number(isSheetName(a.name)));
     }
@@ -119,7 +119,7 @@ export function isSheetName(name) {
 }
 
 /**
- * The files that a sheet names; none if one is not there, or if the sheet can't be read, which is said when it is looked at.
+ * The files that a sheet names; none if one is missing, or if the sheet cannot be read, which is reported when it is examined.
  * @param {string} name
  * @returns {string[]}
  */

@@ -1,4 +1,4 @@
-// Files that fail, and what the codes of the system mean to a person. Whatever fails, the status is 2.
+// Errors of files, and the meanings of the system's error codes. The status after any error is 2.
 
 import { Fault } from '../core/faults.js';
 /** @type {Record<string, string>} */
@@ -43,7 +43,7 @@ export function hasCode(error, code) {
 }
 
 /**
- * That a file failed.
+ * The Fault of a file operation that failed.
  * @param {Attempt} attempt
  * @param {string} name
  * @param {unknown} error
@@ -53,7 +53,7 @@ export function fileFault(attempt, name, error) {
 }
 
 /**
- * What is tried with a file. Throws a Fault, `file`.
+ * Runs a file operation. Throws a Fault, `file`, if it fails.
  * @template T
  * @param {Attempt} attempt
  * @param {string} name

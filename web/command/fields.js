@@ -1,4 +1,4 @@
-// How many bytes of which fields differ between two images: `diff --fields`.
+// Prints how many bytes of each field differ between two images: `diff --fields`.
 
 import { bytesOfLines } from '../core/bytes.js';
 import { FIELDS } from '../core/sectors/index.js';
@@ -22,7 +22,7 @@ function fieldLines({ blocks, fields }) {
  * @param {Run} run
  * @param {Target} target
  * @param {OpenedTrack} opened
- * @param {Reader} fresh of as many bytes
+ * @param {Reader} fresh of the same size
  */
 export async function differingFields(run, target, opened, fresh) {
     const print = (/** @type {string[]} */ lines) => target.write(bytesOfLines(lines));

@@ -1,4 +1,4 @@
-// Files: images as readers, scripts in pieces, and files that are made new.
+// The files of a run: images as readers, scripts in pieces, and new files.
 
 import { closeSync, constants, fstatSync, open, read, readFileSync, readSync } from 'node:fs';
 import { inMemory } from '../core/faults.js';
@@ -17,11 +17,11 @@ import { STREAM_STEP, readerOfPieces } from './pieces.js';
 const LONGEST_STREAM = MOST_SECTORS * SECTOR_SIZE + 1;
 
 /**
- * Reads once from where the last read ended, and returns how many bytes came. A pipe that has none for the moment is tried again. That a
- * pipe has ended is an error on Windows.
+ * Reads once from where the last read ended, and returns the number of bytes read. A pipe that is empty for the moment is tried again. On
+ * Windows, the end of a pipe is an error.
  * @param {number} descriptor
  * @param {Uint8Array} bytes
- * @param {number} done where they go
+ * @param {number} done the index at which the bytes are stored
  */
 async function readSome(descriptor, bytes, done) {
     for (;;) {
@@ -36,10 +36,10 @@ async function readSome(descriptor, bytes, done) {
 }
 
 /**
- * Bytes of a file: those asked for, or fewer if it ends before.
+ * Reads `length` bytes of a file, or fewer if it ends before.
  * @param {number} length
- * @param {(bytes: Uint8Array, done: number) => number | Promise<number>} readMore reads some to a place, and returns how many came
- * @param {Uint8Array} [room] for as many bytes
+ * @param {(bytes: Uint8Array, done: number) => number | Promise<number>} readMore reads bytes to an index, and returns their number
+ * @param {Uint8Array} [room] for at least that many bytes
  */
 async function readFully(length, readMore, room) {
     const bytes = room ? room.subarray(0, length) : new Uint8Array(inMemory(() => Buffer.allocUnsafeSlow(length)).buffer);
@@ -52,11 +52,11 @@ async function readFully(length, readMore, room) {
 }
 
 /**
- * A file whose places can be read in any order.
+ * A reader of a file that can be read in any order.
  * @param {string} name
  * @param {number} descriptor
  * @param {number} size
- * @param {number} start the place in the file at which it begins
+ * @param {number} start the position in the file at which the reader begins
  * @returns {Reader}
  */
 function diskReader(name, descriptor, size, start) {
@@ -72,7 +72,7 @@ function diskReader(name, descriptor, size, start) {
 }
 
 /**
- * The place up to which a descriptor has been read, or null if the system does not say.
+ * The position up to which a descriptor has been read, or null if the system does not report it.
  * @param {number} descriptor
  */
 function readSoFar(descriptor) {
@@ -85,7 +85,7 @@ function readSoFar(descriptor) {
 }
 
 /**
- * When a file was changed, or '' if no date says that.
+ * The time at which a file was changed, or '' if it is not a valid date.
  * @param {{ mtime: Date }} stat
  */
 export function timeText({ mtime }) {
@@ -125,7 +125,7 @@ export class Files {
     }
 
     /**
-     * An image, for which `-` is standard input. It is opened once; what comes through a pipe is kept.
+     * Opens an image; `-` is standard input. Each image is opened once, and the bytes of a pipe are kept.
      * @param {string} name
      * @returns {Promise<DiscFile>}
      */
@@ -139,7 +139,7 @@ export class Files {
     }
 
     /**
-     * Opens an image, and reads nothing of it.
+     * Opens an image without reading it.
      * @param {string} name
      */
     async begin(name) {
@@ -147,7 +147,7 @@ export class Files {
     }
 
     /**
-     * An image that only a cue sheet names. What is no regular file may have no end, or wait for who writes it: it is refused.
+     * Opens an image that only a cue sheet names. Throws a Fault if it is not a regular file, which could be endless or wait for a writer.
      * @param {string} name
      * @returns {Promise<DiscFile>}
      */
@@ -164,7 +164,7 @@ export class Files {
     }
 
     /**
-     * The reader of an open file. A regular file that seems to be empty may have bytes all the same, as those of procfs.
+     * The reader of an open file. A regular file that seems to be empty is read too: it may have bytes, for example in procfs.
      * @param {string} name
      * @param {number} descriptor
      * @returns {Promise<Reader>}
@@ -207,7 +207,7 @@ export class Files {
         return file;
     }
 
-    /** What was made is complete. */
+    /** Completes the new files. */
     async finish() {
         for (const file of this.unfinished) await file.finish();
     }
@@ -217,7 +217,7 @@ export class Files {
         this.unfinished.clear();
     }
 
-    /** Closes all, after what is unfinished was removed. */
+    /** Removes unfinished files, and closes all files. */
     close() {
         this.removeUnfinished();
         for (const descriptor of this.open.splice(0)) closeSync(descriptor);

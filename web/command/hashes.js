@@ -1,4 +1,4 @@
-// The hashes of a file, and what DATs know of files by them.
+// Calculates the hashes of files, and looks them up in DATs.
 
 import { createHash } from 'node:crypto';
 import { basename } from 'node:path';
@@ -14,7 +14,7 @@ import { sentenceOf } from '../sentences/index.js';
 /** No hash beside SHA-1. */
 export const SHA1_ONLY = { crc32: false, md5: false };
 
-/** Hashes that grow with what is added. */
+/** Hashes that are calculated while bytes are added. */
 export class RunningHashes {
     /** @param {Needs} needs */
     constructor(needs) {
@@ -30,7 +30,7 @@ export class RunningHashes {
         if (this.crc !== null) this.crc = crc32(this.crc, bytes);
     }
 
-    /** @returns {Required<Hashes>} '' for one that was not computed */
+    /** @returns {Required<Hashes>} '' for a hash that was not computed */
     digest() {
         return {
             sha1: this.sha1.digest('hex'), md5: this.md5 === null ? '' : this.md5.digest('hex'),
@@ -40,7 +40,7 @@ export class RunningHashes {
 }
 
 /**
- * What a DAT knows of a file, such as 'verified NAME'.
+ * The verdict of a DAT on a file, such as 'verified NAME'.
  * @param {Found} found
  */
 export function dumpText(found) {
@@ -48,7 +48,7 @@ export function dumpText(found) {
 }
 
 /**
- * Says what DATs know of a new file. Returns whether it is a bad dump.
+ * Prints the verdict of DATs on a new file. Returns whether it is a bad dump.
  * @param {Run} run
  * @param {KnownDumps} known
  * @param {string} name
@@ -61,7 +61,7 @@ export function sayKnown(run, known, name, size, hashes) {
     return found !== null && found.isBad;
 }
 
-/** How many files are verified, are bad dumps and are not in the DAT. */
+/** Counts the files that are verified, are bad dumps, and are not in the DAT. */
 export class Verdicts {
     /** @param {KnownDumps} known */
     constructor(known) {
@@ -72,8 +72,8 @@ export class Verdicts {
     }
 
     /**
-     * Counts a file. One that is not an image is unknown only if a dump has its size.
-     * @param {{ isBad: boolean } | null} found what the DAT knows of it
+     * Counts a file. A file that is not an image is counted as unknown only if a dump has its size.
+     * @param {{ isBad: boolean } | null} found its dump in the DAT, or null
      * @param {number} size
      * @param {boolean} isImage
      */
@@ -83,7 +83,7 @@ export class Verdicts {
         else this.verified += 1;
     }
 
-    /** The status that follows. */
+    /** The status of the job: 1 if a file is a bad dump or unknown, else 0. */
     get status() {
         return Number(this.bad + this.unknown > 0);
     }

@@ -1,4 +1,4 @@
-// The texts of `help`.
+// Formats the texts of `help`.
 
 import { usageOf } from './arguments.js';
 import { FORMS, OPTION_FORMS } from './forms.js';

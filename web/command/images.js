@@ -1,4 +1,4 @@
-// The jobs that write images: `merge`, `raw`, `user` and `extract`.
+// The jobs that write images: `merge`, `raw`, `user`, and `extract`.
 
 import { bytesOfLines } from '../core/bytes.js';
 import { kindOfFile } from '../core/disc/index.js';
@@ -24,11 +24,11 @@ const BLOCKS_WITH_ADDRESS = LAST_BASE + 1;
 const OTHER_EDC = "OLD has a different EDC: perhaps another version";
 const TAILS = 'the bytes after the last sector differ';
 
-/** Of the places with the same damage in all dumps so many are named, since each stands among those that are damaged in all. */
+/** At most this many places with the same damage in all dumps are listed, since each is also listed as damaged in all. */
 const MOST_ALIKE = 10;
 
 /**
- * What was taken, and what could not be repaired, in lines.
+ * The lines about the sectors that were repaired, and those that could not be.
  * @param {Repair} repair
  * @param {DiscImage[]} others
  */
@@ -60,7 +60,7 @@ function unlikeLines(unlike) {
 }
 
 /**
- * Says which blocks of an image another one has not, and which ones only the other has, so that the result lacks them.
+ * Reports the blocks of an image that another image lacks, and those that only the other image has, which the result lacks.
  * @param {Run} run
  * @param {DiscImage} image
  * @param {DiscImage} other
@@ -75,10 +75,10 @@ function sayOtherRange(run, image, other, { common, missing, beyond }, out) {
 }
 
 /**
- * Why nothing is repaired.
+ * Explains why nothing is repaired.
  * @param {Repair} repair
  * @param {Refusal} refused
- * @param {string[]} names of the image and of the other ones, as they were given
+ * @param {string[]} names of the image and of the others, as given
  */
 function refusedText({ different, sectors }, refused, [name, ...others]) {
     const other = others[refused.other];
@@ -143,7 +143,7 @@ export async function rawJob(run) {
 }
 
 /**
- * Says which sectors are not Mode 1 whose user data was written. Returns whether there are any.
+ * Reports the sectors that are not Mode 1, although their user data was written. Returns whether there are any.
  * @param {Run} run
  * @param {KindRun[]} others
  */

@@ -1,4 +1,4 @@
-// The job `info`: what a file is, with all that is found in it.
+// The job `info`: identifies a file, and reports all findings in it.
 
 import { basename } from 'node:path';
 import { bytesOfLines } from '../core/bytes.js';
@@ -18,12 +18,12 @@ import { foundInFiles, hashesOf } from './surveying.js';
 /** @typedef {import('../core/disc/dat.js').Hashes} Hashes */
 /** @typedef {import('../core/facts.js').FileKind} FileKind */
 /** @typedef {import('./run.js').Run} Run */
-/** @typedef {{ found: boolean, lines: string[] }} Informed whether something is wrong, and what is printed */
+/** @typedef {{ found: boolean, lines: string[] }} Informed whether something is wrong, and the lines to print */
 /** @typedef {import('./surveying.js').FileFound} FileFound */
 
 const WITH_CDSCRIPT = '`cdscript raw` makes the raw image, and `cdscript user` the ISO image.';
 
-/** What is said of an empty standard input; node puts an empty file there if it is closed. */
+/** The message about an empty standard input. Node replaces a closed one with an empty file. */
 const NOTHING_PIPED = 'Standard input is empty or closed: give the name of a file, or the image on standard input.';
 
 /**
@@ -37,7 +37,7 @@ function trackText(disc, { number, type, file, block, sectors, part }) {
 }
 
 /**
- * What is said of blocks that the image lacks of its volume.
+ * Describes the blocks of the volume that the image lacks.
  * @param {import('../core/disc/volume_end.js').Lack} lack
  */
 function lackText({ missing: { first, last }, blocks, file, isSure }) {
@@ -48,7 +48,7 @@ function lackText({ missing: { first, last }, blocks, file, isSure }) {
 }
 
 /**
- * What is said of lost sectors.
+ * Describes lost sectors.
  * @param {Lost['lost'][0]} run
  * @param {Lost['used']} used
  */
@@ -61,7 +61,7 @@ function lostText({ first, last, why }, used) {
 }
 
 /**
- * The lines of what is found in an image.
+ * The lines about the findings in an image.
  * @param {Run} run
  * @param {Disc} disc
  * @param {FileFound['surveys'][0]} found
@@ -80,7 +80,7 @@ function surveyLines(run, disc, found) {
 }
 
 /**
- * What is said of data that is not surveyed, and of a disc without data.
+ * The lines about data that is not surveyed, and about a disc without data.
  * @param {Disc} disc
  */
 function unsurveyedLines(disc) {
@@ -92,7 +92,7 @@ function unsurveyedLines(disc) {
 }
 
 /**
- * The line of a file, and if there is a DAT what that knows of it, which is counted.
+ * The line of a file and, if there is a DAT, its verdict, which is counted.
  * @param {import('../core/disc/disc.js').DiscFile} file
  * @param {Hashes} hashes
  * @param {Verdicts | null} verdicts
@@ -129,7 +129,7 @@ async function discLines(run, verdicts) {
 }
 
 /**
- * What to do with a file that is no disc.
+ * The advice about a file that is not a disc.
  * @param {string} name
  * @param {FileKind} kind
  */

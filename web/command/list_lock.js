@@ -1,4 +1,4 @@
-// A lock on a list, so that two runs at a time do not write the same lines. It is a file beside the list, with the number of the process.
+// Locks a list, so that two runs at a time do not write the same lines. The lock is a file beside the list with the ID of the process.
 
 import { closeSync, openSync, readFileSync, realpathSync, unlinkSync } from 'node:fs';
 import { fileFault, hasCode } from './failures.js';
@@ -6,7 +6,7 @@ import { writeFully } from './new_file.js';
 import { ownFault } from '../sentences/index.js';
 
 /**
- * Whether the process that made a lock still runs. If it has the number of this one, it has ended, and the number was given out again.
+ * Whether the process that made a lock is still running. If its ID is that of this process, it has ended, and its ID was used again.
  * @param {number} pid
  */
 function isRunning(pid) {
@@ -57,8 +57,8 @@ function made(place) {
 }
 
 /**
- * Locks a list. The lock of a run that was killed is replaced. Throws a Fault if another run has it.
- * @param {string} name of the list, which is there
+ * Locks a list. The lock of a run that was killed is replaced. Throws a Fault if another run holds the lock.
+ * @param {string} name of the list, which exists
  * @returns {{ place: string, finish(): void, remove(): void }}
  */
 export function lockList(name) {

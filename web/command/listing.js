@@ -1,4 +1,4 @@
-// The job `replace --list`: the script of a table with the new texts of a disc.
+// The job `replace --list`: writes the script for a table with the new texts of a disc.
 
 import { importTable } from '../core/tasks/index.js';
 import { ownFault, sentenceOf } from '../sentences/index.js';

@@ -1,4 +1,4 @@
-// The jobs that look into a data track: `files`, `find` and `show`.
+// The jobs that show the contents of a data track: `files`, `find`, and `show`.
 
 import { bytesOfLines } from '../core/bytes.js';
 import { hexText } from '../core/hex_digits.js';
@@ -29,12 +29,12 @@ import { nearest } from './suggesting.js';
 
 const DEFAULT_LIMIT = 1000;
 
-/** The bytes of a row of `show`, and how many are shown from an offset on. */
+/** The number of bytes in a row of `show`, and of bytes shown from an offset on. */
 const ROW = 16;
 const BYTES_SHOWN = 128;
 
 /**
- * The entries of the file of a path. Throws a Fault if there is none.
+ * The entries of the file with a path. Throws a Fault if there is none.
  * @param {OpenedTrack} opened
  * @param {string} path
  */
@@ -57,7 +57,7 @@ function volumeIn({ volume, fault }) {
 }
 
 /**
- * Says why no file is named, if there is no volume.
+ * Reports why no file is named, if there is no volume.
  * @param {Run} run
  * @param {TrackContents} contents
  */
@@ -76,7 +76,7 @@ export async function filesJob(run) {
 }
 
 /**
- * The files in which a place lies, with how many of their bytes are before it.
+ * The files that contain a place, each with its number of bytes before the place; '-' if there is none.
  * @param {FilesAlong} files
  * @param {Place} place
  */
@@ -85,7 +85,7 @@ function filesText(files, place) {
 }
 
 /**
- * The files as they are printed, for places one after the other.
+ * The files with printable paths, for places in order.
  * @param {FileEntry[]} files
  */
 function printedFiles(files) {
@@ -136,11 +136,12 @@ export async function findJob(run) {
 }
 
 /**
- * User bytes in rows of digits and text, with the number of each block after the first. A character stands in the row in which it begins.
+ * Formats user bytes in rows of digits and text, with the number of each block after the first. A character is in the row in which it
+ * begins.
  * @param {DiscImage} image
  * @param {Encoding} encoding
  * @param {Place} place of the first byte
- * @param {number} size how many bytes are shown, or all that there are
+ * @param {number} size the number of bytes shown, if there are that many
  */
 async function rowLines(image, encoding, place, size) {
     const { at, bytes } = await bytesAround({ ...image, order: undefined }, place, LOOKED_BACK, size + LONGEST_CHARACTER);
@@ -158,7 +159,7 @@ async function rowLines(image, encoding, place, size) {
 }
 
 /**
- * What is known of a sector: its kind and address, what is wrong with it, its EDC, and the file in which a byte of it lies.
+ * The lines about a sector: its address, kind, and EDC, what is wrong with it, and the files that contain the byte at `place`.
  * @param {Run} run
  * @param {OpenedTrack} opened
  * @param {Uint8Array} sector

@@ -1,4 +1,4 @@
-// cdscript: reads the command line, does the job, and says what failed.
+// cdscript: reads the command line, runs the job, and reports errors.
 
 import { isMainThread, workerData } from 'node:worker_threads';
 import { gunzipSync } from 'node:zlib';
@@ -25,7 +25,7 @@ const STANDARD = { input: 0, output: 1, errors: 2 };
 /** @type {('SIGHUP' | 'SIGINT' | 'SIGTERM')[]} */
 const END_SIGNALS = ['SIGHUP', 'SIGINT', 'SIGTERM'];
 
-/** @param {number} number of a version, as 10200 */
+/** @param {number} number of a version, such as 10200 */
 function versionText(number) {
     return [10000, 100, 1].map(unit => Math.floor(number / unit) % 100).join('.');
 }
@@ -51,7 +51,7 @@ function messageOf(error) {
 }
 
 /**
- * Whether a word is the name of a file that is only read, by a job that takes nothing else.
+ * Whether a word is the name of an input file, in a job that has no other arguments.
  * @param {string} word
  * @param {Given} given
  */
@@ -60,7 +60,7 @@ function isNameRead(word, { job, names }) {
 }
 
 /**
- * The whole command: what these arguments ask for. Returns the status.
+ * Runs the command with these arguments. Returns the status.
  * @param {string[]} words
  * @param {Streams} [streams]
  * @param {Files} [files]
@@ -88,7 +88,7 @@ export async function main(words, streams = STANDARD, files = new Files(streams.
 }
 
 /**
- * Ends the process by a signal that comes, after the files that are not complete are removed.
+ * Makes a signal remove the unfinished files before it ends the process.
  * @param {Files} files
  */
 function endOnSignals(files) {
@@ -100,7 +100,7 @@ function endOnSignals(files) {
     }
 }
 
-/** Runs the command, or serves it in a thread. */
+/** Runs the command or, in one of its threads, serves the main thread. */
 export function start() {
     if (!isMainThread) {
         const { module, scans } = /** @type {import('./threads.js').ThreadData} */ (workerData);
@@ -116,10 +116,10 @@ export function start() {
         runAgain(END_SIGNALS, error => process.exit(failed(error)));
         return;
     }
-    // Before a file is made, a signal ends the process by itself, even while that waits for who reads its output.
+    // Before a file is made, a signal ends the process by itself, even while the process waits for the reader of its output.
     /** @type {Files} */
     const files = new Files(STANDARD.input, () => endOnSignals(files));
-    // Node would end with status 0 if a job waited for what never comes.
+    // Node would end with status 0 if a job waited for an event that never occurs.
     process.once('beforeExit', () => {
         files.removeUnfinished();
         process.exit(failed(ownFault('internal error: the job has not ended')));

@@ -1,5 +1,5 @@
-// The program's own messages of files, which the jobs that are the program's print as it does, after `cdpatch: `. tests/lib/messages.sh has
-// them too, and a test compares.
+// The messages of the program cdpatch about files. The jobs that the program has too print them, after `cdpatch: `. A test compares them
+// with tests/lib/messages.sh.
 
 import { LONG_IMAGE } from '../sentences/index.js';
 

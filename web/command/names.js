@@ -1,14 +1,14 @@
-// Names of files as the system has them: bytes, which are UTF-8 as a rule. For a byte that is not, a name here has a lone surrogate.
+// Converts names of files. To the system they are bytes, usually UTF-8. Here, a byte that is not UTF-8 is a lone surrogate.
 
 import { readFileSync } from 'node:fs';
 import { join, win32 } from 'node:path';
 
-/** What is added to a byte, so that it becomes a lone surrogate. */
+/** The number added to a byte to make it a lone surrogate. */
 const ESCAPE = 0xDC00;
 
 const ESCAPED = /([\uDC80-\uDCFF])/u;
 
-/** Valid UTF-8, or a byte that is not; a byte is a character here. */
+/** Matches valid UTF-8, or a byte that is not valid, in a text in which each byte is a character. */
 const PARTS = new RegExp(`((?:${[
     '[\\0-\\x7F]', '[\\xC2-\\xDF][\\x80-\\xBF]', '\\xE0[\\xA0-\\xBF][\\x80-\\xBF]', '[\\xE1-\\xEC\\xEE\\xEF][\\x80-\\xBF]{2}',
     '\\xED[\\x80-\\x9F][\\x80-\\xBF]', '\\xF0[\\x90-\\xBF][\\x80-\\xBF]{2}', '[\\xF1-\\xF3][\\x80-\\xBF]{3}',
@@ -16,7 +16,7 @@ const PARTS = new RegExp(`((?:${[
 ].join('|')})+)|[^]`, 'g');
 
 /**
- * The name that bytes are.
+ * Converts the bytes of a name to text.
  * @param {Buffer} bytes
  */
 export function nameOfBytes(bytes) {
@@ -25,7 +25,7 @@ export function nameOfBytes(bytes) {
 }
 
 /**
- * What the calls of the system take for a name.
+ * Converts a name to a path that system calls accept: to bytes if it is not UTF-8.
  * @param {string} name
  */
 export function pathOf(name) {
@@ -38,7 +38,7 @@ export function hasOddBytes(name) {
     return ESCAPED.test(name);
 }
 
-/** The words that the process was given, as the system has them: node reads bytes that are not UTF-8 as U+FFFD. */
+/** The arguments of the process with their original bytes: node reads bytes that are not UTF-8 as U+FFFD. */
 export function wordsOfProcess() {
     const words = process.argv.slice(2);
     if (!words.some(word => word.includes('\uFFFD'))) return words;
@@ -49,11 +49,11 @@ export function wordsOfProcess() {
     }
 }
 
-/** A device of Windows, which may have any extension. */
+/** Matches the name of a Windows device, which may have any extension. */
 const DEVICE = /^(?:con|prn|aux|nul|conin\$|conout\$|(?:com|lpt)[0-9\xB9\xB2\xB3])(?:[ .]|$)/i;
 
 /**
- * Whether Windows has no file of this path, but a device, or a stream beside a file's bytes. Node would make a file that no other program
+ * Whether this path is not a file on Windows, but a device, or a stream beside a file's bytes. Node would make a file that no other program
  * could open.
  * @param {string} path
  */
@@ -63,7 +63,7 @@ export function isNoFileOfWindows(path) {
 }
 
 /**
- * The path of a file in a directory. On Windows `D:` is the directory where one is on that drive; for `join` it is the drive's root.
+ * The path of a file in a directory. On Windows, `D:` is the current directory of that drive, but `join` makes it the drive's root.
  * @param {string} directory
  * @param {string} name
  */
@@ -73,7 +73,7 @@ export function pathIn(directory, name) {
 }
 
 /**
- * A name as a list has it: no two names are the same there, and none has a tab or a line end.
+ * Escapes a name for a list: different names stay different, and none has a tab or a line end.
  * @param {string} name
  */
 export function listedName(name) {
@@ -84,7 +84,7 @@ export function listedName(name) {
 }
 
 /**
- * The name that a list has so.
+ * Reverses `listedName`.
  * @param {string} listed
  */
 export function nameOfListed(listed) {

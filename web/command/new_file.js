@@ -1,5 +1,5 @@
-// Files that are made new. One stands under its name only when it is whole. Until then it has another name in the same directory; if the
-// file system has no links, it has its own, and is removed if anything fails.
+// Creates new files. A file gets its name only when it is complete. Until then it has a temporary name in the same directory. If the file
+// system has no hard links, the file has its own name from the start, and is removed on failure.
 
 import { randomBytes } from 'node:crypto';
 import { closeSync, fchmodSync, fstatSync, fsync, fsyncSync, linkSync, lstatSync, openSync } from 'node:fs';
@@ -13,11 +13,11 @@ import { later, letSignalsIn } from './pausing.js';
 /** @typedef {import('../core/bytes.js').Piece} Piece */
 /** @typedef {import('../core/bytes.js').Reader} Reader */
 
-/** Bytes after which the disk is told to begin writing. */
+/** The number of bytes after which a sync to the disk is started. */
 const SYNC_SIZE = 1 << 26;
 
 /**
- * Writes all bytes, by more writes if the first are short.
+ * Writes all bytes, with more writes if the first are short.
  * @param {number} descriptor
  * @param {Uint8Array} bytes
  */
@@ -51,7 +51,7 @@ function placeBeside(name) {
 }
 
 /**
- * Gives a file other bytes. Whatever happens, it has the old ones or the new ones, and a link leads to it as before.
+ * Replaces the bytes of a file. Whatever happens, it has the old bytes or the new bytes, and a symbolic link still leads to it.
  * @param {string} name
  * @param {Uint8Array} bytes
  */
@@ -73,7 +73,7 @@ export function replaceFile(name, bytes) {
 }
 
 /**
- * Waits until the disk has a file. A file system that knows nothing of it (EINVAL) has none.
+ * Waits until a file is on the disk. Ignores a file system that does not support this (EINVAL).
  * @param {number} descriptor
  */
 function syncFile(descriptor) {
@@ -85,7 +85,7 @@ function syncFile(descriptor) {
 }
 
 /**
- * Opens a file that is named by another name beside its own until it is whole. Null if the file system has no links.
+ * Opens a file with a temporary name beside its own name. Returns null if the file system has no hard links.
  * @param {string} name
  */
 function openedBeside(name) {
@@ -127,11 +127,11 @@ export class NewFile {
         this.finished = finished;
         this.unsynced = 0;
         this.room = new Uint8Array(READ_SIZE);
-        /** @type {Promise<unknown> | null} how it went, null if it went well */
+        /** @type {Promise<unknown> | null} the last sync: resolves to null, or to the error */
         this.syncing = null;
     }
 
-    /** @param {Uint8Array} bytes all of which are written */
+    /** @param {Uint8Array} bytes */
     async write(bytes) {
         await letSignalsIn();
         await tryFile('write', this.name, () => writeFully(this.descriptor, bytes));
@@ -142,7 +142,7 @@ export class NewFile {
     }
 
     /**
-     * Writes bytes again at the beginning, over as many others.
+     * Overwrites bytes at the beginning of the file.
      * @param {Uint8Array} bytes
      */
     async writeFirst(bytes) {
@@ -152,9 +152,9 @@ export class NewFile {
     }
 
     /**
-     * @param {Reader} reader of the image that the piece is of
+     * @param {Reader} reader of the image that the piece refers to
      * @param {Piece} piece
-     * @param {(bytes: Uint8Array) => void} [seen] who sees what is written
+     * @param {(bytes: Uint8Array) => void} [seen] receives the bytes that are written
      */
     async writePiece(reader, piece, seen) {
         for await (const bytes of bytesOfPieces(reader, [piece], this.room)) {
@@ -163,19 +163,19 @@ export class NewFile {
         }
     }
 
-    /** Lets the disk take what is written, while more comes. */
+    /** Starts to write the file to the disk, while more bytes are added. */
     sync() {
         this.unsynced = 0;
         this.syncing = later(done => fsync(this.descriptor, done)).then(() => null, error => error);
     }
 
-    /** Waits until it has. A failure is said once by the system. A file system that knows nothing of it (EINVAL) has none. */
+    /** Waits for the last `sync`, whose failure the system reports only once. Ignores a file system that does not support it (EINVAL). */
     async synced() {
         const error = await this.syncing;
         if (error && !hasCode(error, 'EINVAL')) throw fileFault('write', this.name, error);
     }
 
-    /** The file is complete, and on the disk. It gets its name, which no file may have got meanwhile. */
+    /** Waits until the complete file is on the disk, and gives it its name. Throws a Fault if another file has got that name meanwhile. */
     async finish() {
         await this.synced();
         this.sync();
@@ -187,7 +187,7 @@ export class NewFile {
         this.finished(this);
     }
 
-    /** Removes what the name means that was opened, if it still means this file. */
+    /** Removes the file, unless the name with which it was opened now belongs to a different file. */
     remove() {
         try {
             const [own, found] = [fstatSync(this.descriptor, { bigint: true }), lstatSync(this.place, { bigint: true })];

@@ -1,4 +1,4 @@
-// What the command uses of node, for the compiler, so that it needs no package of node's types.
+// Declares the parts of node that the command uses, so that the compiler needs no package with node's types.
 
 interface Buffer extends Uint8Array {
     toString(encoding?: 'latin1'): string;

@@ -1,12 +1,12 @@
-// Numbers of the command line.
+// Parses numbers of the command line.
 
 import { LAST_BLOCK, USER_SIZE } from '../core/module/index.js';
 import { ownFault } from '../sentences/index.js';
 
 /**
- * A number of decimal digits within its limits.
+ * Parses a decimal number. Throws a Fault if it is not within its limits.
  * @param {string} text
- * @param {string} name of what it is
+ * @param {string} name of the value, for the message
  * @param {number} least
  * @param {number} most
  */
@@ -17,7 +17,7 @@ export function numberOf(text, name, least, most) {
 }
 
 /**
- * A user byte.
+ * Parses the place of a user byte. Throws a Fault.
  * @param {string} block
  * @param {string} offset
  */

@@ -1,4 +1,4 @@
-// Opens what the first argument of a job names: a raw image, or a cue sheet and the files that it names.
+// Opens the first argument of a job: a raw image, or a cue sheet and the files that it names.
 
 import { dirname } from 'node:path';
 import { wholeOf } from '../core/bytes.js';
@@ -17,7 +17,7 @@ import { pathsOfSheet } from './sheet_files.js';
 /** @typedef {import('./run.js').Run} Run */
 
 /**
- * The disc of a raw image or of a cue sheet. Throws what `openDisc` throws.
+ * Opens the disc of a raw image or of a cue sheet. Throws a Fault if a file is too long, and any error of `openDisc`.
  * @param {Run} run
  * @param {string} name
  */
@@ -32,7 +32,7 @@ export async function openDiscOf(run, name) {
 }
 
 /**
- * Opens a disc. A file that is not there is said for who gave one name.
+ * Opens a disc. The message about a missing file names the cue sheet, as the user gave only its name.
  * @param {Run} run
  * @param {DiscFile[]} files
  */
@@ -47,7 +47,7 @@ async function openNamedFiles(run, files) {
 }
 
 /**
- * The files that a cue sheet names, as far as they are there. The core chooses among them.
+ * The existing files that a cue sheet names. The core chooses among them.
  * @param {Run} run
  * @param {DiscFile} sheet
  */
@@ -60,11 +60,11 @@ async function filesOfSheet(run, { name, reader }) {
 }
 
 /**
- * Says which other tracks of data there are, if no track was asked for.
+ * Reports the other data tracks, if no option selects a track.
  * @param {Run} run
  * @param {Disc} disc
- * @param {{ number: number, file: number }} track the one that is looked at
- * @param {boolean} whole whether the others in its file are looked at too
+ * @param {{ number: number, file: number }} track the track that is examined
+ * @param {boolean} whole whether the other tracks in its file are examined too
  */
 function sayOtherTracks(run, { tracks }, track, whole) {
     const others = tracks.filter(it => it.image !== null && it.number !== track.number && !(whole && it.file === track.file));
@@ -75,7 +75,7 @@ function sayOtherTracks(run, { tracks }, track, whole) {
 }
 
 /**
- * Says with which block an image begins here, if its addresses do not say it.
+ * Reports the base that is used for an image whose addresses do not give it.
  * @param {Run} run
  * @param {DiscImage} image
  */
@@ -86,10 +86,10 @@ export function sayUnknownBase(run, { name, base, addressed }) {
 }
 
 /**
- * Opens the data track that a job means, and says which others are not looked at and whether its base is unknown.
+ * Opens the data track of a job. Reports the data tracks that are not examined, and an unknown base.
  * @param {Run} run
  * @param {string} name
- * @param {boolean} [whole] whether the job looks at the whole image, not only at the track
+ * @param {boolean} [whole] whether the job examines the whole image, not only the track
  */
 export async function openTrackOf(run, name, whole = false) {
     const opened = openTrack(await openDiscOf(run, name), run.options);

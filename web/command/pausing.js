@@ -1,24 +1,24 @@
-// Waiting: for signals, for calls of node, and before a pipe that is full or empty is tried again.
+// Waits for signals, for calls of node, and before a pipe that is full or empty is tried again.
 
 /** How often to yield so that pending signals run, in milliseconds. */
 const YIELD_INTERVAL = 50;
 
 let lastTurn = 0;
 
-/** Lets signals in, if none was let in for a while. What node does at once would keep them out until its end. */
+/** Lets node handle signals, if it could not for a while. Synchronous calls would delay the signals until the end of the job. */
 export async function letSignalsIn() {
     if (Date.now() - lastTurn < YIELD_INTERVAL) return;
     lastTurn = Date.now();
     await turn();
 }
 
-/** Lets in all that waits: signals, and what threads have sent. */
+/** Lets node handle everything that is pending: signals, and messages of threads. */
 export function turn() {
     return new Promise(resolve => setImmediate(resolve));
 }
 
 /**
- * What a call of node gives later. Signals come in while it waits, as for a pipe that nobody writes.
+ * The promise of a call of node with a callback. Signals are handled while it waits, for example for a pipe that nobody writes to.
  * @param {(done: (error: unknown, value: number) => void) => void} begin
  * @returns {Promise<number>}
  */

@@ -1,12 +1,12 @@
-// What came through a pipe, which can be read only once.
+// Reads the bytes of a pipe in any order, although a pipe can be read only once.
 
 /** @typedef {import('../core/bytes.js').Reader} Reader */
 
-/** Bytes of a stream that are read at a time. */
+/** The number of bytes of a stream that are read at a time. */
 export const STREAM_STEP = 1 << 20;
 
 /**
- * A reader of what came through a pipe.
+ * A reader of the bytes of a pipe.
  * @param {Uint8Array[]} pieces of STREAM_STEP bytes, the last one shorter
  * @returns {Reader}
  */

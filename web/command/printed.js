@@ -1,4 +1,4 @@
-// Words that several jobs print.
+// Texts that several jobs print.
 
 import { blocksIn, joinedRuns } from '../core/sectors/index.js';
 import { blocksText } from '../sentences/index.js';
@@ -8,11 +8,11 @@ import { blocksText } from '../sentences/index.js';
 
 export { visible } from '../core/texts/index.js';
 
-/** Of more runs of blocks only the number is said. */
+/** The maximum number of listed runs of blocks. If there are more, their number is printed. */
 const MOST_NAMED = 1000;
 
 /**
- * A line for each of the first runs, and one for how many there are.
+ * A line for each of the first runs and, if there are more, one with the number of all.
  * @template R
  * @param {R[]} runs
  * @param {(run: R) => string} textOf
@@ -23,7 +23,7 @@ export function linesOfRuns(runs, textOf) {
 }
 
 /**
- * Says what is true of blocks.
+ * Prints a message for each of the first runs and, if there are more, the number of all.
  * @template R
  * @param {Run} run
  * @param {R[]} runs
@@ -33,11 +33,11 @@ export function sayOfRuns(run, runs, textOf) {
     linesOfRuns(runs, textOf).forEach(line => run.say(line));
 }
 
-/** Of sectors that were not tested so many runs are named. */
+/** The maximum number of listed runs of sectors that were not tested. */
 export const MOST_UNTESTED = 20;
 
 /**
- * Which sectors were not tested, in words.
+ * Lists the sectors that were not tested.
  * @param {BlockRun[]} runs of sectors that are not Mode 1, one at least
  * @param {boolean} hasSheet whether a cue sheet says what they are
  */

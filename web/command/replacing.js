@@ -1,4 +1,4 @@
-// The jobs that write scripts for a text or a file: `replace` and `replace-file`. The core has applied each before it is written.
+// The jobs that write scripts for a text or a file: `replace` and `replace-file`. The core applies each script before it is written.
 
 import { fillerOf, usualBytes } from '../core/encodings/index.js';
 import { Fault } from '../core/faults.js';
@@ -19,12 +19,12 @@ import { encodingsOf, foundText } from './searching.js';
 /** @typedef {import('../core/tasks/opened.js').OpenedTrack} OpenedTrack */
 /** @typedef {import('./run.js').Run} Run */
 
-/** Most places that are listed if there are more than the one that was wanted. */
+/** The maximum number of places that are listed if a text should occur once, but occurs at several places. */
 const MOST_LISTED = 20;
 const MOST_PLACES = 1000000;
 
 /**
- * The places at which a text stands: the one, or all if that is asked for. Throws a Fault if there is none, or are several.
+ * The places at which a text occurs: the only one, or all with `--all`. Throws a Fault if there is none, or several without `--all`.
  * @param {Run} run
  * @param {OpenedTrack} opened
  * @param {string} text
@@ -47,7 +47,7 @@ async function wantedPlaces(run, opened, text) {
 }
 
 /**
- * What is said of the first place if it may begin in the middle of a character, else ''.
+ * The message about the first place if it may begin in the middle of a character, else ''.
  * @param {Places} places
  */
 async function doubtText({ image, encoding, hits: [hit] }) {
@@ -65,7 +65,7 @@ async function assertBegins(places) {
 }
 
 /**
- * The given place, at which a text has to be. Says if that may be the middle of a character.
+ * The given place, at which the text must be. Reports if it may be in the middle of a character.
  * @param {Run} run
  * @param {OpenedTrack} opened
  * @param {Place} place
@@ -80,7 +80,7 @@ async function placesAt(run, opened, place, text) {
 }
 
 /**
- * The new bytes for a number of old ones.
+ * The new bytes, padded, for each size of the old text. Throws a Fault if they do not fit, or cannot be padded.
  * @param {Run} run
  * @param {Places} places
  * @param {string} text
@@ -101,7 +101,8 @@ function freshBytes(run, { encoding, hits }, text) {
 }
 
 /**
- * Writes the script that replaces a text at places, and returns how many are left out. They are named; the only one is a Fault.
+ * Writes the script that replaces a text at places. Lists the places that are left out, and returns their number. Throws a Fault if the
+ * only place is left out.
  * @param {Run} run
  * @param {import('./run.js').Target} target
  * @param {OpenedTrack} opened

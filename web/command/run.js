@@ -1,4 +1,4 @@
-// What a job works with: its arguments, files, output, messages, the calls, and threads.
+// The context of a job: its arguments, files, output, messages, calls of libcdpatch, and threads.
 
 import { gunzipSync } from 'node:zlib';
 import { joinedBytes, watchedReader } from '../core/bytes.js';
@@ -16,7 +16,7 @@ import { Threads } from './threads.js';
 /** @typedef {import('./files.js').Files} Files */
 /** @typedef {import('./stdout.js').Messages} Messages */
 /** @typedef {{ input: number, output: number, errors: number }} Streams the descriptors of the standard streams */
-/** @typedef {{ descriptor: number, write(bytes: Uint8Array): Promise<void> }} Target what a script or a list is written to */
+/** @typedef {{ descriptor: number, write(bytes: Uint8Array): Promise<void> }} Target the destination of a script or a list */
 
 /** @type {WebAssembly.Module | null} */
 let compiled = null;
@@ -32,7 +32,7 @@ export function takeModule(module) {
     compiled = module;
 }
 
-/** What was asked for, and what a job does it with. */
+/** The arguments of a job, and the objects with which it works. */
 export class Run {
     /**
      * @param {Given} given
@@ -49,13 +49,13 @@ export class Run {
         this.said = new Set();
         this.output = new Output(streams.output, () => messages.hideProgress());
         this.calls = new Calls(compiledModule());
-        /** What a task that does not share its work is told to show how far it is. */
+        /** Shows the progress of a task that does not share its work. */
         this.watch = { progress: (/** @type {number} */ done, /** @type {number} */ all) => messages.progress(done, all) };
         this.crew = new Threads(compiledModule(), this.calls, this.watch.progress);
     }
 
     /**
-     * Says something on standard error, after what was printed so far. Names in it may be those of a disc.
+     * Prints a message on standard error, after the output so far. Names in it may come from a disc.
      * @param {string} line
      */
     say(line) {
@@ -64,7 +64,7 @@ export class Run {
     }
 
     /**
-     * Says something that may be true of several images, but only once.
+     * Prints a message that may be true of several images, but only once.
      * @param {string} line
      */
     sayOnce(line) {
@@ -73,7 +73,7 @@ export class Run {
     }
 
     /**
-     * Where a script or a list goes: to the file of `-o`, or to standard output, which `-` is too.
+     * The destination of a script or a list: the file of `-o`, or standard output by default or for `-`.
      * @returns {Promise<Target>}
      */
     async target() {
@@ -82,7 +82,7 @@ export class Run {
     }
 
     /**
-     * The dumps that the DATs of the options list, null if there is none. Throws a Fault.
+     * The dumps in the DATs of the options, null if no DAT is given. Throws a Fault.
      * @returns {Promise<KnownDumps | null>}
      */
     async knownDumps() {
@@ -98,7 +98,7 @@ export class Run {
     }
 
     /**
-     * A reader that shows how far it has come.
+     * A reader that shows its progress.
      * @param {Reader} reader
      * @returns {Reader}
      */
@@ -108,11 +108,11 @@ export class Run {
     }
 
     /**
-     * What is found in all sectors of an image.
+     * Surveys all sectors of an image.
      * @param {Reader} reader
      * @param {number} base
-     * @param {'survey' | 'kinds'} [job] which of it
-     * @param {number} [shift] how many blocks later those are whose addresses the sectors have
+     * @param {'survey' | 'kinds'} [job] what to find out
+     * @param {number} [shift] the number of blocks by which the addresses of the sectors are later than their blocks
      */
     async survey(reader, base, job = 'survey', shift = 0) {
         /** @type {Uint8Array[]} */

@@ -1,4 +1,4 @@
-// The list that `scan` writes, which goes on where an earlier run was interrupted.
+// The list that `scan` writes. It can continue where an earlier run was interrupted.
 
 import { closeSync, ftruncateSync, openSync, readFileSync, readSync, statSync } from 'node:fs';
 import { basename } from 'node:path';
@@ -21,26 +21,26 @@ import { replaceFile, writeFully } from './new_file.js';
 const LINE_FEED = 0x0A;
 
 /**
- * A line of a list, as `scan` writes it. Those of earlier versions may have `0` for `-`, or begin no kinds with NONE, and they end after
- * the seventh column.
+ * Matches a line of a list. Lines of earlier versions may have `0` instead of `-`, may lack the prefix NONE, and end after the seventh
+ * column.
  */
 const LISTED = new RegExp(['^[^\\t]+', '[^\\t]*', '(?:\\d+|-)', '(?:\\d+|-)', '(?:\\d+|-)', '[0-9a-f]{40}',
     '[^\\t]+(?:', '\\d+', '(?:[-0-9T:.+]+Z|-)', '(?:[0-9a-f]{8}|-)', '(?:[0-9a-f]{32}|-))?$'].join('\\t'));
 
-/** What stands for the kinds of sectors before what a file is that no disc is of. */
+/** Begins the column of kinds for a file that is not part of a disc. The description of the file follows. */
 export const NONE = 'none: ';
 
-/** What stands in a column of what was not tested or not computed. */
+/** The value of a column that was not tested or not computed. */
 const UNTESTED = '-';
 
-/** Columns, by their places. A line of an earlier version ends after that of what a DAT knows. */
+/** The indices of columns. A line of an earlier version ends after SAID, the column of the DAT. */
 const [KINDS, FINDINGS, SHA1, SAID, BYTES, CHANGED, CRC32, MD5] = [1, 3, 5, 6, 7, 8, 9, 10];
 
-/** What stands in the column of a DAT if none was given, and if none of its dumps is the file. */
+/** The value of the column of the DAT if none was given, and if none of its dumps is the file. */
 const NO_DAT = '-';
 const NOT_IN_DAT = 'not in the DAT';
 
-/** No line of a list has so many bytes: a name has 4095 at most, each of which takes ten. */
+/** Each line of a list has fewer bytes: a name has at most 4095 bytes, each of which becomes at most ten. */
 const LONGEST_LINE = 1 << 17;
 
 /** @param {Uint8Array} line */
@@ -66,7 +66,7 @@ export function listedLine({ name, kinds, mode1, damaged, findings, elsewhere, s
 }
 
 /**
- * What a DAT knows of the file of a line.
+ * The verdict of a DAT on the file of a line, as its column has it.
  * @param {string[]} row
  * @param {KnownDumps} known
  */
@@ -79,7 +79,7 @@ function saidOfRow(row, known) {
 }
 
 /**
- * Whether a hash that a DAT asks for was not computed.
+ * Whether a hash that a DAT needs was not computed.
  * @param {string[]} row
  * @param {Needs} needs
  */
@@ -88,7 +88,7 @@ function lacksHash(row, needs) {
 }
 
 /**
- * What became of the file of a line: it is `gone`, it is the `same` by size and time, or perhaps `other`.
+ * The state of the file of a line: it is `gone`, it is the `same` by size and time, or it may have changed (`other`).
  * @param {string[]} row
  * @param {Needs} needs
  */
@@ -102,7 +102,7 @@ function fateOf(row, needs) {
     }
 }
 
-/** A list that goes on where an earlier run was interrupted. It has whole lines only, whatever happens. */
+/** A list that continues where an earlier run was interrupted. It has whole lines only, whatever happens. */
 export class ResumedList {
     /**
      * @param {string} name
@@ -113,11 +113,11 @@ export class ResumedList {
         this.lock = lock;
         this.descriptor = openSync(name, 'a+');
         this.size = 0;
-        /** @type {string[][]} the columns of what was done */
+        /** @type {string[][]} the columns of the lines of earlier runs */
         this.rows = [];
     }
 
-    /** What the file has; of one that does not begin with a line of a list only its beginning. */
+    /** The bytes of the file; only its beginning if it does not begin with a line of a list. */
     bytes() {
         const start = new Uint8Array(LONGEST_LINE);
         const read = start.subarray(0, readSync(this.descriptor, start, 0, start.length, 0));
@@ -126,8 +126,8 @@ export class ResumedList {
     }
 
     /**
-     * Goes on after the lines that an earlier run has left; the beginning of one at the end goes. Throws a Fault, and changes nothing, if
-     * there is anything else.
+     * Continues after the lines of an earlier run, and removes an incomplete line at the end. Throws a Fault, and changes nothing, if the
+     * file has any other content.
      * @param {Uint8Array} bytes
      */
     goOn(bytes) {
@@ -141,7 +141,7 @@ export class ResumedList {
         this.rows = lines.map(line => line.split('\t'));
     }
 
-    /** The names of what was done. */
+    /** The names in the list. */
     done() {
         return new Set(this.rows.map(([done]) => done));
     }
@@ -150,15 +150,15 @@ export class ResumedList {
         return this.rows.some(row => Number(row[FINDINGS]) > 0);
     }
 
-    /** What each file is that no disc is of, by its name in the list. */
+    /** The descriptions of files that are not part of a disc, by their names in the list. */
     others() {
         return new Map(this.rows.filter(isOther).map(row => [row[0], row[KINDS].slice(NONE.length)]));
     }
 
     /**
-     * Takes the lines out whose files are perhaps other ones now, of those that are looked at again. Returns how many files are gone, whose
-     * lines stay.
-     * @param {Set<string>} wanted the names of what is looked at
+     * Removes the lines of files that may have changed, if these files are examined again. Returns the number of files that no longer
+     * exist, whose lines are kept.
+     * @param {Set<string>} wanted the names of the files that are examined
      * @param {Needs} needs
      */
     async dropOld(wanted, needs) {
@@ -173,7 +173,7 @@ export class ResumedList {
     }
 
     /**
-     * Looks all lines up in a DAT: perhaps there was none before, or another. Returns how many lines change.
+     * Looks up all lines in a DAT, since the earlier run may have had none or a different one. Returns the number of lines that change.
      * @param {KnownDumps} known
      */
     async lookUp(known) {
@@ -184,7 +184,7 @@ export class ResumedList {
     }
 
     /**
-     * Counts what a DAT knows of the files of all lines.
+     * Counts the verdicts of the DAT on the files of all lines.
      * @param {Verdicts} verdicts
      */
     count(verdicts) {
@@ -195,7 +195,7 @@ export class ResumedList {
     }
 
     /**
-     * Writes other lines in the place of all.
+     * Replaces all lines.
      * @param {string[][]} rows
      */
     async replace(rows) {

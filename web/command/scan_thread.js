@@ -1,4 +1,4 @@
-// A thread that looks into one image after the other, each by itself, for `scan`.
+// A thread of `scan`, which examines one image after the other without the help of other threads.
 
 import { parentPort } from 'node:worker_threads';
 import { kindOfFile } from '../core/disc/index.js';
@@ -20,18 +20,18 @@ import { foundInFiles, hashesOf } from './surveying.js';
 /** @typedef {import('./hashes.js').Needs} Needs */
 /** @typedef {import('./surveying.js').FileFound} FileFound */
 /**
- * A file with what is found in it; `changed` is when it was changed, '' if the system does not say it. Without Mode 1 no sector was tested.
+ * A file with its findings. `changed` is the time at which it was changed, '' if unknown. If `mode1` is 0, no sector was tested.
  * @typedef {{ name: string, size: number, changed: string, hashes: Required<Hashes>, kinds: string, mode1: number, damaged: number,
  *     findings: number, elsewhere: number }} Scanned
  */
 /**
- * What is found in the files of an image or a sheet; what is to be said of them; names that are not there; why nothing is found, '' if
- * something is; and what the file is if it is none that a disc is of, else ''.
+ * The findings in the files of an image or a sheet; the messages about them, and about missing files; the error if the files cannot be
+ * examined, else ''; and the description of a file that is not part of a disc, else ''.
  * @typedef {{ files: Scanned[], notes: string[], missing: string[], fault: string, other: string }} Answer
  */
 
 /**
- * Keeps what is said, and shows nothing.
+ * Collects messages instead of printing them.
  * @param {string[]} notes
  */
 function keptMessages(notes) {
@@ -40,10 +40,10 @@ function keptMessages(notes) {
 }
 
 /**
- * How many sectors of which kind there are, as 'mode1 20,nosync 3', how many bytes after the last whole one, as ',tail 100', and how many
- * blocks the volume says beyond the image's end, as ',short 100'.
+ * The number of sectors of each kind, for example 'mode1 20,nosync 3'; the number of bytes after the last whole sector, ',tail 100'; and
+ * the number of blocks of the volume after the image's end, ',short 100'.
  * @param {FileFound['surveys']} surveys
- * @param {string[]} unsurveyed what there is if nothing was surveyed
+ * @param {string[]} unsurveyed the kinds if nothing was surveyed
  * @param {number} tail
  */
 function kindsText(surveys, unsurveyed, tail) {
@@ -58,7 +58,6 @@ function kindsText(surveys, unsurveyed, tail) {
     return [...kinds.length > 0 ? kinds : unsurveyed, ...cut].join(',');
 }
 
-/**
 /**
  * @param {Run} run
  * @param {Disc} disc
@@ -76,7 +75,7 @@ function scanned(run, disc, found, file) {
 }
 
 /**
- * What the tracks of a file are that are not surveyed, as 'mode1/2048' or 'audio'.
+ * The types of the tracks of a file that are not surveyed, such as 'mode1/2048' or 'audio'.
  * @param {Disc} disc
  * @param {number} file
  */
@@ -86,7 +85,7 @@ function unsurveyedKinds(disc, file) {
 }
 
 /**
- * What is found in a file that no disc is of.
+ * The answer for a file that is not part of a disc.
  * @param {Run} run
  * @param {DiscFile} file
  * @param {import('../core/facts.js').FileKind} kind
@@ -101,7 +100,7 @@ async function otherFile(run, { name, reader }, kind, needs) {
 }
 
 /**
- * Says which sectors beside Mode 1 were not tested, if no sheet says what they are.
+ * Reports the sectors that were not tested in a file with Mode 1 sectors, if there is no cue sheet that gives their kind.
  * @param {Run} run
  * @param {Disc} disc
  * @param {FileFound} found
@@ -114,7 +113,7 @@ function sayUntested(run, { sheet }, { file: { name }, surveys }) {
 }
 
 /**
- * What is found in an image, or in the files of a sheet.
+ * Examines an image, or the files of a sheet.
  * @param {string} name
  * @param {Needs} needs
  * @returns {Promise<Answer>}
@@ -146,7 +145,7 @@ export async function scanOne(name, needs) {
 }
 
 /**
- * What a thread of `scan` does: a name comes, and the answer goes.
+ * Runs in a thread of `scan`: receives names, and replies with answers.
  * @param {WebAssembly.Module} module
  */
 export function serveScan(module) {

@@ -1,4 +1,4 @@
-// The job `scan`: what is in each image of a collection, a line for each as it is done.
+// The job `scan`: examines each image of a collection, and writes its lines as soon as it is done.
 
 import { cpus } from 'node:os';
 import { basename } from 'node:path';
@@ -21,7 +21,7 @@ import { begunThread } from './threads.js';
 /** @typedef {{ scan(name: string): Promise<Answer>, close(): void }} Scanner */
 
 /**
- * A thread that looks into images; without threads this one does, and after a thread has failed.
+ * A thread that examines images. Without threads, and after the thread has failed, the current thread does this.
  * @param {Needs} needs
  * @returns {Scanner}
  */
@@ -52,7 +52,7 @@ function newScanner(needs) {
     };
 }
 
-/** What was found in a collection so far. */
+/** The results for a collection so far. */
 class Scan {
     /**
      * @param {Run} run
@@ -64,12 +64,12 @@ class Scan {
         this.target = target;
         this.known = known;
         this.verdicts = known && new Verdicts(known);
-        /** @type {Set<string>} the names in a list that goes on */
+        /** @type {Set<string>} the names in a list that is continued */
         this.done = new Set();
-        /** @type {{ name: string, what: string }[]} files in directories that no disc is of */
+        /** @type {{ name: string, what: string }[]} files in directories that are not part of a disc */
         this.others = [];
         this.status = 0;
-        /** The real paths of files that were told. */
+        /** The real paths of files that were reported. */
         this.told = new Set();
     }
 
@@ -104,7 +104,7 @@ class Scan {
     }
 
     /**
-     * Says of a file that no disc is of what it is: at once if it was given by its name, or else at the end.
+     * Reports a file that is not part of a disc: at once if it was given by its name, or else at the end.
      * @param {string} name
      * @param {boolean} isNamed
      * @param {string} what
@@ -115,7 +115,7 @@ class Scan {
     }
 
     /**
-     * Whether nothing of a file is left to tell: it is in the list, or a sheet has named it.
+     * Whether a file has been reported: it is in the list, or it was examined as a file of a sheet.
      * @param {string} name
      */
     isTold(name) {
@@ -123,7 +123,7 @@ class Scan {
     }
 
     /**
-     * Whether all files that a sheet names are in the list. They are told then, as by a run that was not interrupted.
+     * Whether all files that a sheet names are in the list. If so, they count as reported, as in a run that was not interrupted.
      * @param {string} name
      */
     isSheetTold(name) {
@@ -159,8 +159,8 @@ export async function scanJob(run) {
 }
 
 /**
- * What a list says is said as by a run that was not interrupted: what its DAT knows of each line, and what the files are that were given
- * by their names and are no images. Lines whose files are other ones now are taken out, so that these are looked at again.
+ * Continues a list, and reports its contents as a run that was not interrupted: the verdict of the DAT on each line, and the files that
+ * were given by their names and are not images. Removes the lines of files that may have changed, so that these are examined again.
  * @param {Scan} scan
  * @param {ResumedList} list
  * @param {Wanted[]} names
@@ -183,7 +183,7 @@ async function goOn(scan, list, names, needs) {
 }
 
 /**
- * Says how many files are no raw images, and what those are that are called like one: an empty or a damaged one is among them.
+ * Reports the number of files that are not raw images, and lists those that are named like one, for example an empty or damaged image.
  * @param {Run} run
  * @param {{ name: string, what: string }[]} others
  */

@@ -1,4 +1,4 @@
-// The jobs that write scripts of whole images: `diff`, `rebuilds` and `undo`. The core has applied what it writes.
+// The jobs that write scripts for whole images: `diff`, `rebuilds`, and `undo`. The core applies the scripts that it writes.
 
 import { failedBy } from '../core/faults.js';
 import { RECORD_SIZE } from '../core/module/index.js';
@@ -18,10 +18,10 @@ import { sayOfRuns } from './printed.js';
 /** @typedef {import('./run.js').Run} Run */
 /** @typedef {import('./run.js').Target} Target */
 
-/** Blocks, or patches, were left out, and that was said. */
+/** The status if blocks or patches were left out, and were reported. */
 const SOME_LEFT_OUT = 1;
 
-/** Threads that compare what this one patches: more would wait for it. */
+/** The number of threads that compare the sectors that this thread patches. More threads would wait for it. */
 const UNDOING_THREADS = 2;
 
 const NOTHING_TO_TAKE_BACK = 'the image already has what the script writes, so nothing can be taken back: ' +
@@ -29,7 +29,7 @@ const NOTHING_TO_TAKE_BACK = 'the image already has what the script writes, so n
 const DAMAGE_STAYS_OUT = 'damage does not come back; address and user data do';
 
 /**
- * Writes a script that says its base.
+ * Writes a finished script, which states its base.
  * @param {Run} run
  * @param {Target} target
  * @param {Script} script
@@ -40,7 +40,7 @@ export async function writeFinished(run, target, script) {
 }
 
 /**
- * Says what a finished script asks of who applies it.
+ * Reports the options that are needed to apply a finished script, and whether it has no patch.
  * @param {Run} run
  * @param {Script} script
  */
@@ -51,7 +51,7 @@ function sayOfScript(run, { patches, long, carry }) {
 }
 
 /**
- * What to do if there is no script: sectors that are damaged in NEW can be repaired, and all that is left can be left out.
+ * The advice if there is no script: to repair or skip sectors that are damaged in NEW, or to leave out the other differences.
  * @param {Comparison} made
  * @param {string} newName
  */
@@ -61,7 +61,8 @@ function remedyOf({ left, tail }, newName) {
 }
 
 /**
- * How a file gets lines as they come, which it may since it has its name only when it is whole. Its head line is known after them.
+ * Writes lines to a file as soon as they are ready. That is safe, since the file gets its name only when it is complete. The head line is
+ * known only after the lines.
  * @param {Target} target
  */
 function takingLines(target) {
@@ -70,7 +71,7 @@ function takingLines(target) {
 }
 
 /**
- * Why sectors of an image are left.
+ * Explains why sectors of an image are left out.
  * @param {import('../core/script/sector_lines.js').Left} left
  * @param {string} image
  */
@@ -119,7 +120,7 @@ export async function rebuildsJob(run) {
 }
 
 /**
- * How many patches are refused, and what to ask then.
+ * The message about refused patches, which asks whether the image is the right one.
  * @param {number} refused
  * @param {string} name of the image
  */
@@ -128,7 +129,7 @@ function refusedText(refused, name) {
 }
 
 /**
- * Why a script cannot be reverted.
+ * Explains why a script cannot be undone.
  * @param {NoUndo} made
  * @param {DiscImage} image
  */
@@ -137,7 +138,7 @@ function whyNoUndo(made, { name }) {
 }
 
 /**
- * Says the error of a script as this command does, and not as the program.
+ * Throws the error of a script with the prefix of this command, and not that of the program.
  * @param {unknown} error
  * @returns {never}
  */

@@ -1,4 +1,4 @@
-// Texts in a data track, by an encoding that is given or by those that are searched for.
+// Finds texts in a data track, in a given encoding or in the usual ones.
 
 import { wholeOf } from '../core/bytes.js';
 import { SEARCHED, encodingOf, linesLeftOut, tableEncoding, tableTextOf } from '../core/encodings/index.js';
@@ -10,7 +10,7 @@ import { sentenceOf } from '../sentences/index.js';
 /** @typedef {import('./run.js').Run} Run */
 
 /**
- * The encoding of a table. Says which of its lines mean nothing here.
+ * The encoding of a table. Reports the lines of the table that are ignored.
  * @param {Run} run
  * @param {string} text
  */
@@ -22,7 +22,7 @@ export function tableSaid(run, text) {
 }
 
 /**
- * The encodings that a text may be in: the one that the options name, or the table; else those that are searched.
+ * The encodings in which a text is searched for: the encoding or the table of the options, or else the usual encodings.
  * @param {Run} run
  * @returns {Promise<Encoding[]>}
  */
@@ -33,11 +33,12 @@ export async function encodingsOf(run) {
 }
 
 /**
- * What the task finds of a text. Says in which encoding it was found, in which others it is too, or where it was searched for in vain.
+ * Searches for a text. Reports the encoding in which it was found, and others in which it occurs too; or the encodings in which it was not
+ * found.
  * @param {Run} run
  * @param {OpenedTrack} opened
  * @param {string} text
- * @param {number} limit how many hits are kept
+ * @param {number} limit the maximum number of hits that are kept
  */
 export async function foundText(run, opened, text, limit) {
     const { options: { loose, encoding, table } } = run;

@@ -1,4 +1,4 @@
-// Where the files are that a cue sheet names: never outside of the directory of the sheet and those below it.
+// Finds the files that a cue sheet names, only in the directory of the sheet and below it.
 
 import { readdirSync, realpathSync } from 'node:fs';
 import { dirname, join } from 'node:path';
@@ -8,7 +8,7 @@ import { nameOfBytes, pathIn, pathOf } from './names.js';
 
 /** Directories, each of which is read once. */
 class Directories {
-    /** @param {string} top below which all are */
+    /** @param {string} top the directory that contains all others */
     constructor(top) {
         this.top = top;
         this.real = this.realOf(top);
@@ -22,7 +22,7 @@ class Directories {
     }
 
     /**
-     * The names in a directory. A link that leads out of the topmost one is a directory without any.
+     * The names in a directory; none if it is a link that leads out of the top directory.
      * @param {string} directory
      */
     namesIn(directory) {
@@ -35,7 +35,7 @@ class Directories {
     }
 
     /**
-     * The path of a file that has these names, one below the other, in capitals or not; or null.
+     * Finds a file by the parts of its path, regardless of capitals. Returns its path, or null if there is none.
      * @param {string[]} parts
      */
     pathOfParts(parts) {
@@ -50,7 +50,7 @@ class Directories {
     }
 
     /**
-     * Where a file is that a sheet names: at its own place below the sheet, or else beside it.
+     * The path of a file that a sheet names: at that place below the sheet, or else beside the sheet; null if it is missing.
      * @param {string} name
      */
     placeOf(name) {
@@ -59,7 +59,7 @@ class Directories {
         return (isBelow && this.tried(parts)) || this.tried(parts.slice(-1));
     }
 
-    /** @param {string[]} parts of which one may be no directory */
+    /** @param {string[]} parts of a path, some of which may not be directories */
     tried(parts) {
         try {
             return this.pathOfParts(parts);
@@ -71,8 +71,8 @@ class Directories {
 }
 
 /**
- * The paths of the files that a sheet names, for each of its readings; null for one that is not there. Throws what reading the sheet's
- * directory throws.
+ * The paths of the files that a sheet names, for each of its readings; null for a missing file. Throws any error of reading the sheet's
+ * directory.
  * @param {string} name of the sheet
  * @param {Sheet[]} sheets its readings
  */

@@ -1,4 +1,4 @@
-// Standard output, and what standard error shows of the way.
+// Writes output to standard output, and messages and progress to standard error.
 
 import { writeSync } from 'node:fs';
 import { isatty } from 'node:tty';
@@ -8,14 +8,14 @@ import { Fault } from '../core/faults.js';
 import { hasCode, reasonOf } from './failures.js';
 import { pause } from './pausing.js';
 
-/** Bytes that are collected before they are written. */
+/** The number of bytes that are collected before they are written. */
 const BUFFER_SIZE = 1 << 16;
 
 /** Minimum time between updates of the progress, in milliseconds. */
 const SHOWN_EACH = 100;
 
 /**
- * Writes all bytes. A pipe that is full for the moment is tried again: once there are threads, node does not wait for it.
+ * Writes all bytes. Tries again if a pipe is full for the moment: once there are threads, node does not wait for the pipe.
  * @param {number} descriptor
  * @param {Uint8Array} bytes
  */
@@ -24,7 +24,7 @@ function writeToStream(descriptor, bytes) {
         try {
             done += writeSync(descriptor, bytes, done);
         } catch (error) {
-            // Who read it has ended, as `head` does: there is nobody left to say it to.
+            // The reader has ended, for example `head`. Nobody is left to read a message.
             if (hasCode(error, 'EPIPE')) throw new Fault('reader-ended', { sentence: '' });
             if (!hasCode(error, 'EAGAIN')) throw ownFault(`cannot write to standard output: ${reasonOf(error)}`);
             pause();
@@ -32,11 +32,11 @@ function writeToStream(descriptor, bytes) {
     }
 }
 
-/** Bytes for standard output, or for a file: both take `write`. */
+/** Collects bytes for standard output. A job writes to it, or to a new file, with `write`. */
 export class Output {
     /**
      * @param {number} descriptor
-     * @param {() => void} before what is done before bytes are written
+     * @param {() => void} before is called before bytes are written
      */
     constructor(descriptor, before) {
         this.descriptor = descriptor;
@@ -64,7 +64,7 @@ export class Output {
     }
 }
 
-/** Messages and progress. Where they can't be written, that is no failure of a job. */
+/** Prints messages and progress. A job does not fail if they cannot be written. */
 export class Messages {
     /** @param {number} descriptor */
     constructor(descriptor) {
@@ -79,7 +79,7 @@ export class Messages {
         try {
             writeToStream(this.descriptor, new TextEncoder().encode(text));
         } catch {
-            // There is nowhere left to say it.
+            // There is nowhere left to report it.
         }
     }
 
@@ -90,8 +90,8 @@ export class Messages {
     }
 
     /**
-     * @param {number} done how many sectors of
-     * @param {number} all
+     * @param {number} done in sectors
+     * @param {number} all in sectors
      */
     progress(done, all) {
         if (!this.shows || Date.now() - this.shownAt < SHOWN_EACH) return;

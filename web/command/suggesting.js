@@ -1,13 +1,13 @@
-// What a word that is not known may have been meant to be.
+// Suggests a known word for a word that is not known.
 
-/** Most letters that may be wrong, missing or too many. */
+/** The maximum number of letters that may be wrong, missing, or too many. */
 const MOST_WRONG = 2;
 
-/** Longer words are not compared: they take too long, and nobody mistypes them so. */
+/** Longer words are not compared: that would take too long, and they are not mistyped words. */
 const LONGEST_COMPARED = 256;
 
 /**
- * How many letters have to be changed, taken out, put in or exchanged with the next one to make a word another.
+ * The edit distance of two words: the number of letters to change, remove, insert, or exchange with the next letter.
  * @param {string} one
  * @param {string} other
  */
@@ -26,7 +26,7 @@ function distance(one, other) {
 }
 
 /**
- * The one of some words that another one was probably meant to be, or null: the same in capitals or not, or with a letter or two wrong.
+ * The known word that was probably meant, or null. It is the same regardless of capitals, or has one or two wrong letters.
  * @param {string} word
  * @param {Iterable<string>} known
  */
@@ -46,7 +46,7 @@ const OTHER_WORDS = new Map([['rebuild', 'merge'], ['fix', 'merge'], ['verify', 
     ['patch', 'apply'], ['compare', 'diff'], ['search', 'find'], ['dump', 'texts'], ['collection', 'scan']]);
 
 /**
- * A question at the end of a message, '' if nothing is near.
+ * A question at the end of a message, '' if there is no suggestion.
  * @param {string} word
  * @param {Iterable<string>} known
  */

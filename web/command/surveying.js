@@ -1,4 +1,4 @@
-// What is found in the files of a disc: in the sectors of its data tracks, and the hashes of each file.
+// Surveys the data tracks of a disc, and calculates the hashes of its files.
 
 import { readBytes } from '../core/bytes.js';
 import { sectorCount } from '../core/module/index.js';
@@ -16,15 +16,15 @@ import { turn } from './pausing.js';
 /** @typedef {import('./hashes.js').Needs} Needs */
 /** @typedef {import('./run.js').Run} Run */
 /**
- * A file of a disc, what is found in it, and how many bytes come after its last whole sector.
+ * A file of a disc, its hashes and findings, and the number of bytes after its last whole sector.
  * @typedef {{ file: DiscFile, hashes: Required<Hashes>, surveys: (SurveyedTrack & Found)[], tail: number }} FileFound
  */
 
-/** Bytes that are hashed at a time: threads have work for longer. */
+/** The number of bytes that are hashed at a time. Threads are busy for longer than that takes. */
 const HASH_STEP = 1 << 20;
 
 /**
- * A reader that hashes what it is read, which has to be all bytes, one after the other; and its hashes, after what was not read yet.
+ * A reader that hashes the bytes that are read, which must be in order. `digest` reads the rest first, and returns the hashes.
  * @param {Reader} reader
  * @param {Needs} needs
  * @returns {Reader & { digest(): Promise<Required<Hashes>> }}
@@ -62,7 +62,7 @@ export function hashesOf(reader, needs) {
 }
 
 /**
- * The tracks of a disc that are surveyed: the one that an option means, or all.
+ * The tracks of a disc to survey: the one that an option selects, or all.
  * @param {Run} run
  * @param {Disc} disc
  * @returns {Promise<SurveyedTrack[]>}
@@ -79,7 +79,7 @@ async function surveyedHere(run, disc) {
 }
 
 /**
- * Whether a file is hashed here while threads look at its sectors.
+ * Whether a file is hashed here while threads survey its sectors.
  * @param {Run} run
  * @param {Reader} reader
  */
@@ -88,7 +88,7 @@ function isHashedBeside(run, reader) {
 }
 
 /**
- * What is found in each file of a disc.
+ * Surveys and hashes each file of a disc.
  * @param {Run} run
  * @param {Disc} disc
  * @param {Needs} [needs]

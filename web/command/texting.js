@@ -1,4 +1,4 @@
-// The job `texts`: a table of all texts of a data track, for translators.
+// The job `texts`: prints a table of all texts of a data track, for translators.
 
 import { wholeOf } from '../core/bytes.js';
 import { encodingOf, tableTextOf } from '../core/encodings/index.js';
@@ -13,7 +13,7 @@ import { tableSaid } from './searching.js';
 /** @typedef {import('./run.js').Target} Target */
 
 /**
- * Writes a table, and returns the number of its texts. Says how files are listed if a path names none.
+ * Writes a table, and returns the number of its texts. The Fault about a path that names no file says how to list the files.
  * @param {Target} target
  * @param {ReturnType<typeof exportTable>} table
  */

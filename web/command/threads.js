@@ -1,4 +1,4 @@
-// Threads of node as the hands of a crew.
+// The threads of node that work for a crew.
 
 import { readSync } from 'node:fs';
 import { cpus } from 'node:os';
@@ -10,24 +10,24 @@ import { isTested } from './again.js';
 
 /** @typedef {import('../core/crew/crew.js').Hand} Hand */
 /** @typedef {import('../core/crew/jobs.js').JobName} JobName */
-/** @typedef {Uint8Array | { descriptor: number, at: number, length: number }} Piece bytes, or what is lent of a file */
+/** @typedef {Uint8Array | { descriptor: number, at: number, length: number }} Piece bytes, or a range of a file that the thread reads */
 /** @typedef {import('../core/crew/jobs.js').Message<JobName, Piece>} Message */
 /** @typedef {import('../core/crew/jobs.js').Reply} Reply */
-/** @typedef {{ module: WebAssembly.Module, scans: boolean }} ThreadData what a thread begins with; whether it is one of `scan` */
+/** @typedef {{ module: WebAssembly.Module, scans: boolean }} ThreadData the data of a new thread; whether it is a thread of `scan` */
 
-/** Fewer sectors are done sooner than threads have begun; and so are any number by these jobs. */
+/** Fewer sectors are done before threads have started. The quick jobs need no threads for any number of sectors. */
 const SECTORS_FOR_THREADS = 8000;
 /** @type {JobName[]} */
 const QUICK = ['kinds'];
 const MOST_THREADS = 8;
 
-/** @type {Uint8Array[]} where a thread reads to. Nothing of a range is kept when the next one comes. */
+/** @type {Uint8Array[]} the buffers of a thread. Nothing of a range is kept for the next one. */
 const rooms = [];
 
 /**
- * The bytes of a piece, which are read if they are lent. Throws if the file has become shorter, and what reading throws.
+ * The bytes of a piece, which are read here if it is a range of a file. Throws if the file has become shorter or cannot be read.
  * @param {Piece} piece
- * @param {number} i its place among those of a range
+ * @param {number} i its index among the pieces of a message
  */
 function readPiece(piece, i) {
     if (piece instanceof Uint8Array) return piece;
@@ -50,7 +50,7 @@ function replyTo(serve, message) {
 }
 
 /**
- * A thread, and whether it has begun; null if the system makes none.
+ * Starts a thread. Returns it, and a promise of whether it has started; null if it cannot be created.
  * @param {ThreadData} data
  */
 export function begunThread(data) {
@@ -68,7 +68,7 @@ export function begunThread(data) {
 }
 
 /**
- * A thread that does what it is given. What it would do if it had begun, this thread does.
+ * A thread that works for a crew. If it does not start, the current thread does its work.
  * @param {WebAssembly.Module} module
  * @param {Calls} calls
  */
@@ -93,7 +93,7 @@ function threadHand(module, calls) {
 }
 
 /**
- * What a thread does: it serves the main thread, and reads for itself what is lent.
+ * Runs in a thread: serves the main thread, and reads ranges of files itself.
  * @param {WebAssembly.Module} module
  */
 export function serveThread(module) {
@@ -106,7 +106,7 @@ export function serveThread(module) {
     });
 }
 
-/** What shares out a job: among threads if it has many sectors, and else it is done by this one. */
+/** Shares out a job among threads if it has many sectors. Else the current thread does it. */
 export class Threads {
     /**
      * @param {WebAssembly.Module} module
@@ -117,14 +117,14 @@ export class Threads {
         this.module = module;
         this.calls = calls;
         this.progress = progress;
-        /** Whether this thread does all by itself. */
+        /** Whether the current thread does all work. */
         this.isAlone = false;
         /** @type {ReturnType<typeof threadHand>[]} */
         this.threads = [];
     }
 
     /**
-     * As Crew.share.
+     * Like Crew.share.
      * @template {JobName} Name
      * @param {Name} job
      * @param {import('../core/bytes.js').Reader[]} readers
@@ -148,7 +148,7 @@ export class Threads {
      */
     crew(sectors, most = MOST_THREADS) {
         if (!this.hasThreads(sectors)) return new Crew([localHand(this.calls, JOBS)]);
-        const count = Math.min(cpus().length || 1, most); // where the system does not say it, there are none
+        const count = Math.min(cpus().length || 1, most); // cpus() is empty where the system does not report them
         while (this.threads.length < count) this.threads.push(threadHand(this.module, this.calls));
         return new Crew(this.threads, true);
     }

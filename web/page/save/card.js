@@ -1,4 +1,4 @@
-// Saving the patched image, as its card says it: progress, what was saved, and what is left after a cancel or a failure.
+// The card that shows the saving of a patched image: its progress, the saved file, and the remains after a cancel or a failure.
 
 import { isOneTrack, sheetOfOneTrack } from '../../core/disc/index.js';
 import { failedBy } from '../../core/faults.js';
@@ -40,11 +40,11 @@ export class SaveCard {
         this.running = false;
         app.addTaker(file => this.isSaved(file));
         this.saved = /** @type {Saved | null} */ (null);
-        /** The SHA-1 of what was saved last. */
+        /** The SHA-1 of the image that was saved last. */
         this.sum = Promise.resolve('');
         this.checked = element('div', { role: 'status' });
         this.said = element('div');
-        /** Says that the file is whole. */
+        /** Shows that the file was written to its end. */
         this.sayWhole = () => {};
     }
 
@@ -60,7 +60,7 @@ export class SaveCard {
         fill(this.head, element('h2', {}, ...this.title));
     }
 
-    /** Makes way for Check, unless an image is being saved. */
+    /** Closes the card, so that Check is shown again, unless an image is being saved. */
     leave() {
         if (this.shown() && !this.running) this.close();
     }
@@ -83,7 +83,7 @@ export class SaveCard {
     }
 
     /**
-     * Saves what is made of an image. Returns what was done with the patches, null if nothing was saved.
+     * Saves the patched image. Returns the outcomes of the patches, or null if nothing was saved.
      * @param {Image} image
      * @param {PatchWork} work
      * @returns {Promise<Patched | null>}
@@ -117,7 +117,7 @@ export class SaveCard {
     /**
      * @param {Image} image
      * @param {Saved} saved
-     * @param {boolean} oneTrack whether the image looks like a whole disc of one track, if it has no cue sheet
+     * @param {boolean} oneTrack whether an image without a cue sheet looks like a whole disc of one track
      */
     showSaved(image, saved, oneTrack) {
         const { made, name, size, streamed, file } = saved;
@@ -144,7 +144,7 @@ export class SaveCard {
     }
 
     /**
-     * Opens what was saved in place of the open image.
+     * Opens the saved file in place of the open image.
      * @param {File} file
      */
     openNew(file) {
@@ -154,7 +154,7 @@ export class SaveCard {
     }
 
     /**
-     * The SHA-1 and CRC-32 of what was saved, as soon as they are known.
+     * Shows the SHA-1 and CRC-32 of the saved image as soon as they are calculated.
      * @param {Saved} saved
      */
     sumsOf(saved) {
@@ -179,7 +179,7 @@ export class SaveCard {
     }
 
     /**
-     * Whether a file that is dropped is the one that was saved last; then it is checked.
+     * Returns whether a dropped file has the name of the file that was saved last. If so, compares its size and SHA-1.
      * @param {File} file
      */
     async isSaved(file) {
@@ -209,10 +209,10 @@ export class SaveCard {
 }
 
 /**
- * What is said of the cue sheet of a saved image: what it is for, and which files it names beside the image.
+ * Explains the cue sheet of a saved image: its purpose, and the files that it names beside the image.
  * @param {Image} image
- * @param {string} name of the saved one
- * @param {string} sheet that names it, or '' if none can
+ * @param {string} name of the saved image
+ * @param {string} sheet that names the saved image, or '' if there is none
  * @returns {Child[]}
  */
 function sheetWords({ sheet: own, renamed }, name, sheet) {
@@ -226,7 +226,7 @@ function sheetWords({ sheet: own, renamed }, name, sheet) {
 }
 
 /**
- * What is said of a saving that ended early, with what is left.
+ * A notice on a save that ended early. It says that no image was kept.
  * @param {unknown} error
  * @param {number} size
  */

@@ -1,4 +1,4 @@
-// The file that a user chooses to be written: none of those that are open.
+// Lets the user choose a file to write, and refuses files that are open.
 
 import { fileOf, isSameFile } from '../open/index.js';
 import * as texts from '../texts/index.js';
@@ -12,11 +12,11 @@ import { workRefused } from './refused.js';
 /** @typedef {{ name: string, size: number }} OpenFile */
 
 /**
- * Lets the user choose a file to write, or returns null if he chooses none. One that is open is refused, and so is one that has the name
- * of another open file: a page does not see directories, and a stranger's patcher may propose the name.
- * @param {string} name that is proposed
- * @param {Reader[]} readers of the image, and of others that must not be written over
- * @param {OpenFile[]} opened all files that are open
+ * Lets the user choose a file to write; returns null if none is chosen. Throws a Fault if it is an open file, or has the name of an open
+ * file other than the image: a page does not see directories, and a stranger's patcher may propose the name.
+ * @param {string} name proposed to the user
+ * @param {Reader[]} readers of the image, and of other files that must not be overwritten
+ * @param {OpenFile[]} opened all open files
  * @returns {Promise<ChosenFile | null>}
  */
 export async function chosenOther(name, readers, opened) {

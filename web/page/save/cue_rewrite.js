@@ -1,9 +1,9 @@
-// Cue sheets for patched images.
+// Rewrites cue sheets for patched images, and lists the files that they name.
 
 /**
- * A cue sheet in which files have other names; '' if it names none of them.
+ * Replaces names of files in a cue sheet. Returns '' if it names none of them.
  * @param {string} sheet
- * @param {Iterable<[string, string]>} names each file's own name, and the other one
+ * @param {Iterable<[string, string]>} names each file's own name, and its new name
  */
 export function sheetNaming(sheet, names) {
     const others = new Map([...names].map(([own, other]) => [own.toLowerCase(), other]));
@@ -19,7 +19,7 @@ export function sheetNaming(sheet, names) {
 }
 
 /**
- * The files that a cue sheet names, beside one.
+ * The names of the files of a cue sheet, except one.
  * @param {string} sheet
  * @param {string} but
  */
@@ -28,7 +28,7 @@ export function otherFiles(sheet, but) {
     return [...new Set(names)].filter(name => name.toLowerCase() !== but.toLowerCase());
 }
 
-/** @param {string} path perhaps in quotes, as a sheet has it */
+/** @param {string} path as in a sheet, with or without quotes */
 function withoutPath(path) {
     const name = path.replace(/^"|"$/g, '');
     return name.slice(Math.max(name.lastIndexOf('/'), name.lastIndexOf('\\')) + 1);
@@ -40,8 +40,8 @@ function lastName(path) {
 }
 
 /**
- * What a line of a sheet has before and after the name of a file, or null. No expression with two gaps goes over the line: on a long one
- * that would take minutes.
+ * Splits a FILE line of a sheet into the name and the parts before and after it; returns null for any other line. A single regular
+ * expression with two gaps would need minutes for a long line.
  * @param {string} line
  */
 function fileParts(line) {
@@ -56,7 +56,7 @@ function fileParts(line) {
 }
 
 /**
- * How long a name without quotes is, after which a last word stands.
+ * The length of a name without quotes, which ends before the last word.
  * @param {string} rest
  */
 function nameSize(rest) {

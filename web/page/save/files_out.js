@@ -1,11 +1,11 @@
-// Giving files to the user: as a stream to a file that he chooses, if the browser can, else as a download.
+// Gives files to the user: as a stream to a chosen file if the browser supports that, else as a download.
 
 import * as texts from '../texts/index.js';
 import { element } from '../ui/index.js';
 import { ownFault } from '../../sentences/index.js';
 
 /** @typedef {import('./save.js').Sink} Sink */
-/** A file that was chosen to be written, as browsers of the Chromium kind have it. */
+/** A file that was chosen to be written: a FileSystemFileHandle of browsers based on Chromium. */
 /** @typedef {{ name: string, getFile(): Promise<File>, createWritable(): Promise<Sink>, remove?: () => Promise<void> }} ChosenFile */
 /** @typedef {(options: object) => Promise<ChosenFile>} Picker */
 
@@ -15,15 +15,15 @@ export function canStream() {
 }
 
 /**
- * Whether this is Firefox. While it knows the address of a Blob of more than some ten parts that was downloaded, it holds all its bytes in
- * memory; what a Response gives stands in a file of the browser's own. WebKit holds that in memory instead.
+ * Whether this is Firefox. Firefox holds all bytes of a downloaded Blob of more than about ten parts in memory until its address is
+ * revoked, but keeps the Blob of a Response in a temporary file. WebKit holds the Blob of a Response in memory.
  */
 function isFirefox() {
     return 'mozInnerScreenX' in globalThis;
 }
 
 /**
- * The same Blob as it takes least memory when it is downloaded.
+ * Returns the same content as a Blob that needs the least memory when it is downloaded.
  * @param {Blob} blob of many parts
  */
 export async function asDownloaded(blob) {
@@ -31,8 +31,8 @@ export async function asDownloaded(blob) {
 }
 
 /**
- * Lets the user choose a file to write, or returns null if he chooses none.
- * @param {string} name that is proposed
+ * Lets the user choose a file to write; returns null if none is chosen. Throws a Fault if the browser requires a new click.
+ * @param {string} name proposed to the user
  * @returns {Promise<ChosenFile | null>}
  */
 export async function chosenFile(name) {
@@ -47,8 +47,8 @@ export async function chosenFile(name) {
 }
 
 /**
- * Gives a file to the browser's downloads, and returns its address, which is kept as long as the page: nothing says when the download has
- * ended.
+ * Starts a download, and returns the address of the Blob. It stays valid as long as the page is open, since the browser does not report
+ * the end of a download.
  * @param {Blob} blob
  * @param {string} name
  */
@@ -65,8 +65,8 @@ export function download(blob, name) {
 const image = { address: '' };
 
 /**
- * The same for an image. Firefox, which goes on with a download that has begun, forgets the address of the one before, and with it the
- * file in which that stands.
+ * Starts the download of an image. In Firefox, revokes the address of the image before, which deletes its temporary file; a download
+ * that has begun continues.
  * @param {Blob} blob
  * @param {string} name
  */
@@ -76,7 +76,7 @@ export function downloadImage(blob, name) {
 }
 
 /**
- * Gives bytes in pieces as a download.
+ * Starts the download of bytes in pieces.
  * @param {BlobPart[]} pieces
  * @param {string} name
  */
@@ -85,7 +85,7 @@ export function downloadBytes(pieces, name) {
 }
 
 /**
- * Gives a text as a download.
+ * Starts the download of a text.
  * @param {string} text
  * @param {string} name
  */

@@ -1,4 +1,4 @@
-// Checking and saving patched images, and giving files to the user.
+// Checks and saves patched images, and gives files to the user.
 
 export { SaveCard, failureOfSaving } from './card.js';
 export { otherFiles, sheetNaming } from './cue_rewrite.js';

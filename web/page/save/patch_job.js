@@ -1,4 +1,4 @@
-// What is done with a script and an image: checking, and saving the patched image.
+// Checks a script on an image, and saves the patched image.
 
 import { readBytes } from '../../core/bytes.js';
 import { failedBy } from '../../core/faults.js';
@@ -23,19 +23,19 @@ import { workRefused } from './refused.js';
 /** @typedef {import('../../core/bytes.js').Reader} Reader */
 /** @typedef {import('../../core/script/patch_run.js').Take} Take */
 /** @typedef {import('../../core/script/patches.js').Patched} Patched */
-/** An image, the block of its first sector, and what is to be made of it; and the other files that are open, if it is saved. */
+/** An image, the block of its first sector, the script, and whether damaged sectors are patched too; to save, also the open files. */
 /** @typedef {{ reader: Reader, base: number, script: string, carry: boolean, opened?: OpenFile[] }} PatchWork */
 /** @typedef {import('./chosen_file.js').OpenFile} OpenFile */
-/** Who watches the work; `accept` is awaited before an image that is saved is whole. */
+/** Receives the progress and cancels the job. `accept` is awaited before a saved image is complete. */
 /** @typedef {{ signal: { aborted: boolean }, progress: (done: number, all: number) => void, accept?: () => Promise<void> }} PatchWatch */
 /** @typedef {import('../../core/tasks/engine.js').Watch} TaskWatch */
 /**
- * The file that was saved, what the program prints, and the file's size and its SHA-1, if one was asked for.
+ * The saved file, the outcomes of the patches, the file's size in bytes, and its SHA-1 if one was required, else ''.
  * @typedef {import('./pieces.js').SavedFile & { made: Patched, size: number, sha1: string }} Saved
  */
 
 /**
- * A script without faults. Throws a Fault with advice.
+ * Reads a script. Throws a Fault with advice if it has an error.
  * @param {Pick<App, 'calls'>} app
  * @param {string} script
  */
@@ -63,7 +63,7 @@ export function assertNotTooLong({ size }) {
 }
 
 /**
- * What would become of each patch. Throws a Fault with advice.
+ * Tries the script on the image without saving, and returns the outcome of each patch. Throws a Fault with advice.
  * @param {Pick<App, 'calls'>} app
  * @param {PatchWork} work
  * @param {TaskWatch} [watch]
@@ -75,7 +75,7 @@ export async function tryWork(app, { reader, base, script, carry }, watch) {
 }
 
 /**
- * As tryWork, but many sectors may be read, and the workers help.
+ * Like tryWork, but reads with the help of the workers, for scripts that need many sectors.
  * @param {App} app
  * @param {PatchWork} work
  * @param {PatchWatch} watch
@@ -85,7 +85,7 @@ export function checkWork(app, work, watch) {
 }
 
 /**
- * As checkWork, with the patched image.
+ * Like checkWork, and also returns a reader of the patched image.
  * @param {App} app
  * @param {PatchWork} work
  */
@@ -96,7 +96,7 @@ export async function patchedWork(app, { reader, base, script, carry }) {
 }
 
 /**
- * Whether the script, without the old bytes that it asks for, would change nothing in the image.
+ * Whether the image is patched already: the script, if its old bytes are not compared, would change nothing.
  * @param {Pick<App, 'calls'>} app
  * @param {Pick<PatchWork, 'reader' | 'base' | 'script'>} work
  */
@@ -114,10 +114,10 @@ export async function isPatched(app, { reader, base, script }) {
 }
 
 /**
- * Saves the patched image. Returns null if the user chose no file. `wanted` is the SHA-1 that the result must have, or '' if any is right.
+ * Saves the patched image. Returns null if the user chose no file. `wanted` is the SHA-1 that the result must have, or '' for any.
  * @param {App} app
  * @param {PatchWork} work
- * @param {string} name that is proposed
+ * @param {string} name proposed to the user
  * @param {string} wanted
  * @param {PatchWatch} watch
  * @returns {Promise<Saved | null>}
@@ -130,7 +130,7 @@ export async function saveWork(app, { reader, base, carry, script, opened = [] }
     const making = async () => {
         const read = await readWork(app, script);
         const image = { reader: readByHands(reader, app.crew, signal), base };
-        // The pieces of a download are held, and nothing is written before it: what is read shows how far it has come.
+        // A download is written only after all its pieces are collected, so its progress is that of reading.
         const reading = { signal, progress: (/** @type {number} */ sectors) => progress(sectors * SECTOR_SIZE, reader.size) };
         const [near, seen] = canStream() ? [NEAR_WRITTEN, {}] : [NEAR_HELD, reading];
         return async (/** @type {Take} */ take) => {
@@ -148,7 +148,7 @@ export async function saveWork(app, { reader, base, carry, script, opened = [] }
 }
 
 /**
- * Compares what is saved with a SHA-1.
+ * Hashes the image while it is saved. Its `accept` throws a Fault if the SHA-1 does not match.
  * @param {RunningHash} hash
  * @param {string} wanted
  */

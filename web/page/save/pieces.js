@@ -1,4 +1,4 @@
-// Saving an image that comes in pieces: as a stream to a file that the user chooses, or as a download.
+// Saves an image from pieces: as a stream to a file that the user chooses, or as a download.
 
 import { PieceKeeper, bytesOfPieces, forwardOf } from '../../core/bytes.js';
 import { cancelled } from '../../core/faults.js';
@@ -13,18 +13,18 @@ import { blobOfPieces, saveToSink } from './save.js';
 /** @typedef {import('./save.js').Watch} Watch */
 /** @typedef {import('./chosen_file.js').OpenFile} OpenFile */
 /**
- * A file's name; whether it was written to its end, else the browser is still at it; and the file, if the browser reads it again.
+ * A file's name; whether it was written to its end, or a download may still be running; and the file, null if the page cannot read it.
  * @typedef {{ name: string, streamed: boolean, file: File | null }} SavedFile
  */
 
 /**
- * Saves an image. Returns null if the user chose no file. Throws a Fault if he chose an open one, and what saveToSink throws; then
+ * Saves an image. Returns null if the user chose no file. Throws a Fault if an open file was chosen, and any error of saveToSink; then
  * nothing is kept.
- * @param {Reader[]} readers of the image that slices are of, and of the others that must not be written over
- * @param {() => Promise<Maker>} making who makes the pieces. He is asked for after the file: a browser lets a page ask for that only
- *     shortly after a click.
- * @param {string} name that is proposed
- * @param {OpenFile[]} opened all files that are open
+ * @param {Reader[]} readers of the image that slices refer to, and of other files that must not be overwritten
+ * @param {() => Promise<Maker>} making returns the maker of the pieces. It is called after the file was chosen: a browser lets a page
+ *     open that dialog only shortly after a click.
+ * @param {string} name proposed to the user
+ * @param {OpenFile[]} opened all open files
  * @param {Watch} watch
  * @returns {Promise<SavedFile | null>}
  */
@@ -44,7 +44,7 @@ export async function saveImage(readers, making, name, opened, watch) {
 }
 
 /**
- * A maker of pieces that are known.
+ * Returns a maker that passes on the given pieces.
  * @param {Piece[]} pieces
  * @returns {Maker}
  */
@@ -55,7 +55,7 @@ export function givingAll(pieces) {
 }
 
 /**
- * Gives the image to the browser's downloads, if it is accepted.
+ * Starts the download of the image if it is accepted.
  * @param {Reader} reader
  * @param {Maker} make
  * @param {string} name

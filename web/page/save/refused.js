@@ -1,11 +1,11 @@
-// What is refused before any work is done.
+// Errors that are thrown before any work is done, and their advice.
 
 import { Fault } from '../../core/faults.js';
 import { ownFault } from '../../sentences/index.js';
 
 /**
- * Why a script or an image can't be worked on.
- * @param {string} text the program's words
+ * A Fault that says why a script or an image cannot be used.
+ * @param {string} text the error message
  * @param {string} advice what to do
  */
 export function workRefused(text, advice) {
@@ -13,7 +13,7 @@ export function workRefused(text, advice) {
 }
 
 /**
- * What a failure advises to do, or else another text.
+ * The advice of a Fault, or another text if it has none.
  * @param {unknown} error
  * @param {string} other
  */

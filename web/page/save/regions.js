@@ -1,5 +1,5 @@
-// An image that is saved, region by region: each is one write of parts of the file, with the patched sectors between them. A browser
-// writes parts of a file twice as fast as bytes that a page has read.
+// Cuts an image into regions to save it. Each region is written in one call: slices of the file with the patched sectors between them. A
+// browser writes slices of a file twice as fast as bytes that the page has read.
 
 import { extentOf, pieceWithin, readBytes, readInto } from '../../core/bytes.js';
 import { newBytes } from '../../core/faults.js';
@@ -9,19 +9,19 @@ import { NEAR_WRITTEN } from '../../core/script/index.js';
 /** @typedef {import('../../core/bytes.js').Piece} Piece */
 /** @typedef {{ from: number, to: number }} Extent */
 /**
- * A part of the image: the patched bytes stand in its room already, and its slices, in order, are not read yet.
+ * A part of the image. Its room holds the patched bytes already; its slices, in order, are not read yet.
  * @typedef {{ at: number, size: number, slices: Extent[], patched: Extent[], room: Uint8Array }} Region
  */
-/** A write, as FileSystemWritableFileStream takes it. */
+/** A write in the form that FileSystemWritableFileStream accepts. */
 /** @typedef {{ type: 'write', position: number, data: Uint8Array | Blob }} Write */
 
 const MOST_IN_REGION = 1 << 24;
-/** Patched sectors with fewer bytes between them are one part, as slices are one read. */
+/** Patched sectors with fewer bytes between them are written as one part, and slices with fewer bytes between them are one read. */
 const PART_COST = NEAR_WRITTEN;
 
-/** Cuts pieces, which come in order, into regions. */
+/** Cuts pieces, which are pushed in order, into regions. */
 export class RegionCutter {
-    /** @param {(region: Region) => Promise<void>} give after which the region before may be others */
+    /** @param {(region: Region) => Promise<void>} give receives a region; afterwards the memory of the region before is reused */
     constructor(give) {
         this.give = give;
         /** The room of this region, and of the one before it, which is still being written. */
@@ -37,7 +37,7 @@ export class RegionCutter {
         return { at, size: 0, slices: [], patched: [], room: this.rooms[0] };
     }
 
-    /** @param {Piece} piece whose bytes may be others after that */
+    /** @param {Piece} piece whose bytes may change after the call */
     async push(piece) {
         const { from, to } = extentOf(piece);
         for (let at = from, end = to; at < to; at = end) {
@@ -49,7 +49,7 @@ export class RegionCutter {
         }
     }
 
-    /** @param {Uint8Array} bytes which are copied to the end of the region */
+    /** @param {Uint8Array} bytes copied to the end of the region */
     put(bytes) {
         const { region } = this;
         const at = region.at + region.size;
@@ -57,7 +57,7 @@ export class RegionCutter {
         region.patched.push({ from: at, to: at + bytes.length });
     }
 
-    /** Gives what is not given yet. */
+    /** Passes on the current region, unless it is empty. */
     async end() {
         const { region, rooms: [own, last] } = this;
         if (region.size > 0) await this.give(region);
@@ -67,7 +67,7 @@ export class RegionCutter {
 }
 
 /**
- * The memory of a region, which it has only if it needs it.
+ * The memory of a region, which is allocated when it is first needed.
  * @param {Region} region
  */
 function roomOf(region) {
@@ -76,7 +76,7 @@ function roomOf(region) {
 }
 
 /**
- * Reads the slices of a region that lie in a range into its room.
+ * Reads the parts of a region's slices that are in a range into its room.
  * @param {Reader} reader
  * @param {Region} region
  * @param {number} from
@@ -97,8 +97,8 @@ async function readSlices(reader, region, from, to) {
 }
 
 /**
- * All bytes of a region, in its room.
- * @param {Reader} reader that slices are of
+ * Reads all bytes of a region into its room.
+ * @param {Reader} reader that slices refer to
  * @param {Region} region
  */
 export async function bytesOfRegion(reader, region) {
@@ -107,10 +107,10 @@ export async function bytesOfRegion(reader, region) {
 }
 
 /**
- * What is written for a region: parts of the file with the patched sectors between them; if most of it is patched, or the image is no
- * file, its bytes.
+ * The data to write for a region: slices of the file with the patched sectors between them. If most of it is patched, or the image is not
+ * a file, returns its bytes.
  * @param {Blob | null} file
- * @param {Reader} reader that slices are of
+ * @param {Reader} reader that slices refer to
  * @param {Region} region
  */
 export async function dataOfRegion(file, reader, region) {
@@ -129,7 +129,7 @@ export async function dataOfRegion(file, reader, region) {
 }
 
 /**
- * Where patched sectors are, those that are near each other together.
+ * Joins ranges of patched bytes that are near each other.
  * @param {Extent[]} patched
  */
 function joinedExtents(patched) {

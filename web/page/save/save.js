@@ -1,4 +1,4 @@
-// Saving: a patched image as a stream to a file, or as a Blob of slices of the old file with the patched sectors between them.
+// Writes a patched image as a stream to a file, or as a Blob of slices of the old file with the patched sectors between them.
 
 import { forwardOf, readBytes } from '../../core/bytes.js';
 import { Fault, cancelled } from '../../core/faults.js';
@@ -12,19 +12,19 @@ import { RegionCutter, bytesOfRegion, dataOfRegion } from './regions.js';
 /** @typedef {import('../../core/bytes.js').Piece} Piece */
 /** @typedef {import('./regions.js').Region} Region */
 /** @typedef {import('./regions.js').Write} Write */
-/** What a file is written by: FileSystemWritableFileStream, or a test's own. Bytes may be others after they are written. */
+/** Writes a file: a FileSystemWritableFileStream, or a substitute in a test. Bytes may change once they are written. */
 /** @typedef {{ write(write: Write): Promise<void>, close(): Promise<void>, abort(): Promise<void> }} Sink */
 /**
- * Who is told how many bytes are written, and what ends the saving. `seen` is given all bytes that are written, in turn, which may be
- * others after that, and `accept` throws if they are not to be kept.
+ * Receives the number of bytes written, and cancels the save. `seen` receives all written bytes in order; they may change after it.
+ * `accept` throws if the result must not be kept.
  * @typedef {{ signal: { aborted: boolean }, progress: (done: number) => void, seen?: (bytes: Uint8Array) => Promise<void>,
  *     accept?: () => Promise<void> }} Watch
  */
-/** @typedef {(take: (piece: Piece) => Promise<void>) => Promise<void>} Maker gives the pieces of an image in order */
+/** @typedef {(take: (piece: Piece) => Promise<void>) => Promise<void>} Maker passes on the pieces of an image in order */
 
 /**
- * That a file could not be written to its end.
- * @param {number} done how many bytes were written
+ * The Fault of a file that could not be written to its end.
+ * @param {number} done the number of bytes that were written
  * @param {unknown} cause
  */
 function unwritten(done, cause) {
@@ -32,7 +32,7 @@ function unwritten(done, cause) {
     return new Fault('unwritten', { sentence: cause instanceof Error ? cause.message : String(cause), done, full });
 }
 
-/** Regions that go to a sink one after the other, of which the next is made while the last is written. */
+/** Writes regions to a sink in order, preparing the next one while the previous one is written. */
 class SinkWriter {
     /**
      * @param {Sink} sink
@@ -45,7 +45,7 @@ class SinkWriter {
         this.ahead = forwardOf(reader);
         this.watch = watch;
         this.done = 0;
-        /** @type {Promise<unknown>} what is being written: null, or why it failed */
+        /** @type {Promise<unknown>} the current write: resolves to null, or to the error */
         this.writing = Promise.resolve(null);
     }
 
@@ -69,7 +69,8 @@ class SinkWriter {
     }
 
     /**
-     * A browser does not say whether a part of a file could not be read or not be written.
+     * Throws the error of a failed write. A browser does not report whether a slice could not be read or not be written, so the last byte
+     * is read again: if that fails, the error of the reader is thrown.
      * @param {Write} write
      * @param {unknown} error
      */
@@ -85,8 +86,8 @@ class SinkWriter {
 }
 
 /**
- * Writes a patched image to a sink, and closes it only if all was written and is accepted. Throws a Fault, `cancelled` or `unwritten`,
- * and what the reader, `make` and `accept` throw; then the sink was aborted.
+ * Writes a patched image to a sink, and closes the sink only if everything was written and accepted. Throws a Fault, `cancelled` or
+ * `unwritten`, and any error of the reader, `make`, and `accept`; then the sink was aborted.
  * @param {Sink} sink
  * @param {Reader} reader
  * @param {Maker} make
@@ -110,11 +111,11 @@ export async function saveToSink(sink, reader, make, watch) {
     }
 }
 
-/** Parts of a Blob that are made before others get their turn: a browser needs up to a millisecond for each. */
+/** The number of parts of a Blob that are made in one turn: a browser needs up to a millisecond for each. */
 const MOST_PARTS = 100;
 
 /**
- * The patched image as a Blob, which holds only what is patched: the rest are slices of the file.
+ * The patched image as a Blob. It holds only the patched bytes; the rest are slices of the file.
  * @param {Blob} file
  * @param {Piece[]} pieces
  */
@@ -131,10 +132,10 @@ export async function blobOfPieces(file, pieces) {
 }
 
 /**
- * A name like that of an image, with what is new about it: 'game.bin' becomes 'game (patched).bin'.
+ * Adds a remark to a file name: 'game.bin' becomes 'game (patched).bin'.
  * @param {string} name
- * @param {string} [what]
- * @param {string} [ending] instead of its own
+ * @param {string} [what] the remark
+ * @param {string} [ending] replaces the name's own extension
  */
 export function patchedName(name, what = texts.savePatchedInName, ending = '') {
     const [, stem, own] = /^(.*?)(\.[^.]*)?$/.exec(name) || ['', name, ''];

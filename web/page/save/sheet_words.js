@@ -1,4 +1,4 @@
-// What is said of a cue sheet that is saved for a patched image.
+// The texts about a cue sheet that is saved for a patched image.
 
 import * as texts from '../texts/index.js';
 import { say } from '../texts/index.js';
@@ -7,7 +7,7 @@ import { element, namesOf } from '../ui/index.js';
 const MOST_NAMED = 4;
 
 /**
- * That files are to be copied beside a cue sheet, which names them; nothing if there are none.
+ * Asks to copy the files that a cue sheet names into its directory; false if it names none.
  * @param {string[]} names
  */
 export function copyWords(names) {

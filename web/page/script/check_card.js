@@ -1,4 +1,4 @@
-// The card beside the editor: Check, what came of it, carry, and Apply and save.
+// The card beside the editor: Check and its results, the option carry, and Apply and save.
 
 import { RESULT } from '../../core/module/index.js';
 import { SaveCard, adviceOf, checkWork, isPatched } from '../save/index.js';
@@ -14,14 +14,14 @@ import { fitOf, fitWords, isShownToFit, namingOld } from './fit_words.js';
 /** @typedef {import('../../core/script/patches.js').Patched} Patched */
 /** @typedef {import('../ui/fill.js').Child} Child */
 /**
- * What the card asks of the panel: the lines; to draw them anew; and to go to a line.
+ * The parts of the panel that the card uses: the lines, redrawing them, going to a line, and showing the log (null hides it).
  * @typedef {{ lines: ScriptLines, redraw: () => void, goTo: (line: number) => void,
  *     log: (text: Uint8Array | null, verb?: string) => void }} CheckOwner
  */
 
 const MOST_NAMED = 12;
 
-/** The card. `patched` is what Check said, null if that is old; and `already`, that the image holds all that the script writes. */
+/** The card. `patched` is the result of Check, null if outdated; `already`: the image holds everything that the script writes. */
 export class CheckCard {
     /**
      * @param {App} app
@@ -32,11 +32,11 @@ export class CheckCard {
         this.owner = owner;
         this.patched = /** @type {Patched | null} */ (null);
         this.already = false;
-        /** The numbers of the lines that name old bytes, as the script was when it was checked. */
+        /** The numbers of the lines that name old bytes in the script that was checked. */
         this.naming = new Set();
         this.seconds = 0;
         this.busy = false;
-        /** The check that runs, or has run last, and what ends it. */
+        /** The current or last check, and the function that cancels it. */
         this.running = Promise.resolve();
         this.cancel = () => {};
         this.failure = /** @type {Child} */ (null);
@@ -50,7 +50,7 @@ export class CheckCard {
         this.saving = new SaveCard(app, () => this.draw());
     }
 
-    /** What Check said and what was saved is that of another script, image or carry now. */
+    /** Cancels Check, and discards the results of Check and of the save, since the script, the image, or carry has changed. */
     outdate() {
         this.cancel();
         this.patched = null;
@@ -59,7 +59,7 @@ export class CheckCard {
         this.saving.leave();
     }
 
-    /** Forgets what Check said, for the image or carry is another one. */
+    /** Discards the results of Check, its log, and its marks after a change of the image or carry. */
     forget() {
         this.outdate();
         this.owner.lines.setOutcomes([]);
@@ -92,7 +92,7 @@ export class CheckCard {
         return fill(this.body, this.failure, ...said, this.carryRow, row, element('p', { class: 'small quiet' }, ...this.footnote(ready)));
     }
 
-    /** The button that saves. It is the main one only if all changes fit, and bytes of the image show that. */
+    /** The button that saves. It is the main button only if all patches match, and old bytes of the image show that. */
     applyButton() {
         const fit = this.patched && this.fit(this.patched);
         const apply = () => this.apply();
@@ -116,7 +116,7 @@ export class CheckCard {
     }
 
     /**
-     * @param {HTMLElement} apply the button that stands beside what Check has said
+     * @param {HTMLElement} apply the button beside the results of Check
      * @returns {Child[]}
      */
     outcomes(apply) {
@@ -157,7 +157,7 @@ export class CheckCard {
         return [`${saves} `, ...say(texts.scriptStaysAsItIs, { name: element('b', {}, nameOf(name)) })];
     }
 
-    /** Whether the script can be checked and saved: it has no fault, and neither is done already. */
+    /** Whether the script can be checked and saved: it has no error, and no check or save is running. */
     isFree() {
         const { faults, head } = this.owner.lines;
         return !this.busy && !this.saving.running && faults === 0 && head >= 0;
@@ -169,7 +169,7 @@ export class CheckCard {
     }
 
     /**
-     * How the script fits the image, in words.
+     * Describes how the script matches the image.
      * @param {import('./fit_words.js').Fit} fit
      */
     fitWords(fit) {
@@ -184,8 +184,8 @@ export class CheckCard {
     }
 
     /**
-     * Checks a script that was opened, after the check of what was there before it and when it is drawn. What is next gets the focus if
-     * nothing has it.
+     * Checks a script that was just opened, once the check before has ended and the script is drawn. Then focuses the next button if
+     * nothing has the focus.
      */
     async checkAtOnce() {
         await this.running;
@@ -224,7 +224,7 @@ export class CheckCard {
     /**
      * @param {Patched} patched
      * @param {number} seconds
-     * @param {'check' | 'apply'} [verb] of the program that prints the same
+     * @param {'check' | 'apply'} [verb] the command of cdpatch that prints the same log
      */
     take(patched, seconds, verb = 'check') {
         this.patched = patched;
@@ -251,7 +251,7 @@ export class CheckCard {
 }
 
 /**
- * A notice on a failure, which says that nothing was done.
+ * A notice about an error, which says that nothing was saved.
  * @param {unknown} error
  */
 function failureOf(error) {

@@ -1,5 +1,5 @@
-// The script as one sees it: lines with numbers, marks and what is said of them. Only the visible ones are drawn, and the line with the
-// caret is the only one that can be typed in.
+// The editor of a script: lines with numbers, marks, and messages. Only the visible lines are drawn, and only the line with the caret is a
+// text field.
 
 import { VERB } from '../../core/module/index.js';
 import * as texts from '../texts/index.js';
@@ -10,11 +10,11 @@ import { colored } from './line_parts.js';
 
 /** @typedef {import('../app/script_lines.js').ScriptLines} ScriptLines */
 /** @typedef {import('../ui/fill.js').Child} Child */
-/** What helps with a line: a text, '' if there is none, and what a button after it says, or ''. */
+/** The help for a line: a text, '' if there is none; and the label of the button after it, or ''. */
 /** @typedef {{ text: string, says: string }} LineHelp */
 /**
- * What the editor asks of its panel: help for a line that is wrong, and its button; what a line sets as texts, if the encoding has any; and
- * who is told that the caret has moved to another line, and that the text was changed.
+ * The callbacks to the panel: the help for a wrong line, and its button; the texts that a line writes, if the encoding has characters; and
+ * the events that the caret has moved to a different line, that the text has changed, and that a check is requested.
  * @typedef {{ help: (line: number) => LineHelp, helpButton: (line: number) => Child, texts: (line: number) => Child[],
  *     hasTexts: () => boolean, moved: () => void, changed: () => void, check: () => void }} EditorOwner
  */
@@ -39,7 +39,7 @@ export class ScriptEditor {
         this.lines = lines;
         this.owner = owner;
         this.current = 0;
-        /** The other end of the chosen lines, or -1. */
+        /** The line at the other end of the selection, or -1. */
         this.anchor = -1;
         this.tops = new Float64Array(2);
         /** @type {Map<number, LineHelp>} */
@@ -53,14 +53,14 @@ export class ScriptEditor {
         new ResizeObserver(() => requestAnimationFrame(() => this.resized())).observe(this.box);
     }
 
-    /** Heights depend on the width of the box only. */
+    /** Draws everything if the width has changed, since the heights of lines depend only on the width; else only the rows. */
     resized() {
         if (this.box.clientWidth === this.width) return this.drawRows();
         this.width = this.box.clientWidth;
         return this.draw();
     }
 
-    /** Draws all anew, after a change of the text or of what is said of it. */
+    /** Redraws everything after a change of the text or of its messages. */
     draw() {
         this.current = Math.min(this.current, this.lines.lines.length - 1);
         this.helps = chosenHelps(this.lines, line => this.owner.help(line));
@@ -84,11 +84,11 @@ export class ScriptEditor {
     }
 
     /**
-     * How much higher a line is for its texts and for what is said of it, which stand under it in a narrow editor. That it fits stands
-     * beside its texts.
+     * The additional height of a line in a narrow editor, where its texts and its message are under it. The message that a patch matches
+     * is beside its texts.
      * @param {number} i
      * @param {number} width of the editor
-     * @param {boolean} hasTexts whether what lines set is shown as texts
+     * @param {boolean} hasTexts whether the texts that lines write are shown
      */
     saidHeight(i, width, hasTexts) {
         const { patch } = this.lines.lines[i];
@@ -111,7 +111,7 @@ export class ScriptEditor {
     }
 
     /**
-     * The first line that ends below a place.
+     * The first line that ends below a y coordinate.
      * @param {number} y
      */
     lineAt(y) {
@@ -124,7 +124,7 @@ export class ScriptEditor {
         return low;
     }
 
-    /** Draws the visible lines round the one with the caret, which stays where it is so that it keeps the focus. */
+    /** Draws the visible lines around the line with the caret, whose element is not moved so that it keeps the focus. */
     drawRows() {
         const { scrollTop, clientHeight } = this.box;
         const first = Math.max(this.lineAt(scrollTop) - ABOVE_AND_BELOW, 0);
@@ -165,7 +165,7 @@ export class ScriptEditor {
     }
 
     /**
-     * What stands at the right of a line: what it sets as texts, and what is said of it.
+     * The right side of a line: the texts that it writes, and its message.
      * @param {number} i
      */
     said(i) {
@@ -242,7 +242,7 @@ export class ScriptEditor {
     }
 
     /**
-     * Changes lines, and puts the caret into one.
+     * Replaces lines, and moves the caret.
      * @param {number} at
      * @param {number} count
      * @param {string[]} come
@@ -259,7 +259,7 @@ export class ScriptEditor {
         this.owner.moved();
     }
 
-    /** The width of a character in pixels. */
+    /** The width of a character, in pixels. */
     characterWidth() {
         const context = /** @type {CanvasRenderingContext2D} */ (document.createElement('canvas').getContext('2d'));
         context.font = getComputedStyle(this.area).font;

@@ -1,4 +1,4 @@
-// Typing in the script: keys, the pointer, and the clipboard. What goes over one line is done here; within a line the browser does it.
+// Handles keys, the pointer, and the clipboard in the editor. Edits across lines are done here, and those within a line by the browser.
 
 import { linesOfText } from '../../core/script/index.js';
 import { ROW_HEIGHT } from './editor.js';
@@ -51,7 +51,7 @@ function pressedIn(editor, event) {
 /**
  * @param {ScriptEditor} editor
  * @param {KeyboardEvent} event
- * @returns {boolean} whether the key was taken
+ * @returns {boolean} whether the key was handled
  */
 function pressedWithControl(editor, { key, shiftKey }) {
     const last = editor.lines.lines.length - 1;
@@ -73,9 +73,9 @@ function pressedWithControl(editor, { key, shiftKey }) {
 }
 
 /**
- * Shows what was undone or made again.
+ * Shows an undone or redone change.
  * @param {ScriptEditor} editor
- * @param {number} line of it, or -1
+ * @param {number} line of the change, or -1 if there is none
  */
 export function turnBack(editor, line) {
     if (line < 0) return;
@@ -88,7 +88,7 @@ export function turnBack(editor, line) {
 }
 
 /**
- * Takes back the bytes of a sector that were typed last, if nothing was done after them, and says whether it was so.
+ * Undoes the last change if it was typing bytes into a sector. Returns whether it was.
  * @param {ScriptEditor} editor
  */
 export function takeBackBytes(editor) {
@@ -101,7 +101,7 @@ export function takeBackBytes(editor) {
 /**
  * @param {ScriptEditor} editor
  * @param {KeyboardEvent} event
- * @returns {boolean} whether the key was taken
+ * @returns {boolean} whether the key was handled
  */
 function pressedAlone(editor, { key, shiftKey, altKey, isComposing }) {
     if (altKey || isComposing) return false;
@@ -121,7 +121,7 @@ function pressedAlone(editor, { key, shiftKey, altKey, isComposing }) {
 }
 
 /**
- * What a key does that goes over the borders of a line.
+ * Handles a key at the caret that has an effect beyond its line. Returns false for other keys.
  * @param {ScriptEditor} editor
  * @param {string} key
  */
@@ -142,7 +142,7 @@ function pressedAtCaret(editor, key) {
 }
 
 /**
- * What a key does to chosen lines. A letter takes their place.
+ * Handles a key while lines are selected. A character replaces them, and is then typed by the browser.
  * @param {ScriptEditor} editor
  * @param {string} key
  */
@@ -172,7 +172,7 @@ function removeChosen(editor, come) {
 }
 
 /**
- * The first and the last chosen line.
+ * The first and the last selected line.
  * @param {ScriptEditor} editor
  */
 function chosen({ anchor, current }) {
@@ -180,7 +180,7 @@ function chosen({ anchor, current }) {
 }
 
 /**
- * Moves the caret, and chooses the lines on its way if Shift is held.
+ * Moves the caret, and selects the lines in between if Shift is held.
  * @param {ScriptEditor} editor
  * @param {number} line
  * @param {number} column
@@ -202,7 +202,7 @@ function showLine(editor, line) {
 }
 
 /**
- * Whether the caret stands in the first row of its line, or in the last.
+ * Whether the caret is in the first row of its wrapped line (step -1), or in the last row (step 1).
  * @param {ScriptEditor} editor
  * @param {number} step -1 or 1
  */

@@ -16,7 +16,7 @@ import { helpOfFault, patchInWords } from './plain_words.js';
 const MOST_BYTES_SHOWN = 400;
 const EXAMPLE = 'set 4711 26 5374617274 was 8358835E81';
 
-/** @type {Record<string, string>} words of texts that open their notes */
+/** @type {Record<string, string>} words in texts that open a note */
 const NOTED = { block: texts.scriptBlockWord, offset: texts.sectorOffsetWord };
 
 /**
@@ -52,7 +52,7 @@ function meaningOf(app, lines, i) {
 }
 
 /**
- * A text in which [block] and [offset] are words that open their notes.
+ * Replaces [block] and [offset] in a text with words that open a note.
  * @param {string} text
  * @returns {Child[]}
  */

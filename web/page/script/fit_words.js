@@ -1,4 +1,4 @@
-// How a script fits an image, in words.
+// Describes how a script matches an image.
 
 import { RESULT } from '../../core/module/index.js';
 import { patchesOf } from '../../core/script/index.js';
@@ -14,8 +14,8 @@ import { nameOf } from '../ui/index.js';
 /** @typedef {import('../app/script_lines.js').ScriptLines} ScriptLines */
 /** @typedef {import('../../core/script/patches.js').Outcome} Outcome */
 /**
- * What Check found: how many patches there are, and the results of those that are refused; how many patches name old bytes, and how many
- * of these are refused; and whether the image already holds everything that the patches write.
+ * The result of Check: the number of patches, and the results of refused patches; the number of patches that name old bytes, and of those
+ * that are refused among them; and whether the image already holds everything that the patches write.
  * @typedef {{ all: number, refused: number[], named: number, namedRefused: number, already?: boolean }} Fit
  */
 
@@ -30,7 +30,7 @@ export function namingOld(calls, { lines, long }) {
 }
 
 /**
- * How the patches of a script fit.
+ * Counts the patches of a script that match, and those that are refused.
  * @param {Outcome[]} outcomes
  * @param {Set<number>} naming the numbers of the lines that name old bytes
  * @param {boolean} already whether the image already holds everything that they write
@@ -51,8 +51,8 @@ export function isShownToFit({ named, namedRefused }) {
 }
 
 /**
- * Why patches do not fit an image, and what to do about it. If another patch that names old bytes fits, other bytes say nothing of the
- * release: perhaps another line has written there.
+ * Explains why patches do not match an image, and what to do. If any patch that names old bytes matches, different bytes do not mean a
+ * different release: an earlier line may have written there.
  * @param {Fit} fit
  */
 function whyNot(fit) {
@@ -65,9 +65,9 @@ function whyNot(fit) {
 }
 
 /**
- * What is said of a script that was checked.
+ * The message about a script that was checked.
  * @param {string} name of the script's file, or ''
- * @param {string} image its name
+ * @param {string} image the name of the image
  * @param {Fit} fit
  * @returns {{ tone: Tone, head: Child[], rest: Child[] }}
  */

@@ -1,13 +1,13 @@
-// Under which lines of the editor help stands.
+// Chooses the lines of the editor that have help under them.
 
 /** @typedef {import('../app/script_lines.js').ScriptLines} ScriptLines */
 /** @typedef {import('./editor.js').LineHelp} LineHelp */
 
-/** Of so many wrong lines at most: the strip under the editor has the help of any line. */
+/** Help is shown for this many wrong lines at most: the strip under the editor shows the help for any line. */
 export const MOST_HELPED = 1000;
 
 /**
- * The helps by their lines: one stands under a wrong line if the wrong line before has another one.
+ * The help for each line. A wrong line has none if the help for the wrong line before is the same.
  * @param {ScriptLines} lines
  * @param {(line: number) => LineHelp} helpOf
  */

@@ -1,4 +1,4 @@
-// The parts of a line of the script in the editor: its words in colours, and what its patch sets as texts.
+// The parts of a line in the editor: its words in colours, and the texts that its patch writes.
 
 import { CONTENT, VERB, isFault } from '../../core/module/index.js';
 import { faultyWord, lineParts, partOfWord } from '../../core/script/index.js';
@@ -9,12 +9,12 @@ import { element, shownText } from '../ui/index.js';
 /** @typedef {import('../../core/encodings/encoding.js').Encoding} Encoding */
 /** @typedef {import('../ui/fill.js').Child} Child */
 
-/** Most characters of a line that are drawn, and most bytes of a patch that are shown as a text beside its line. */
+/** The maximum number of characters of a line that are drawn, and of bytes of a patch that are shown as a text beside its line. */
 const MOST_DRAWN = 600;
 const MOST_BYTES = 120;
 
 /**
- * The words of a line in colours, the faulty one underlined.
+ * The words of a line in colours. The faulty word is underlined.
  * @param {ScriptLines} lines
  * @param {number} i
  * @returns {Child[]}
@@ -32,11 +32,11 @@ export function colored({ calls, lines }, i) {
     });
 }
 
-/** @type {WeakMap<ScriptLine, { encoding: Encoding, old: string | null, fresh: string }>} they are asked for with each key */
+/** @type {WeakMap<ScriptLine, { encoding: Encoding, old: string | null, fresh: string }>} a cache, as each key press needs them */
 const known = new WeakMap();
 
 /**
- * What the patch of a line sets as a text, after the old one if the line names it: nothing if it sets no bytes, or if the encoding has no
+ * The new text of a line's patch, after the old text if the line names old bytes. Empty if its verb is not set, or if the encoding has no
  * characters.
  * @param {Encoding} encoding
  * @param {ScriptLines} lines

@@ -1,4 +1,4 @@
-// The panel Script: the editor with what its line with the caret means, Check and Apply, and the log.
+// The panel Script: the editor, an explanation of the line with the caret, Check and Apply, and the log.
 
 import { LONG } from '../app/index.js';
 import { downloadText } from '../save/index.js';
@@ -88,14 +88,14 @@ class ScriptPanel {
         });
     }
 
-    /** Whether there is a script that is in no file. */
+    /** Whether there is a script that is not saved. */
     isLost() {
         return !this.lines.isSaved() && !this.lines.isNew();
     }
 
     /**
-     * Shows the script, which somebody else has changed. Only the head is seen while another panel is shown.
-     * @param {(() => number) | null} back brings back what it was, if that is in no file
+     * Shows the script after a change from outside the editor. While a different panel is shown, only the head is redrawn.
+     * @param {(() => number) | null} back restores the replaced script if it was not saved, and returns the line to go to
      */
     load(back) {
         this.editor.current = Math.min(this.editor.current, this.lines.lines.length - 1);
@@ -156,7 +156,7 @@ class ScriptPanel {
         fill(count, before, n, element('span', { class: fault ? 'long' : 'hide' }, after));
     }
 
-    /** How many faults the script has, or how long it is. */
+    /** The number of errors in the script, or its length. */
     amount() {
         const { faults, long, patches, version } = this.lines;
         if (faults > 0) return told(texts.scriptFaultsOfScript, { n: faults });
@@ -173,7 +173,7 @@ class ScriptPanel {
         return fill(this.side, this.check.card, this.log);
     }
 
-    /** What is next while there is no change: with an image open, its patch. */
+    /** The card with the next steps while the script has no changes. If an image is open, the first one is to open its patch. */
     emptyCard() {
         const { app } = this;
         const open = (/** @type {string} */ looks, /** @type {string} */ words) => button(looks, () => this.opening.click(), words);
@@ -204,7 +204,7 @@ class ScriptPanel {
     }
 
     /**
-     * The button that shows where a patch is refused, or mends a faulty line; null if there is none.
+     * The button that shows the place of a refused patch, or corrects a faulty line; null if there is none.
      * @param {number} line
      */
     helpButton(line) {
@@ -251,7 +251,7 @@ class ScriptPanel {
     }
 
     /**
-     * Shows what the program prints, to who asks for it: it says “applied” of a trial too.
+     * Shows the log of the program on request: it says “applied” for a trial too.
      * @param {Uint8Array | null} bytes
      * @param {string} verb
      */

@@ -1,4 +1,4 @@
-// What a line of a script means, and what to do about a fault or a refusal, in plain words. [block] and [offset] stand for noted words.
+// Explains a line of a script, and how to correct an error or a refused patch. [block] and [offset] mark words that open a note.
 
 import { CONTENT, MOST_PATCHES, PATCH_SIZE, RESULT, USER_SIZE, VERB } from '../../core/module/index.js';
 import { NEWEST_VERSION, VERSIONS, contentOf, faultyWord, headLine, lacksDigit, lastBlockOf, wordsOf } from '../../core/script/index.js';
@@ -12,7 +12,7 @@ import { told } from '../texts/index.js';
 /** @typedef {import('../../core/script/model.js').ScriptLine} ScriptLine */
 /** A faulty line: its words, and the version of its script. */
 /** @typedef {{ words: string[], version: number, line: string, calls: import('../../core/module/calls.js').Calls }} Faulty */
-/** A sentence, and perhaps what a button would put in place of the line, or of the head line, with what the button says. */
+/** A sentence; and the lines with which a button replaces the line, or the head line, and its label, or null without a button. */
 /** @typedef {{ text: string, fix: { says: string, lines: string[], head?: true } | null }} Help */
 
 /** @type {Record<Verb, string>} */
@@ -26,7 +26,7 @@ const VERB_FORMS = {
 const FORMS = { ...VERB_FORMS, cdpatch: texts.scriptFormsOfHead };
 
 /**
- * What a patch does. `where` is the file it writes in, or ''.
+ * Describes a patch. `where` is the file that it writes to, or ''.
  * @param {PatchFields} patch
  * @param {string} where
  */
@@ -37,17 +37,17 @@ export function patchInWords({ verb, block, offset, size, value, address, old },
     const last = lastBlockOf({ block, offset, size });
     const inBlock = told(texts.scriptAtOffset, at);
     const inBlocks = last > block ? told(texts.scriptOverBorder, { place: inBlock, last: String(last) }) : inBlock;
-    // The size is a word of a script, without separators: n is not written, but chooses the form.
+    // The size is shown as in a script, without separators. The number n is not shown, but selects the plural form.
     const parts = { n: size, size: String(size), place: where ? told(texts.scriptInFile, { place: inBlocks, file: where }) : inBlocks };
     if (verb === VERB.FILL) return told(texts.scriptWriteByte, { ...parts, byte: value.toString(16).toUpperCase().padStart(2, '0') });
     return told(old ? texts.scriptWriteIfOldThere : texts.scriptWriteWhatever, parts);
 }
 
-/** @type {WeakMap<ScriptLine, Help>} that of faulty lines: it is asked for with each key */
+/** @type {WeakMap<ScriptLine, Help>} a cache for faulty lines, as each key press needs the help */
 const knownHelp = new WeakMap();
 
 /**
- * What to do about a faulty line.
+ * Explains how to correct a faulty line.
  * @param {ScriptLines} script
  * @param {number} i
  */
@@ -132,10 +132,10 @@ function helpOfOffset({ words }) {
 }
 
 /**
- * What to do about a refused patch, and what the button beside it says.
+ * Explains what to do about a refused patch. `says` is the label of the button beside it, or ''.
  * @param {number} result
  * @param {{ base: number, sectors: number }} image
- * @param {number} writer the line before it that has written where old bytes differ, or 0
+ * @param {number} writer the earlier line that has written where the old bytes differ, or 0
  * @returns {{ text: string, says: string }}
  */
 export function helpOfRefusal(result, { base, sectors }, writer) {

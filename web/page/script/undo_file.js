@@ -1,4 +1,4 @@
-// The script that takes the open one back, as a file.
+// Saves a script that undoes the open script.
 
 import { failedBy } from '../../core/faults.js';
 import { undoScript } from '../../core/tasks/index.js';
@@ -13,10 +13,10 @@ import { element, fill, isCancelled, isDisabled, jobBar, nameOf, notice, runAt, 
 /** @typedef {import('../app/script_lines.js').ScriptLines} ScriptLines */
 /** @typedef {import('../../core/tasks/undo.js').Undo} Undo */
 /** @typedef {import('../../core/tasks/undo.js').NoUndo} NoUndo */
-/** @typedef {{ bar: HTMLElement, said: HTMLElement }} UndoPlaces where the bar stands, and what became of it */
+/** @typedef {{ bar: HTMLElement, said: HTMLElement }} UndoPlaces the places of the progress bar and of the result */
 
 /**
- * Saves the script that takes this one back.
+ * Saves a script that undoes this one.
  * @param {App} app
  * @param {Element} from the button
  * @param {UndoPlaces} places
@@ -33,7 +33,7 @@ export async function makeUndo(app, from, places, lines, carry) {
  * @param {App} app
  * @param {Image} image
  * @param {UndoPlaces} places
- * @param {ScriptLines} lines which may be those of another script before the job ends
+ * @param {ScriptLines} lines which may change before the job ends
  * @param {boolean} carry
  */
 async function makeUndoAt(app, image, { bar: place, said }, lines, carry) {
@@ -69,7 +69,7 @@ function savedWords({ left, refused, script: { long } }, name, carry) {
 }
 
 /**
- * Why there is no such script.
+ * Explains why there is no undo script.
  * @param {NoUndo} made
  */
 function noUndoWords(made) {

@@ -15,7 +15,7 @@ import { SecondRepair } from './repair.js';
 export class SecondCard {
     /**
      * @param {App} app
-     * @param {() => void} changed the map shows something else
+     * @param {() => void} changed is called when the map has to be redrawn
      */
     constructor(app, changed) {
         this.app = app;
@@ -35,7 +35,7 @@ export class SecondCard {
         this.part = element('div', { class: 'side', hidden: true }, card, this.table);
     }
 
-    /** What the map is drawn from if it is of both images, else null. */
+    /** The marks of the map if it shows both images, else null. */
     model() {
         return this.app.second === null ? null : this.jobs[this.tab].model();
     }
@@ -46,7 +46,7 @@ export class SecondCard {
         focusAgain(byId('map'));
     }
 
-    /** It takes the place of the open image. The script stays. */
+    /** Opens the second image in place of the open image. The script is kept. */
     openInstead() {
         const { second } = this.app;
         if (second === null || refuseWhileSaving(this.app, [], this.said)) return;
@@ -55,7 +55,7 @@ export class SecondCard {
     }
 
     /**
-     * There is another second image, or none any more.
+     * Starts again after the second image was replaced or closed.
      * @param {Job} job
      */
     begin(job) {
@@ -98,7 +98,7 @@ export class SecondCard {
         /** @type {[Job, string][]} */
         const names = [['repair', texts.secondRepairFromIt], ['compare', texts.openCompareIt]];
         const { image, second } = this.app;
-        // A script changes no length, and no sector's place.
+        // A script cannot change the length of an image or move sectors, so images of different ranges are not compared.
         if (image === null || second === null || !isSameRange(image, second)) names.pop();
         this.tabs.hidden = names.length === 1;
         setAttribute(this.body, 'aria-label', this.tab === 'repair' ? texts.secondRepairFromIt : texts.openCompareIt);

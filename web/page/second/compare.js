@@ -1,4 +1,4 @@
-// Compare with a second image: where both differ, and the script from one to the other.
+// Compares with a second image: lists the differences, and writes the script from the open image to the second one.
 
 import { FIELD_COUNT, SECOND_STATE, findDifferences } from '../../core/tasks/index.js';
 import { downloadText, patchedName } from '../save/index.js';
@@ -68,7 +68,7 @@ export class SecondCompare extends PairJob {
         this.drawTable();
     }
 
-    /** @param {import('./script.js').Then} then what becomes of the script */
+    /** @param {import('./script.js').Then} then what to do with the script */
     write(then) {
         const { image, second } = this.app;
         if (image !== null && second !== null) {
@@ -77,7 +77,7 @@ export class SecondCompare extends PairJob {
         }
     }
 
-    /** Lists what differs, again as soon as the files are known. */
+    /** Lists the differences, and lists them again as soon as the files are known. */
     drawTable() {
         const { found, app: { files, second } } = this;
         if (found === null || second === null || found.sectors === 0) return;

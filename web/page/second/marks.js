@@ -1,4 +1,4 @@
-// What the map shows of two images: what a repair would take, or where they differ.
+// The marks of two images on the map: the sectors that can be repaired, or those that differ.
 
 import { SECOND_STATE } from '../../core/tasks/index.js';
 import { MARK, SURVEY_LOOKS } from '../app/index.js';
@@ -14,8 +14,8 @@ const FIRST_LOUD = MARK.ADDRESS;
 const LOUD_COLOURS = ['--f-address', '--f-edc', '--f-lost'];
 
 /**
- * @param {string} quiet what a sector of Mode 1 is called that is not loud
- * @param {string[]} names of what is loud: good, bad, other
+ * @param {string} quiet the name of Mode 1 sectors that are not loud
+ * @param {string[]} names of the loud looks: good, bad, other
  * @returns {Look[]}
  */
 function looksOf(quiet, names) {
@@ -60,7 +60,7 @@ export class PairMarks {
     }
 
     /**
-     * How many there are of a loud look.
+     * The number of sectors with a loud look.
      * @param {number} which
      */
     count(which) {
@@ -87,7 +87,7 @@ export function compareMarks(survey) {
 }
 
 /**
- * Adds what a range has.
+ * Adds the differences of a range.
  * @param {PairMarks} marks
  * @param {Differing} differing
  */

@@ -1,4 +1,4 @@
-// What both jobs with a second image have in common: each works once, with a bar, and shows what it found.
+// The base class of both jobs with a second image. Each job runs once, with a progress bar, and shows its result.
 
 import * as texts from '../texts/index.js';
 import { element, fill, jobBar } from '../ui/index.js';
@@ -7,24 +7,24 @@ import { element, fill, jobBar } from '../ui/index.js';
 /** @typedef {import('./marks.js').PairMarks} PairMarks */
 /** @typedef {{ signal: AbortSignal, progress: (done: number, all: number) => void }} Watch */
 
-/** A job with two images. It shows what it found in `body` and `table`, and on the map. */
+/** A job with two images. It shows its result in `body` and `table`, and on the map. */
 export class PairJob {
     /**
      * @param {App} app
-     * @param {() => void} changed the map shows something else
+     * @param {() => void} changed is called when the map has to be redrawn
      */
     constructor(app, changed) {
         this.app = app;
         this.changed = changed;
         this.body = element('div', { class: 'stack' });
         this.table = element('div');
-        /** Where a file is saved, or a script written. */
+        /** The place of the progress and the result of saving a file or writing a script. */
         this.place = element('div', { class: 'stack' });
         this.marks = /** @type {PairMarks | null} */ (null);
         this.begun = false;
     }
 
-    /** What the map is drawn from if it is of both images, else null. */
+    /** The marks of the map if it shows both images, else null. */
     model() {
         return this.marks;
     }
@@ -36,7 +36,7 @@ export class PairJob {
     }
 
     /**
-     * Compares both images, and shows what was found unless the second one is another by then. If that fails it can be begun again.
+     * Compares both images, and shows the result unless the second image has been replaced. After an error it can be started again.
      * @template Found
      * @param {(watch: Watch) => Promise<Found>} compare
      * @param {(found: Found) => Promise<void>} show

@@ -1,4 +1,4 @@
-// Repair from a second image: what it would take, shown before anything is saved.
+// Repairs the open image from a second image, and shows the result before anything is saved.
 
 import { pieceReader } from '../../core/piece_reader.js';
 import { blocksIn } from '../../core/sectors/index.js';
@@ -20,7 +20,7 @@ import { writeScript } from './script.js';
 /** @typedef {import('../../core/tasks/repair.js').Repair} Repair */
 /** @typedef {import('../../core/bytes.js').Piece} Piece */
 /** @typedef {import('../../core/sectors/runs.js').Run} Run */
-/** The pieces are those of the repaired image, and `unrepaired` has the blocks that are damaged or lost in it. */
+/** The repair, the pieces of the repaired image, and the blocks that are damaged or lost in it. */
 /** @typedef {{ repair: Repair, pieces: Piece[], unrepaired: Run[] }} Found */
 
 export class SecondRepair extends PairJob {
@@ -58,7 +58,7 @@ export class SecondRepair extends PairJob {
         });
     }
 
-    /** Shows what was found, on the map too. If the repair is refused nothing was found that is of use. */
+    /** Shows the result, on the map too. If the repair is refused, only the reason is shown. */
     draw() {
         const { found, app: { image, second, survey } } = this;
         if (found === null || image === null || second === null || survey === null) return;
@@ -71,7 +71,7 @@ export class SecondRepair extends PairJob {
     }
 
     /**
-     * What leads to the repair of the second image from the open one.
+     * The button that swaps the images, to repair the second image from the open one.
      * @param {Image} image
      * @param {Image} second
      */
@@ -81,7 +81,7 @@ export class SecondRepair extends PairJob {
     }
 
     /**
-     * What can be done with the repaired image, if something was repaired.
+     * The buttons for the repaired image; null if nothing was repaired.
      * @param {Image} image
      * @param {Found} found
      */
@@ -96,7 +96,7 @@ export class SecondRepair extends PairJob {
             texts.secondWriteRepairAsScript));
     }
 
-    /** Lists what is not repaired, again as soon as the files are known. */
+    /** Lists the sectors that are not repaired, and lists them again as soon as the files are known. */
     async drawTable() {
         const { found } = this;
         if (found === null) return;

@@ -20,7 +20,7 @@ const MOST_RUNS_NAMED = 8;
 export class RepairSaver {
     /**
      * @param {App} app
-     * @param {HTMLElement} place of the bar, and of what became of the image
+     * @param {HTMLElement} place of the progress bar and of the result
      */
     constructor(app, place) {
         this.app = app;
@@ -36,7 +36,7 @@ export class RepairSaver {
 
     /**
      * @param {Piece[]} pieces of the repaired image
-     * @param {number} taken how many sectors are repaired
+     * @param {number} taken the number of repaired sectors
      * @param {Run[]} unrepaired
      */
     save(pieces, taken, unrepaired) {
@@ -91,7 +91,7 @@ export class RepairSaver {
 }
 
 /**
- * The hash of a saved file, which is shown as soon as it is known.
+ * Shows the SHA-1 of a saved file as soon as it is calculated.
  * @param {App} app
  * @param {File} file
  * @param {number} size
@@ -107,7 +107,7 @@ function hashOf(app, file, size) {
 }
 
 /**
- * What was repaired, and what is still damaged.
+ * Says how many sectors were repaired, and which are still damaged.
  * @param {number} taken
  * @param {Run[]} unrepaired
  */

@@ -1,4 +1,4 @@
-// The table of the sectors that a repair leaves damaged, with what was found in both images.
+// The table of the sectors that a repair leaves damaged, with the findings in both images.
 
 import { readBytes } from '../../core/bytes.js';
 import { SECTOR_SIZE } from '../../core/module/index.js';
@@ -12,8 +12,8 @@ import { fileSayer } from './where.js';
 /** @typedef {import('../app/state.js').App} App */
 /** @typedef {import('../../core/sectors/runs.js').Run} Run */
 /**
- * A sector that is not repaired, with what was found in both images; `same` says whether both hold the same bytes, null if the second
- * image does not have the block.
+ * A sector that is not repaired, with the findings in both images. `same`: whether both hold the same bytes, null if the second image does
+ * not have the block.
  * @typedef {{ block: number, here: string, there: string, file: string, same: boolean | null }} DamageRow
  */
 
@@ -62,9 +62,9 @@ async function rowsOf(app, blocks) {
 }
 
 /**
- * What is said under the rows. Of a block that the second image does not have it says nothing.
+ * The text under the rows. It compares only blocks that the second image has.
  * @param {DamageRow[]} rows
- * @param {number} left how many blocks have no row
+ * @param {number} left the number of blocks without a row
  */
 function footOf(rows, left) {
     const more = left > 0 ? `${told(texts.secondMoreHaveNoRow, { n: left })} ` : '';

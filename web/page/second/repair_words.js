@@ -1,4 +1,4 @@
-// What is said of a repair: what it takes and what it leaves, or why it is refused.
+// The texts about a repair: how many sectors it repairs and how many stay damaged, or why it is refused.
 
 import { blocksIn } from '../../core/sectors/index.js';
 import { blocksText } from '../../sentences/index.js';
@@ -42,10 +42,10 @@ function shiftedWords({ by, first, isOther }, name) {
 }
 
 /**
- * What was found, in words.
+ * The result of a repair, in words.
  * @param {Repair} repair
  * @param {Run[]} unrepaired
- * @param {Child} otherWay what leads to the repair of the second image
+ * @param {Child} otherWay the button that starts the repair of the second image
  * @returns {Child[]}
  */
 export function foundWords(repair, unrepaired, otherWay) {

@@ -1,4 +1,4 @@
-// The script that leads from the open image to another one: it was applied by the proved calls before it is shown.
+// Writes the script from the open image to another image. The proved calls have applied it before it is shown.
 
 import { blocksIn } from '../../core/sectors/index.js';
 import { blocksText } from '../../sentences/index.js';
@@ -16,13 +16,13 @@ import { button, element, fill, isCancelled, jobBar, nameOf, notice, runAt, sent
 /** @typedef {Comparison['left'][number]} Left */
 /** @typedef {import('../ui/fill.js').Child} Child */
 
-/** What a script is written of: the open image, the other one, what that is called, and the name of the script's file. */
+/** The input of a script: the open image, a reader of the result, the result's name, and the name of the script's file. */
 /** @typedef {{ image: Image, fresh: Reader, goal: Child, name: string }} Wanted */
 
-/** What becomes of a script that was written: it is saved, opened in the panel Script, or what the user presses then. */
+/** The use of a written script: it is saved, it is opened in the panel Script, or the user decides (''). */
 /** @typedef {'save' | 'open' | ''} Then */
 
-/** A longer script is only saved. */
+/** A script with more bytes can only be saved. */
 const LONGEST_SHOWN = 1 << 24;
 const MOST_LEFT_NAMED = 8;
 
@@ -30,7 +30,7 @@ const MOST_LEFT_NAMED = 8;
 const last = { blob: new Blob(), name: '' };
 
 /**
- * Writes the script, and says in a place how it went.
+ * Writes the script, and shows the result in `place`.
  * @param {App} app
  * @param {HTMLElement} place
  * @param {Wanted} wanted
@@ -74,11 +74,11 @@ async function writeScriptAt(app, place, wanted, then, skipDamaged) {
 }
 
 /**
- * What can be done with a script. One that is too long to be shown is only saved.
+ * The actions for a script. A script that is too long to be shown can only be saved.
  * @param {App} app
  * @param {Script} script
  * @param {string} name
- * @param {HTMLElement} said where it says that it was saved
+ * @param {HTMLElement} said shows that the script was saved
  * @returns {{ open?: () => void, save?: () => void }}
  */
 function doesWith(app, { pieces, size, long }, name, said) {
@@ -98,9 +98,9 @@ function doesWith(app, { pieces, size, long }, name, said) {
 
 /**
  * @param {Script} script
- * @param {Left[]} left what the script does not say
+ * @param {Left[]} left the differences that are not in the script
  * @param {Wanted} wanted
- * @param {{ open?: () => void, save?: () => void }} does what buttons do with it
+ * @param {{ open?: () => void, save?: () => void }} does the actions of the buttons
  * @param {HTMLElement} said
  */
 function written({ size, patches, long }, left, { image, goal }, { open, save }, said) {
@@ -115,7 +115,7 @@ function written({ size, patches, long }, left, { image, goal }, { open, save },
 }
 
 /**
- * Why sectors are left, all for one reason.
+ * Says why sectors are left out. All have the same reason.
  * @param {Left[]} runs
  */
 function leftText(runs) {
@@ -124,7 +124,7 @@ function leftText(runs) {
 
 /**
  * @param {Comparison} compared
- * @param {() => void} again without the damaged ones
+ * @param {() => void} again writes the script without the damaged sectors
  */
 function refusedScript({ left, tail }, again) {
     const damaged = left.filter(it => it.why === 'damaged');

@@ -1,4 +1,4 @@
-// One sector of the second image, and what a repair does with it.
+// Reads a sector of the second image, and finds out whether a repair uses it.
 
 import { readBytes } from '../../core/bytes.js';
 import { SECTOR_SIZE } from '../../core/module/index.js';
@@ -20,7 +20,7 @@ export async function sectorOfSecond({ image, second }, block) {
 }
 
 /**
- * Whether a repair from the second image takes the sector of a block: '' as long as that is not known, or if it is refused.
+ * Whether a repair copies the sector of a block from the second image: '' while that is not known, or if the repair is refused.
  * @param {App} app
  * @param {number} block
  * @returns {'' | 'taken' | 'doubtful' | 'none'}

@@ -1,4 +1,4 @@
-// In which file of the open image a block lies, as the tables of two images say it.
+// Finds the file of the open image that contains a block, for the tables of two images.
 
 import { filesAt } from '../../core/iso/index.js';
 import { USER_SIZE } from '../../core/module/index.js';
@@ -10,7 +10,7 @@ import { shownName } from '../ui/index.js';
 const OWN = { descriptor: texts.sectorVolumeDescriptor, directory: texts.sectorInDirectory };
 
 /**
- * Says of blocks in which file each lies. It looks through the files again only if a block lies elsewhere than the one before.
+ * Returns a function that names the file of a block. It searches the files again only if a block is outside the range of the last search.
  * @param {VolumeFiles | null} volume null if its files are not known
  * @returns {(block: number) => string}
  */

@@ -1,4 +1,4 @@
-// Closing the open image, with all that was done with it.
+// Closes the open image, and discards all work on it.
 
 import * as texts from '../texts/index.js';
 import { say } from '../texts/index.js';
@@ -7,7 +7,7 @@ import { asked, byId, lostByClosing, nameOf, refuseWhileSaving } from '../ui/ind
 /** @typedef {import('../app/state.js').App} App */
 
 /**
- * Closes the open image; if work would be lost then, only if the user says so.
+ * Closes the open image. If work would be lost, asks the user first.
  * @param {App} app
  */
 export async function closeImage(app) {

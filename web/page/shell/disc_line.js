@@ -1,4 +1,4 @@
-// The line with the open image, which stands over every panel; and on the Disc panel the verdict, or how far reading has come.
+// The line about the open image above every panel. On the Disc panel it also has the verdict, or the progress of reading.
 
 import { LAST_BASE, SECTOR_SIZE } from '../../core/module/index.js';
 import { MARK, lookOf } from '../app/index.js';
@@ -48,7 +48,7 @@ export function mountDiscLine(app) {
 }
 
 /**
- * Parts that are the same elements when they are drawn again.
+ * Gives parts a key, so that their elements are kept when they are redrawn.
  * @param {string} name
  * @param {Child[]} parts
  */
@@ -132,7 +132,7 @@ function trackChoice(app, image) {
 }
 
 /**
- * What stands in the place of a hash, as long as that: nothing moves when it is known.
+ * A placeholder with the length of a hash, so that nothing moves when the hash is known.
  * @param {Image} image
  * @param {{ hashed: number }} drawn
  * @param {number} length
@@ -146,7 +146,7 @@ function shaWaits({ reader }, { hashed }, length) {
 /**
  * @param {Image} image
  * @param {{ hashed: number }} drawn
- * @param {number} length how many digits are shown
+ * @param {number} length the number of digits shown
  * @returns {Child[]}
  */
 function shaOf(image, drawn, length) {
@@ -159,7 +159,7 @@ function shaOf(image, drawn, length) {
 }
 
 /**
- * Asks for another base, in place of the facts.
+ * Asks for a new base, in place of the facts.
  * @param {App} app
  * @param {{ changing: boolean, redraw: () => void }} drawn
  */
@@ -200,7 +200,7 @@ function leadOf(app) {
 }
 
 /**
- * What is said if the volume goes on after the end of the image.
+ * Says that the volume continues after the end of the image; false if it does not.
  * @param {Surveyed} survey
  */
 function lackWords({ lack }) {
@@ -233,7 +233,7 @@ function progressOf(app, { sectors, reader }, { known, began }) {
 }
 
 /**
- * What was found, in one sentence.
+ * The findings in one sentence, and buttons for the next step.
  * @param {App} app
  * @param {Image} image
  * @param {Surveyed} survey
@@ -261,9 +261,9 @@ function verdict(app, image, { marks }) {
 }
 
 /**
- * How many sectors are damaged, and where.
+ * Says how many sectors are damaged, and where.
  * @param {import('../app/marks.js').SurveyMarks} marks
- * @param {string[]} others what else was found
+ * @param {string[]} others the other findings
  */
 function damageVerdict(marks, others) {
     const hurt = placesOf(marks).filter(it => it.counts[MARK.EDC] + it.counts[MARK.PARITY] > 0);
@@ -274,10 +274,10 @@ function damageVerdict(marks, others) {
 }
 
 /**
- * What is said if the base is probably another one.
+ * The verdict if the base is probably wrong, and a button that sets it.
  * @param {App} app
  * @param {Image} image
- * @param {number} base
+ * @param {number} base the probable base
  * @param {number} damaged
  * @returns {Child[]}
  */

@@ -1,4 +1,4 @@
-// The notes that the bar and the foot open: About, what is proved, the keys, and the words.
+// The notes that are opened from the bar and the footer: About, what is proved, the keys, and the words.
 
 import { inflatedText, sha256Of } from '../app/index.js';
 import { pageSource } from '../player/index.js';
@@ -29,7 +29,7 @@ export function mountHelp(app) {
     if ('popover' in HTMLElement.prototype) keepTouches();
 }
 
-/** A finger beside an open note closes it, and presses nothing that lies there. */
+/** Makes a touch beside an open note close it without pressing anything there. */
 function keepTouches() {
     let closes = false;
     document.addEventListener('pointerdown', ({ pointerType, target }) => {
@@ -60,7 +60,7 @@ function keyRow([keys, does]) {
     return [element('dt', {}, ...keysIn(keys)), element('dd', {}, does)];
 }
 
-/** The words of the page: those that have a note elsewhere too come last, with its text. */
+/** The words of the page. Words that also have their own note come last, with the text of the note. */
 function wordRows() {
     const notes = [...document.querySelectorAll('[popover][id^="term-"]')].map(note => [...note.children].map(it => it.textContent));
     return [...texts.WORDS, ...notes].flatMap(([name, text]) =>
@@ -68,7 +68,7 @@ function wordRows() {
 }
 
 /**
- * The SHA-256 of this page, which is calculated when About is opened.
+ * The SHA-256 of this page. It is calculated when About is first opened.
  * @param {App} app
  */
 function ownHash(app) {
@@ -94,7 +94,7 @@ async function ownDigits({ calls }) {
     }
 }
 
-/** The notices of the crates that the module is made of. */
+/** The third-party notices of the crates in the module. */
 function notices() {
     const text = element('pre', { class: 'notices', tabindex: 0, 'aria-label': texts.frameNotices });
     const part = element('details', {}, element('summary', {}, texts.frameThirdPartyNotices), text);

@@ -1,4 +1,4 @@
-// What stands around the panels.
+// The frame around the panels.
 
 export { mountDiscLine } from './disc_line.js';
 export { mountHelp } from './help.js';

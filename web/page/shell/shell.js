@@ -1,4 +1,4 @@
-// What stands round the panels: the tabs, the notes that open, and the keys that work anywhere.
+// The frame around the panels: the tabs, the notes, and the keys that work everywhere.
 
 import { PANELS } from '../app/index.js';
 import { byId, endMessages, endSavingNotices, escapeJob, oneStop, setAttribute } from '../ui/index.js';
@@ -20,7 +20,7 @@ export function mountFrame(app) {
 }
 
 /**
- * Ends what was said on a panel that is shown no more.
+ * Removes the messages of a panel that is no longer shown.
  * @param {App} app
  * @param {{ panel: PanelName }} frame
  */
@@ -38,7 +38,8 @@ function panelOfTab(tab) {
 }
 
 /**
- * Shows the chosen panel. If no image is open the start stands in place of the Disc panel, and of all until there is a script or an image.
+ * Shows the chosen panel. Without an open image, the start is shown instead of the Disc panel. Until there has been a script or an image,
+ * it is shown instead of any panel.
  * @param {App} app
  * @param {{ started: boolean }} frame
  */
@@ -67,7 +68,7 @@ function pressed(event) {
     }
 }
 
-/** Whether a note is open. A browser that has no notes knows no such selector. */
+/** Whether a note is open. A browser without popovers does not know the selector. */
 function isNoteOpen() {
     return 'popover' in HTMLElement.prototype && document.querySelector(':popover-open') !== null;
 }

@@ -1,4 +1,4 @@
-// The tracks of a disc in words, those of audio too.
+// Describes the tracks of a disc, including audio tracks.
 
 import { sheetOf } from '../../core/disc/index.js';
 import * as texts from '../texts/index.js';
@@ -11,7 +11,7 @@ import { namesOf } from '../ui/index.js';
 const MOST_NAMES = 3;
 
 /**
- * The tracks that the cue sheet of an image names, as '1 data track, 1 audio track (t2.bin, not opened for editing)'.
+ * The tracks in the cue sheet of an image, for example '1 data track, 1 audio track (t2.bin, not opened for editing)'.
  * @param {Image} image from a cue sheet
  * @returns {Child[]}
  */

@@ -1,4 +1,4 @@
-// The bytes round a hit, in hex and as text.
+// The card with the bytes around a hit, in hexadecimal and as text.
 
 import { USER_SIZE } from '../../core/module/index.js';
 import { bytesAround, bytesInside, charactersFrom } from '../../core/texts/index.js';
@@ -11,19 +11,19 @@ import { chosenEncoding, columnLabel, encodingLabel, signOf } from './encodings.
 /** @typedef {import('../../core/tasks/opened.js').OpenedTrack} OpenedTrack */
 /** @typedef {import('../../core/encodings/encoding.js').Encoding} Encoding */
 /** @typedef {import('../../core/texts/find.js').Hit} Hit */
-/** User data from the first byte of a block on; the hit begins at a place of it. */
+/** User data from the first byte of a block, and the index at which the hit begins. */
 /** @typedef {{ bytes: Uint8Array, at: number }} Around */
 
 const NARROW_CARD = 560;
 const ROWS_BEFORE = 4;
 const ROWS = 9;
 
-/** The bytes before a hit and after it that the rows may show. */
+/** The maximum number of bytes shown before a hit and after it. */
 const BYTES_BEFORE = 64;
 const BYTES_AFTER = 160;
 
 /**
- * What the card shows of a hit.
+ * Reads the bytes that the card shows for a hit.
  * @param {OpenedTrack} opened
  * @param {Hit} hit
  * @returns {Promise<Around>}
@@ -33,7 +33,7 @@ export async function readAround(opened, hit) {
     return bytesAround(image, hit, hit.offset + (hit.offset < BYTES_BEFORE ? USER_SIZE : 0), hit.size + BYTES_AFTER);
 }
 
-/** The card. It is drawn anew if its width fits rows of another length. */
+/** The card. It is redrawn if rows of a different length fit after its width has changed. */
 export class AroundCard {
     /** @param {App} app */
     constructor(app) {
@@ -46,7 +46,7 @@ export class AroundCard {
         }).observe(this.card);
     }
 
-    /** How many bytes of a row the card has room for. */
+    /** The number of bytes per row for which the card has room. */
     fitting() {
         const { clientWidth } = this.card;
         if (clientWidth === 0) return this.columns;
@@ -110,11 +110,11 @@ function byteBox(byte, hit) {
 }
 
 /**
- * For each byte the character that begins at it: '' inside one, '·' if there is none to show. What is before the hit, the hit and what is
- * after it are read apart, since a hit may begin inside a character of what is before it.
+ * Returns for each byte the character that begins at it: '' inside a character, '·' if it is not visible. The bytes before the hit, the
+ * hit, and the bytes after it are decoded separately, since a hit may begin inside a character of the bytes before it.
  * @param {Encoding} encoding
  * @param {Uint8Array} user
- * @param {number[]} ends where the first of these parts begins, and where each ends
+ * @param {number[]} ends the start of the first of these three parts, and the end of each
  * @returns {string[]}
  */
 function rowTexts(encoding, user, ends) {

@@ -1,4 +1,4 @@
-// The encodings that can be chosen.
+// The encodings that the user can choose, and the tables that add to them.
 
 import { ENCODINGS, USUAL_ENCODING, encodingOf, linesLeftOut, tableEncoding, tableTextOf } from '../../core/encodings/index.js';
 import * as texts from '../texts/index.js';
@@ -9,11 +9,11 @@ import { capital, element, fill, messageOf, nameOf, notice, showNotice, shownNam
 /** @typedef {import('../../core/encodings/encoding.js').Encoding} Encoding */
 /** @typedef {import('../ui/fill.js').Child} Child */
 
-/** @type {WeakMap<Encoding, string>} the texts of tables */
+/** @type {WeakMap<Encoding, string>} the source texts of tables */
 const sources = new WeakMap();
 
 /**
- * The text of the table that an encoding is, undefined if it is none.
+ * The source text of an encoding that is a table; undefined for any other encoding.
  * @param {Encoding} encoding
  */
 export function tableSource(encoding) {
@@ -32,7 +32,7 @@ export function chosenEncoding({ encoding, tables }) {
 }
 
 /**
- * The name of an encoding, or of a table, for people.
+ * The displayed name of an encoding or a table.
  * @param {string} name
  */
 export function encodingLabel(name) {
@@ -42,7 +42,7 @@ export function encodingLabel(name) {
 }
 
 /**
- * The name of an encoding over a column of texts. Beside 8 bytes there is no room for what stands in brackets.
+ * The name of an encoding above a column of texts. Beside 8 bytes there is no room for the part in brackets.
  * @param {string} label
  * @param {number} columns
  */
@@ -51,7 +51,7 @@ export function columnLabel(label, columns) {
 }
 
 /**
- * A character as it is shown: a point if it has no sign.
+ * A character as it is displayed: a dot if it is not visible.
  * @param {string} text
  */
 export function signOf(text) {
@@ -59,7 +59,7 @@ export function signOf(text) {
 }
 
 /**
- * Puts the encodings into a list of choices, and keeps both alike.
+ * Fills a select element with the encodings, and keeps it and the chosen encoding in step.
  * @param {App} app
  * @param {HTMLSelectElement} choice
  * @param {(encoding: Encoding) => boolean} [isOffered]
@@ -76,7 +76,7 @@ export function bindEncodings(app, choice, isOffered = () => true) {
 }
 
 /**
- * Makes the table in a file the encoding from now on. Returns what is said of it.
+ * Reads a table from a file, and makes it the chosen encoding. Returns the parts of a notice about it.
  * @param {App} app
  * @param {File} file
  * @returns {Promise<['good' | 'bad', Child[], string]>}
@@ -96,7 +96,8 @@ export async function takeTable(app, file) {
 }
 
 /**
- * What takes the tables of characters that are opened: at once, so that a script is shown in that encoding before there is an image.
+ * Returns the handler of opened character tables. A table is used at once, so that a script is shown in its encoding before an image is
+ * open.
  * @param {App} app
  * @param {(words: HTMLElement) => void} show on the panel
  * @returns {import('../app/state.js').Taker}

@@ -1,4 +1,4 @@
-// The lines of a script that replace hits of a search.
+// Generates the lines of a script that replace the hits of a search.
 
 import { MOST_PATCHES } from '../../core/module/index.js';
 import { linesMade } from '../../core/script/index.js';
@@ -11,7 +11,7 @@ import { remarkText } from '../texts/index.js';
 /** @typedef {import('../../core/tasks/find.js').Places} Places */
 /** @typedef {import('../../core/tasks/opened.js').OpenedTrack} OpenedTrack */
 
-/** Most hits that are kept: as many as a script has lines for. */
+/** The maximum number of hits that are kept: a script cannot have more patches. */
 export const MOST_HITS = MOST_PATCHES;
 
 /** @param {Lines} lines */
@@ -20,11 +20,11 @@ export function textLines({ text }) {
 }
 
 /**
- * The lines that replace several hits, and why others have none.
+ * Generates the lines that replace several hits, and the reasons why hits are left out.
  * @param {Engine} engine
  * @param {OpenedTrack} opened
  * @param {Places} places
- * @param {(size: number) => Uint8Array} freshFor the new bytes for a number of old ones. Throws a Fault if they do not fit
+ * @param {(size: number) => Uint8Array} freshFor returns the new bytes for a number of old bytes; throws a Fault if they do not fit
  * @param {Watch} watch
  */
 export async function linesForAll(engine, opened, places, freshFor, watch) {

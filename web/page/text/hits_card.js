@@ -1,4 +1,4 @@
-// The table of hits, with the file and what stands round each.
+// The table of hits, with the file and the context of each.
 
 import { USER_SIZE } from '../../core/module/index.js';
 import { contextOf, contextsOf, filesWith, shownCell } from '../../core/texts/index.js';
@@ -13,18 +13,18 @@ import { chosenEncoding, signOf } from './encodings.js';
 /** @typedef {import('../../core/encodings/encoding.js').Encoding} Encoding */
 /** @typedef {import('../../core/texts/find.js').Hit} Hit */
 /** @typedef {import('../ui/fill.js').Child} Child */
-/** What a search found: `image` is what was searched; all hits are counted, and `hits` are those that are kept. */
+/** The result of a search in `image`: `count` is the number of all hits, and `hits` are those that are kept. */
 /**
  * @typedef {{ text: string, encoding: Encoding, image: OrderedImage, count: number, hits: Hit[], seconds: number }} Search
  */
 
 const ROWS_SHOWN = 200;
 
-/** The characters that are shown before a hit and after it, and the bytes that are read for these. */
+/** The number of characters shown before a hit and after it, and of bytes read after it. */
 const CHARACTERS_BEFORE = 14;
 const CHARACTERS_AFTER = 24;
 const BYTES_AFTER = 48;
-/** Hits that are read at a time. */
+/** The number of hits whose contexts are read at a time. */
 const HITS_AT_ONCE = 25;
 
 /** @param {string[]} characters */
@@ -46,7 +46,7 @@ export class HitsCard {
         this.shown = ROWS_SHOWN;
         /** @type {Map<number, Context>} */
         this.contexts = new Map();
-        /** Of those who read contexts, the number of the last one: the others end. */
+        /** The number of the last call of `readContexts`: earlier calls end early. */
         this.reader = 0;
         this.body = element('tbody', {});
         oneStop(this.body, 'button');
@@ -85,7 +85,7 @@ export class HitsCard {
         return element('div', { class: 'pad' }, next);
     }
 
-    /** Draws the rows, which say of the hits in the script in which line they are. */
+    /** Draws the rows. A hit that the script replaces has a tag with the line. */
     draw() {
         const { search, app: { script } } = this;
         if (search === null) return;
@@ -129,7 +129,7 @@ export class HitsCard {
     }
 
     /**
-     * Reads what stands round the hits that are shown, and puts it into their rows.
+     * Reads the contexts of the hits that are shown, and puts them into their rows.
      * @param {Search} search
      */
     async readContexts({ image, hits }) {
@@ -155,13 +155,13 @@ export class HitsCard {
         if (waiting) waiting.replaceWith(...this.context(i).filter(it => it instanceof Node).map(it => /** @type {Node} */ (it)));
     }
 
-    /** They are those of another encoding. */
+    /** Discards the contexts after a change of the encoding. */
     forgetContexts() {
         this.contexts.clear();
         this.reader += 1;
     }
 
-    /** The hits as a table, for a spreadsheet: block, offset, file, and the text round each. */
+    /** The hits as a table for a spreadsheet: block, offset, file, and the text around each hit. */
     async table() {
         const { search, app: { image, files } } = this;
         if (search === null || image === null) return '';

@@ -1,4 +1,4 @@
-// The panel Text: find, the hits, and replacing them in the script.
+// The panel Text: finds texts, lists the hits, and adds lines to the script that replace them.
 
 import { filledUp, replaceBytes } from '../../core/tasks/index.js';
 import * as texts from '../texts/index.js';
@@ -82,7 +82,7 @@ class TextPanel {
         this.hint, this.search.place, this.texts.part);
     }
 
-    /** The bytes of the text that is searched for, or why it has none. */
+    /** Shows the bytes of the search text, or why it has none. */
     drawHint() {
         if (this.field.value === '') return fill(this.hint,
             ...say(texts.textSearchesEverySector, { data: term('user', texts.textSearchedData) }));
@@ -98,7 +98,7 @@ class TextPanel {
         }
     }
 
-    /** Shows the hits only as long as they are those of the text and the encoding that are asked for. */
+    /** Shows the hits only while they belong to the entered text and the chosen encoding. */
     drawAsked() {
         this.drawHint();
         if (!this.search.running && !this.adding) fill(this.state);
@@ -110,7 +110,7 @@ class TextPanel {
     }
 
     /**
-     * Whether a search was for the text and in the encoding that are asked for. Hits of bytes can be read in any encoding.
+     * Whether a search was for the entered text in the chosen encoding. Hits of bytes can be read in any encoding.
      * @param {{ text: string, encoding: Encoding }} search
      */
     isAsked({ text, encoding }) {
@@ -164,7 +164,7 @@ class TextPanel {
         this.replace.input.focus();
     }
 
-    /** Draws the hits again, for the script or the files have changed. */
+    /** Redraws the hits after a change, for example of the script or the files. */
     drawHits() {
         if (this.found === null || this.app.panel !== 'text') return;
         this.hits.draw();
@@ -173,7 +173,7 @@ class TextPanel {
     }
 
     /**
-     * What the script writes of the hits: how many it leaves, and the line that writes one of them, or 0.
+     * The number of hits that the script does not write, and the line of the script that writes `hit`, or 0.
      * @param {Hit} hit
      * @param {Search} found
      */
@@ -183,7 +183,7 @@ class TextPanel {
     }
 
     /**
-     * Shows a hit, to be replaced.
+     * Shows a hit in the card that replaces it.
      * @param {number} index
      */
     async choose(index) {
@@ -201,7 +201,7 @@ class TextPanel {
         this.around.show(hit, around);
     }
 
-    /** Goes to the next hit that is in no line of the script. */
+    /** Goes to the next hit that the script does not write. */
     async next() {
         const { found } = this;
         if (found === null) return;
@@ -216,7 +216,7 @@ class TextPanel {
         sayAt(this.replace.said, notice('good', texts.textAllHitsInScript, texts.textCheckToTest));
     }
 
-    /** @param {() => Promise<void>} job that makes lines, of which one runs at a time */
+    /** @param {() => Promise<void>} job that generates lines; only one runs at a time */
     async alone(job) {
         if (this.adding) return;
         this.adding = true;
@@ -243,7 +243,7 @@ class TextPanel {
     }
 
     /**
-     * Adds lines for each hit that is in no line of the script. Those that can't be replaced so are said.
+     * Adds lines for each hit that the script does not write, and lists the hits that cannot be replaced.
      * @param {Uint8Array} fresh
      * @param {Uint8Array | null} filling
      */

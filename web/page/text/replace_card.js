@@ -1,4 +1,4 @@
-// The card that replaces a hit: the new text, its length beside that of the old one, and the line that goes into the script.
+// The card that replaces a hit: the new text, its length compared with the old text, and the line that is added to the script.
 
 import { encodeText, fillsOf, spaceIn } from '../../core/encodings/index.js';
 import { bytesOfHex, hexText } from '../../core/hex_digits.js';
@@ -14,7 +14,8 @@ import { textLines } from './hits.js';
 /** @typedef {import('../ui/fill.js').Child} Child */
 /** @typedef {import('../../core/encodings/encoding.js').Encoding} Encoding */
 /**
- * A hit to replace in what was searched: its number from 1, of how many; its old bytes; and how many hits are in no line of the script yet.
+ * A hit to replace in the searched image: its number, from 1, of `of` hits; its old bytes; the number of hits that the script does not
+ * write yet; and the line of the script that writes this hit, or 0.
  * @typedef {{ image: import('../../core/disc/disc.js').OrderedImage, hit: Hit, number: number, of: number, old: Uint8Array, left: number,
  *     line: number }} Target
  */
@@ -27,7 +28,7 @@ const MOST_BOXES = 40;
 
 const SPACES = { '': '', space: texts.textSpaceFill, 'wide-space': texts.textWideSpaceFill };
 
-/** What is filled with if there is no space, until somebody has chosen. */
+/** The initial choice of a fill if the encoding has no space. */
 const NO_FILL = 'none';
 const OTHER_FILL = '';
 
@@ -44,7 +45,7 @@ export class ReplaceCard {
         this.input = element('input', { type: 'text', class: 'mono', id: 'new-text', autocomplete: 'off', spellcheck: 'false',
             'aria-describedby': 'new-length', input: () => this.draw(), keydown: event => this.pressed(event) });
         this.fill = element('select', { class: 'short', 'aria-label': texts.textFillWith, change: () => this.draw() });
-        this.filled = /** @type {Encoding | null} the one to which the choices belong */ (null);
+        this.filled = /** @type {Encoding | null} the encoding to which the choices belong */ (null);
         this.other = element('input', { type: 'text', class: 'short mono', 'aria-label': texts.textByteToFillWith,
             maxlength: 2, value: 'FF', hidden: true, input: () => this.draw() });
         this.head = element('header', {});
@@ -71,7 +72,7 @@ export class ReplaceCard {
         this.draw();
     }
 
-    /** The new bytes, or why there are none. */
+    /** The new bytes, or the error if the text cannot be encoded. */
     fresh() {
         try {
             return { bytes: encodeText(chosenEncoding(this.app), this.input.value), fault: '' };
@@ -80,7 +81,7 @@ export class ReplaceCard {
         }
     }
 
-    /** Offers what the encoding has to fill with, its space first. */
+    /** Offers the fills of the encoding, its space first. */
     drawFills() {
         const encoding = chosenEncoding(this.app);
         if (this.filled === encoding) return;
@@ -90,7 +91,7 @@ export class ReplaceCard {
         fill(this.fill, ...[...choices, [OTHER_FILL, texts.textAnotherByte]].map(([value, label]) => element('option', { value }, label)));
     }
 
-    /** The bytes to fill with, or null if they are no byte. */
+    /** The bytes to fill with, or null if they are not valid hexadecimal digits. */
     filling() {
         const digits = this.fill.value || this.other.value;
         return /^([0-9A-Fa-f]{2})+$/.test(digits) ? bytesOfHex(digits) : null;
@@ -140,12 +141,12 @@ export class ReplaceCard {
     }
 
     /**
-     * What goes into the script, or why nothing does.
+     * Shows the line that is added to the script, or why there is none.
      * @param {Uint8Array} bytes
      * @param {Uint8Array} old
      * @param {Uint8Array | null} filled
      * @param {string} fault
-     * @param {number} line of the script in which the hit is already, or 0
+     * @param {number} line of the script that already writes the hit, or 0
      * @returns {Child[]}
      */
     advice(bytes, old, filled, fault, line) {
@@ -166,7 +167,7 @@ export class ReplaceCard {
     }
 
     /**
-     * What would take the place of the line of the script that writes just this hit; '' if there is no such line.
+     * The replacement for the line of the script that writes exactly this hit; '' if there is no such line.
      * @param {Target} target
      * @param {Uint8Array} fresh
      */
@@ -213,7 +214,7 @@ function filledTo(fresh, size, filling) {
 }
 
 /**
- * A box for each byte: what fits, what is filled, and what is too much.
+ * A box for each byte, which shows whether it fits, is a fill, or is too much; null if there are too many bytes.
  * @param {Uint8Array} bytes
  * @param {number} size
  * @param {Uint8Array | null} filling

@@ -1,4 +1,4 @@
-// The search of the panel Text: one at a time, with its bar.
+// The search of the panel Text. One search runs at a time, with a progress bar.
 
 import { findText } from '../../core/tasks/index.js';
 import * as texts from '../texts/index.js';
@@ -9,7 +9,7 @@ import { MOST_HITS } from './hits.js';
 /** @typedef {import('../app/state.js').Image} Image */
 /** @typedef {import('./hits_card.js').Search} Search */
 
-/** The search that runs, if one does. Its bar stands at `place`. */
+/** The current search, if any. Its progress bar is at `place`. */
 export class SearchJob {
     /** @param {App} app */
     constructor(app) {
@@ -20,7 +20,7 @@ export class SearchJob {
         this.cancel = () => {};
     }
 
-    /** Ends the search that runs, whose hits nobody waits for any more. */
+    /** Cancels the current search, whose hits are no longer needed. */
     end() {
         this.number += 1;
         this.running = false;
@@ -29,7 +29,8 @@ export class SearchJob {
     }
 
     /**
-     * What a search finds; null if it was ended by another one, or its image was closed. Throws a Fault, `cancelled`, if it was cancelled.
+     * Searches an image. Returns null if a new search has replaced this one, or the image was closed. Throws a Fault, `cancelled`, if it
+     * was cancelled.
      * @param {Image} image
      * @param {Pick<Search, 'text' | 'encoding'>} asked
      * @returns {Promise<Search | null>}

@@ -1,4 +1,4 @@
-// All texts of the disc as a table: it is saved for a translator, and from one with new texts lines of the script are made.
+// Saves all texts of the disc as a table for a translator, and generates lines of the script from a table with new texts.
 
 import { SEARCHED, encodingOf, usualBytes } from '../../core/encodings/index.js';
 import { linesMade } from '../../core/script/index.js';
@@ -23,7 +23,7 @@ import { isWritten, withdrawnLines } from './withdrawn.js';
 /** @typedef {import('../../core/tasks/list.js').ListRow} ListRow */
 /** @typedef {import('../ui/fill.js').Child} Child */
 
-/** Rows that do not fit which stand in the document, and codes that new texts leave out which are named. */
+/** The maximum number of rows that do not fit, and of codes that new texts leave out, that are listed. */
 const MOST_ROWS = 200;
 const MOST_CODES = 20;
 
@@ -33,7 +33,7 @@ function codeWords(code) {
 }
 
 /**
- * What became of the lines of a table: of each only what there is.
+ * How many lines of a table were added, replaced lines, or were there already. Numbers that are 0 are left out.
  * @param {import('../../core/script/merge_lines.js').Merged} merged
  */
 function mergedWords({ added, replaced, same }) {
@@ -41,7 +41,7 @@ function mergedWords({ added, replaced, same }) {
         same > 0 && told(texts.textLinesAsBefore, { n: same })].flatMap(words => words || []);
 }
 
-/** The buttons, what they say, and the rows that do not fit. */
+/** The buttons for tables, their messages, and the rows that do not fit. */
 export class TextsTable {
     /** @param {App} app */
     constructor(app) {
@@ -69,10 +69,10 @@ export class TextsTable {
     }
 
     /**
-     * Does a job with the open image, with its bar, and says what came of it.
+     * Runs a job on the open image with a progress bar, and shows its result.
      * @param {string} name of the job
-     * @param {string} noun what it counts
-     * @param {string} unmade what is said if it fails
+     * @param {string} noun the things that it counts, in the plural
+     * @param {string} unmade the message if it fails
      * @param {(image: Image, bar: ReturnType<typeof jobBar>, signal: AbortSignal) => Promise<Child>} job
      */
     async work(name, noun, unmade, job) {
@@ -97,7 +97,7 @@ export class TextsTable {
         });
     }
 
-    /** In which encoding texts are told: those that are usual, if none of them or none with characters is chosen. */
+    /** The encoding of the texts: the usual ones ({}) if one of these is chosen, or one without characters; else the chosen one. */
     asked() {
         const encoding = chosenEncoding(this.app);
         const table = tableSource(encoding);
@@ -140,7 +140,7 @@ export class TextsTable {
     }
 
     /**
-     * Makes lines of a table in a file, and shows the rows that do not fit.
+     * Generates lines of the script from a table in a file, and shows the rows that do not fit.
      * @param {File} file
      */
     take(file) {
@@ -227,7 +227,7 @@ export class TextsTable {
     }
 
     /**
-     * How many bytes the old text of a row would have, 1 if it has none.
+     * The number of bytes of a row's old text; 1 if it has none or cannot be encoded.
      * @param {ListRow} row
      */
     sizeOf({ encoding, text }) {

@@ -1,4 +1,4 @@
-// The lines of the script that write where a table has no new text: those of an earlier table, of which it was taken out since.
+// Finds lines of the script that write where a table has no new text. They come from an earlier table that still had the new text.
 
 import { linesGivingWayInTurns } from '../../core/script/index.js';
 
@@ -15,7 +15,7 @@ export function isWritten({ script }, { block, offset }) {
 }
 
 /**
- * The lines of the script in the place of these, but for those that have come just now.
+ * The generated lines of the script that the lines `old` would replace, except for those that were just added (`come`).
  * @param {App} app
  * @param {string[]} old
  * @param {string[]} come

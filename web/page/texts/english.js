@@ -18,7 +18,7 @@ export const notCopied = 'Not copied';
 export const copyCommand = 'Copy the command';
 export const theRowsOf = ' the rows: {title}';
 
-// names, and how far a job has come
+// names, and the progress of a job
 export const andMore = '{n} more';
 export const inPercent = '{n} %';
 export const inSeconds = '{seconds} s';
@@ -31,7 +31,7 @@ export const noImageIsKept = 'Then no image is kept.';
 export const goOnSaving = 'Go on saving';
 export const endIt = 'End it';
 
-// what was not done, and why
+// refused actions, and the reasons
 export const notOpened = 'Not opened: {names}.';
 export const imageBeingSaved = 'An image is being saved.';
 export const anotherJobRuns = 'Another job runs here. Do it again when that has ended, or press Cancel first.';
@@ -43,7 +43,7 @@ export const noMemoryLeft = 'This browser has not enough memory left. Close othe
 export const workerStopped = 'A worker of this page has stopped. Try it again: then a new one starts.';
 export const workerStoppedFor = 'A worker of this page has stopped ({why}). Try it again: then a new one starts.';
 
-// what a sector is on the map; the second one stands with a single sector
+// the kinds of sectors on the map; the second text of a kind describes a single sector
 export const modeOne = 'Mode 1';
 export const noSync = 'audio, no sync';
 export const noSyncField = 'no sync field: audio, or nothing that is known';
@@ -66,7 +66,7 @@ export const scriptIsLong = 'It has more than 4 MB, or more than 150,000 lines. 
 
 // ---- the frame: first screen, bar, help
 
-// the bar and the foot
+// the bar and the footer
 export const frameSkipToPanel = 'Skip to the panel';
 export const framePanels = 'Panels';
 export const frameDiscTab = 'Disc';
@@ -82,7 +82,7 @@ export const frameWordsUsed = 'Words used here';
 export const frameFilesToOpen = 'Files to open';
 export const frameOpenImage = 'Open image';
 
-// what stands there until the page has started
+// shown until the page has started
 export const frameHasNotStarted = 'cdpatch has not started.';
 export const frameWhyNotStarted = 'Either this browser cannot run it (any browser since the middle of 2024 can, with scripts allowed), ' +
     'or the ' +
@@ -108,7 +108,7 @@ export const frameTakesFiles = 'Takes raw images (.bin, .img), their .cue, patch
 export const frameNothingLeavesYourComputer = 'Nothing leaves your computer.';
 export const frameOneFileOffline = 'This page is one file without any connection. It works offline.';
 
-// words, and what they mean
+// words and their meanings
 export const frameWordBlock = 'Block';
 export const frameBlockMeans = 'A sector by its number on the disc. Block 0 is the first sector of the first track. Scripts write it in ' +
     'decimal.';
@@ -133,7 +133,7 @@ export const frameCarryMeans = 'A patch on a damaged sector is normally refused.
     'damage, ' +
     'so that the damage stays visible.';
 
-// the words that have no note elsewhere, and what they mean
+// the words that have no note elsewhere, and their meanings
 export const WORDS = [
     ['Sector', '2352 bytes of an image: sync field, header, user data, EDC, zeros and parity.'],
     ['Dump', 'An image that was read from a disc.'],
@@ -142,7 +142,7 @@ export const WORDS = [
     ['Patcher', 'This page with a script in it, which its author publishes for players.'],
 ];
 
-// the keys, each between `, and what they do; without keys, where
+// the keys, each between `, and their effects; an entry without keys is a heading
 export const KEYS = [
     ['', 'Anywhere'], ['`F6`, `Shift`+`F6`', 'next, previous part of the panel'],
     ['`Esc`', 'close a note, else cancel what runs in this card'],
@@ -160,7 +160,7 @@ export const KEYS = [
     ['', 'Text'], ['`Enter`', 'find; in “New text”: replace and go on'],
 ];
 
-// the notes of the foot, and About
+// the notes of the footer, and About
 export const frameProvedCode = 'Every sector that this page makes, every line of a script that it reads, and every finding comes from ' +
     'code ' +
     'whose promises are proved theorems: libcdpatch, which is in this file as WebAssembly.';
@@ -188,7 +188,7 @@ export const frameThirdPartyNotices = 'Third-party notices';
 
 // ---- opening files
 
-// what to choose, and what becomes of what is dropped
+// the files to choose, and the effect of dropping files
 export const openChooseWithPatch = 'Choose the disc image together with its patch';
 export const openChooseImage = 'Choose the disc image, or its cue sheet with all BINs';
 export const openChooseBothDumps = 'Choose the dump, and the second dump with it if you have one';
@@ -200,13 +200,13 @@ export const openDropScript = 'A script: it is opened and checked.';
 export const openDropScriptInPlace = 'A script: it is opened in place of the one that is open, and checked.';
 export const openExampleName = 'Example disc.bin';
 
-// a script in another encoding
+// a script in an encoding that cdpatch does not read
 export const openFileIsEncoded = 'This file is {encoding}, which cdpatch does not read: {name}';
 export const openUtf8WithMark = 'UTF-8 with a mark';
 export const openWasReadHere = 'It was read here all the same.';
 export const openSaveAsUtf8 = 'Save it as plain UTF-8';
 
-// why files are not opened
+// the reasons why files are not opened
 export const openFileIsGone = 'This file cannot be read any more: {name}. Was it moved or changed, or its drive removed?';
 export const openSameName = 'Two of these files have the same name. Open only one.';
 export const openIsOpenAlready = 'An image is open already: {name}. Open one more, {one} or {other}, to compare it.';
@@ -219,7 +219,7 @@ export const openWaitForImage = '{names}: open the disc image that it is for.|{n
 export const openThenTheyAreUsed = 'It is used as soon as the image is open.|They are used as soon as the image is open.';
 export const openNotOpenedYet = 'Not opened.';
 
-// what a second image is for
+// the uses of a second image
 export const openRepairItFrom = 'Repair {name} from it';
 export const openRepairOtherFrom = 'Repair {name} from {other}';
 export const openWhatToDoWith = 'What do you want to do with {name}?';
@@ -255,7 +255,7 @@ export const imageCopyHashes = 'Copy all hashes';
 export const imageBlockOfFirst = 'The block of the first sector';
 export const imageSetIt = 'Set';
 
-// its tracks
+// the tracks of the open image
 export const imageDataTracks = '{n} data track|{n} data tracks';
 export const imageAudioTracks = '{n} audio track ({where})|{n} audio tracks ({where})';
 export const imageInSameFile = 'in the same file';
@@ -264,7 +264,7 @@ export const imageNotForEditing = '{names}, not opened for editing';
 export const imageIsNotHere = '{names}, which is not here';
 export const imageNotAllHere = '{names}, not all of them here';
 
-// how far reading has come, and what was found
+// the progress of reading, and the findings
 export const imageStoppedAt = 'Stopped at {percent} %.';
 export const imageReadAgain = 'Read it again';
 export const imageReadingAt = 'Reading the disc: {percent} %';
@@ -292,7 +292,7 @@ export const imageFileGoesOn = 'The image ends before block {first}, inside {fil
 export const imageVolumeGoesOn = 'The image ends before block {first}. Its volume continues to block {last}, and the sheet has one track.';
 export const imageVolumeMayGoOn = 'The volume continues to block {last}: the image is cut, or the volume counts other tracks or a pause.';
 
-// closing it
+// closing the open image
 export const imageCloseImage = 'Close {name}?';
 export const imageCloseAnyway = 'Close it anyway';
 
@@ -313,7 +313,7 @@ export const discPressLegendEntry = 'Legend: press an entry to show it alone';
 export const discToPreviousFinding = '◂ Previous finding';
 export const discToNextFinding = 'Next finding ▸';
 
-// a sector in words: under the map, at the pointer, and as a screen reader says it
+// a sector in words: under the map, at the pointer, and for screen readers
 export const discBlockNumber = 'Block {block}';
 export const discSpokenSector = 'Block {block}, {kind}';
 export const discSpokenFinding = 'Block {block}, {kind}, {finding}';
@@ -325,7 +325,7 @@ export const discAddressOfSector = 'address {address}';
 export const discFileIs = 'file {name}';
 export const discModeOneSectors = 'the Mode 1 sector|all {n} Mode 1 sectors';
 
-// the card of findings: its tabs and buttons; the second text of a copying button is what screen readers hear after the first
+// the card of findings: its tabs and buttons; screen readers say the second text of a copy button after the first
 export const discFindingsCard = 'Findings, files and runs';
 export const discFindingsTabs = 'Findings, files, runs, text';
 export const discFindingsTab = 'Findings';
@@ -335,7 +335,7 @@ export const discAsTextTab = 'As text';
 export const discCopyReportWhat = ' the report';
 export const discSaveReport = 'Save…';
 
-// places of findings; the names of columns stand over wide tables, and labels in narrow ones
+// the places of findings; names of columns are shown above wide tables, and labels in narrow ones
 export const discPlaceColumn = 'Place ({blocks})';
 export const discBlocksTerm = 'blocks';
 export const discSectorsColumn = 'Sectors';
@@ -345,7 +345,7 @@ export const discLooksLikeColumn = 'Looks like';
 export const discLooksLikeIsGuess = '“Looks like” is a guess from the distances. The other columns are what cdpatch found.';
 export const discMoreFindings = 'and {n} more: “As text” has all';
 
-// what was found at a place
+// the findings at a place
 export const discDataFound = 'data';
 export const discDataAndParityFound = 'data and parity';
 export const discOnlyParityFound = 'only parity';
@@ -354,7 +354,7 @@ export const discAddressFound = 'address';
 export const discAddressesFound = '{count} × address';
 export const discFoundJoint = ', ';
 
-// what a place looks like; an ordinal has the forms of numbers as 1, as 2, as 3 and of all others
+// the appearance of a place; an ordinal has the forms for numbers like 1, like 2, and like 3, and for all others
 export const discAnotherBase = 'another base?';
 export const discNotDamage = 'not damage';
 export const discRowSpliced = '{count} in a row: spliced by hand? not damage';
@@ -454,7 +454,7 @@ export const sectorHowToOpenSector =
 export const sectorTabKey = 'Tab';
 export const sectorEnterKey = 'Enter';
 
-// what is wrong with it
+// the errors of a sector
 export const sectorIsSound = 'This sector is sound.';
 export const sectorEdcAndParityFit = 'Its EDC and parity fit.';
 export const sectorDataAreDamaged = 'The data of this sector are damaged. {line}';
@@ -483,7 +483,7 @@ export const sectorNoPatchRepairsThat = 'So it has probably lost its sync field 
     'from ' +
     'another dump can.';
 
-// what can be done about it
+// the remedies for the errors of a sector
 export const sectorHasSoundCopy = '{name} has a sound copy: it will be taken.';
 export const sectorCopyIsDoubtful = 'But its data and EDC are others: compare both first. Perhaps it is another release.';
 export const sectorHasNoSoundCopy = '{name} has no sound copy of it.';
@@ -495,7 +495,7 @@ export const sectorRebuildsBeforeChange = 'Line {line} is {patch} now, before th
 export const sectorRebuildHidesDamage =
     '{verb} makes the sector valid with the bytes as they are. If these are wrong, it hides the damage for good.';
 
-// its fields and bytes
+// the fields and bytes of a sector
 export const sectorPressFieldToGo = 'Fields: press one to go there';
 export const sectorSyncField = 'sync';
 export const sectorHeaderField = 'header';
@@ -550,12 +550,12 @@ export const sectorNoHexDigits = 'These are no pairs of hexadecimal digits. Pres
 
 // ---- text: finding and replacing
 
-// in tables and notices, as of a second image
+// in tables and notices, for example those of a second image
 export const textColumnBlock = 'Block';
 export const textColumnFile = 'File';
 export const textCountOfSectors = '{n} sector|{n} sectors';
 
-// what is asked for
+// the text to search for, and its encoding
 export const textFindText = 'Find';
 export const textFindThisText = 'Find this text';
 export const textFindEncoding = 'Encoding';
@@ -631,7 +631,7 @@ export const textHitsLeft = '{n} hit left: {why}|{n} hits left: {why}';
 export const textAllHitsInScript = 'All hits are in the script.';
 export const textCheckToTest = 'Open Script and press Check to test them.';
 
-// the bytes round a hit
+// the bytes around a hit
 export const textBytesAround = 'The bytes around it';
 export const textBytesAroundPlace = 'The bytes around block {block} offset {offset}';
 export const textOpenTheSector = 'Open the sector';
@@ -687,7 +687,7 @@ export const scriptReplacedYours = 'This script replaced yours, which was not sa
 export const scriptBringItBack = 'Bring it back';
 export const scriptLinesNotShown = 'This script is too long: its lines are not shown.';
 
-// the script that takes it back
+// the script that undoes the open script
 export const scriptUndoScript = 'Save a script that takes it back…';
 export const scriptMakingUndo = 'Making the undo script';
 export const scriptMakingFile = 'Making {name}';
@@ -705,11 +705,11 @@ export const scriptImageHasItAlready = 'The image already has what the script wr
 export const scriptAllRefusedByImage = '{n} change does not fit this image.|{n} changes do not fit this image.';
 export const scriptOpenImageBefore = 'No undo script was made. Open the image as it was before the script.';
 
-// its lines
+// the lines of the script
 export const scriptLineOfScript = 'Script, line {line} of {all}';
 export const scriptLineSays = '{where}: {words}';
 
-// what a line means: in these texts [block] and [offset] are the first two, as words that open their notes
+// the meaning of a line: [block] and [offset] in these texts become the words scriptBlockWord and sectorOffsetWord, which open a note
 export const scriptBlockWord = 'block';
 export const scriptLineMeans = 'Line {line}:';
 export const scriptEmptyLine = 'an empty line.';
@@ -730,7 +730,7 @@ export const scriptPatchIsRefused = 'It {words}.';
 export const scriptNewTextShort = 'new';
 export const scriptOldText = 'old';
 
-// what is wrong with a line, and what a button makes of it
+// the help for a faulty line, and the labels of the buttons that correct it
 export const scriptLineHasForm = 'The line has this form: {form}.';
 export const scriptFormsOfSet = 'set BLOCK OFFSET NEW, or set BLOCK OFFSET NEW was OLD';
 export const scriptFormOfFill = 'fill BLOCK OFFSET COUNT BYTE';
@@ -757,7 +757,7 @@ export const scriptNewAndOldDiffer = 'New bytes: {fresh}, old bytes: {old}. Ther
 export const scriptOffsetCounts = 'An offset counts the {size} user bytes of one block.';
 export const scriptIsItThere = 'Block {block} offset {offset}?';
 
-// why a patch is refused, and what a button shows
+// the reasons why a patch is refused, and the label of a button
 export const scriptOnlyMode1 = 'Only Mode 1 sectors are patched: this is audio, has another mode, or lost its sync field.';
 export const scriptRepairFirst = 'Repair the sector first, or tick “Patch damaged sectors too”.';
 export const scriptHasBlocks = 'This image has the blocks {first} to {last}. Another track, or a wrong block?';
@@ -765,7 +765,7 @@ export const scriptLineHasChanged = 'Line {line} has changed these bytes already
 export const scriptWrongReleaseOrPlace = 'Another release of the game, or a wrong block or offset.';
 export const scriptShowThePlace = 'Show the place';
 
-// while there is none
+// while the script has no changes
 export const scriptNoChangesYet = 'No changes yet';
 export const scriptNowOpenPatch = 'Now open the patch: its script (a text file), or its patcher (a page, .html).';
 export const scriptOpenThePatch = 'Open the patch…';
@@ -799,7 +799,7 @@ export const scriptStaysAsItIs = '{name} stays as it is.';
 export const scriptCheckingScript = 'Checking';
 export const scriptNothingSavedOpenAgain = 'Nothing was saved. Open it again.';
 
-// how the script fits
+// how the script matches the image
 export const scriptTheScript = 'The script';
 export const scriptHasNoChange = '{script} has no change.';
 export const scriptWouldBeCopy = 'The saved image would be a copy.';
@@ -826,7 +826,7 @@ export const scriptCountCanBeApplied = '{n} can be applied';
 export const scriptCountFits = '{n} fits|{n} fit';
 export const scriptCountDoesNotFit = '{n} does not fit|{n} do not fit';
 
-// the log; what its buttons are for is only heard
+// the log; only screen readers say the purpose of its buttons
 export const scriptLogOfCheck = 'Log';
 export const scriptWhatTrialPrints = 'What {command} prints (a trial: nothing is saved)';
 export const scriptWhatIsPrinted = 'What {command} prints';
@@ -838,13 +838,13 @@ export const scriptLogIsPrinted = 'The same text as {command} prints, in the ord
 
 // ---- saving
 
-// while it is saved
+// while an image is being saved
 export const saveSavingImage = 'Saving';
 export const saveSavingFile = 'Saving {name}';
 export const saveAfterCancel = 'After Cancel no image is kept: the browser throws the unfinished file away.';
 export const savePatchedInName = 'patched';
 
-// what was saved
+// the saved image
 export const saveImageSaved = 'Saved';
 export const saveSavingByBrowser = 'Saving by your browser';
 export const saveBrowserIsSaving = 'Your browser is saving {name}';
@@ -871,7 +871,7 @@ export const saveSavedFileWrong = 'Not what it should be: {name}';
 export const saveNotSavedToEnd = 'It has {size} bytes and not {wanted}: it was not saved to its end.';
 export const saveSumDiffersSaveAgain = 'Its SHA-1 does not match. Save it again.';
 
-// why it was not saved
+// the reasons why an image was not saved
 export const saveImageNotSaved = 'Not saved';
 export const saveBackFromSaving = 'Back';
 export const saveNoImageKept = 'No image was kept.';
@@ -943,7 +943,7 @@ export const secondSomeAreSame = '{n} of {all} sectors are the same in both.';
 export const secondTooManyDiffer = '{sectors}: more than one in a hundred. Nothing is taken.';
 export const secondSoundAndDiffer = '{n} sector is sound in both and differs|{n} sectors are sound in both and differ';
 
-// what is not repaired
+// the sectors that are not repaired
 export const secondCountNotRepaired = 'Cannot be repaired: {n}';
 export const secondColumnHere = 'Here';
 export const secondColumnInSecond = 'In the second image';
@@ -1012,7 +1012,7 @@ export const publishPatchedImageName = 'Name of the patched image';
 export const publishOfferCueSheet = 'Offer a cue sheet that names the patched image';
 export const publishDamagedTooAsOpened = 'Patch damaged sectors too ({carry}), as the patcher that was opened';
 export const publishNothingInPatcherYet = 'What you wrote under Publish is in no patcher yet.';
-// before one saves it: what is ready, and what is not
+// before the patcher is saved: the parts that are ready, and those that are not
 export const publishBeforeYouSave = 'Before you save';
 export const publishOpenImageOfScript = 'Open the image that the script is made for.';
 export const publishTryingOnImage = 'Trying the script on your image…';
@@ -1030,14 +1030,14 @@ export const publishCalculatingOwnSha1 = 'Calculating the SHA-1 of your image…
 export const publishComparedWithSha1 = 'Players’ images are compared with this SHA-1: {sha1}';
 export const publishTitleMissing = 'The title is missing.';
 export const publishWriteTitle = 'Write it';
-// The signs come from the page, since | stands between the forms of a text.
+// The page inserts the signs, since | separates the forms of a text.
 export const publishPatchedNameRule = 'The name of the patched image has to end in .bin, .img or .iso, with at most 120 characters before \
 that, without hidden ones and without {signs}.';
 export const publishCueSheetNotOffered = 'The cue sheet is not offered: it names files that do not lie beside it.';
 export const publishDamagedPatchedToo = 'Damaged sectors are patched too, and players are told so.';
 export const publishOldBytesFromGame = 'The old bytes come from the game ({n} byte). Check whether you may publish them.|\
 The old bytes come from the game ({n} bytes). Check whether you may publish them.';
-// saving it
+// saving the patcher
 export const publishSaveAsPatcher = 'Save as a patcher…';
 export const publishSeeAsPlayer = 'See it as a player';
 export const publishPatcherIsOneFile = 'One .html file with this page, your script and what you wrote here. It holds no image.';
@@ -1057,7 +1057,7 @@ export const playerPageStillLoading = 'The rest of this page is still being load
 export const playerOpensIfPatcher = 'If it is a patcher, it opens then.';
 export const playerPatcherUnusable = 'This patcher cannot be used.';
 export const playerGetPatcherAgain = '{fault}. Get it again from where its author offers it.';
-// a page that is dropped on this one
+// a page that is dropped on this page
 export const playerPatcherFileUnusable = 'This patcher cannot be used: {name}';
 export const playerNotThisCdpatch = 'Not this cdpatch: {name}';
 export const playerPageButNoPatcher = 'It is a page, and no patcher of cdpatch. A browser that opens it may run what is in it.';
@@ -1071,7 +1071,7 @@ export const playerHoldsNoPatch = 'It holds no patch.';
 export const playerOnlyPatchRead = 'Only its patch was read.';
 export const playerOnlyPatchReadHere = 'Only its patch was read: what works here is this page.';
 export const playerComparisonSaysNothing = 'The comparison says nothing of who made the patch, or of what it does.';
-// why a patcher is not read, or not made
+// the reasons why a patcher cannot be read or saved
 export const playerPageWasChanged = 'Something in this browser has changed this page, an extension perhaps. Turn it off for this page, ' +
     'and open the page again';
 export const playerDataTooLong = 'the data are too long';
@@ -1084,7 +1084,7 @@ export const playerDataWithoutHead = 'the data have no head';
 export const playerHeadNotJson = 'the head of the data is not JSON';
 export const playerHeadWithOtherMembers = 'the data do not have the members that they should';
 export const playerHeadWithWrongMember = 'the data have a wrong {member}';
-// its page
+// the page of a patcher
 export const playerPatcherMadeWith = 'A patcher made with cdpatch';
 export const playerBackToPublish = 'Back to Publish';
 export const playerOpenInFullCdpatch = 'Open this in the full cdpatch';
@@ -1100,7 +1100,7 @@ export const playerHowToTrustIt = 'Anybody can change a page and pass it on, and
     'get ' +
     'cdpatch.html from where you trust it, open it, and drop this file on it. It compares the program byte for byte with its own, and ' +
     'reads only the patch.';
-// its first step
+// the first step of that page
 export const playerYourDisc = 'Your disc';
 export const playerYourDiscImage = 'Your disc image';
 export const playerDropDiscImage = 'Drop your disc image here';
@@ -1112,7 +1112,7 @@ export const playerNeedsFullDump =
     'This patcher needs a full dump: a .bin file of 2352 bytes a sector. Dump your disc again, as BIN and CUE.';
 export const playerIsMusicTrack = 'This is music; choose the data track: {name}';
 export const playerCheckingYourImage = 'Checking your image';
-// what the image is
+// the verdict on the image
 export const playerRightDisc = 'This is the right disc.';
 export const playerOtherDumpFits = 'This is a different dump, but the patch fits it.';
 export const playerNotAuthorsDisc = 'This is not the author’s disc.';
@@ -1122,7 +1122,7 @@ export const playerImageIsPatched = 'This image is patched already.';
 export const playerPlacesHoldNewBytes = 'These places hold the new bytes already.';
 export const playerChooseAnother = 'Choose another';
 export const playerChooseAnotherImage = 'Choose another image…';
-// and why
+// the reasons for the verdict
 export const playerHoldOtherBytes = '{n} of {places} holds other bytes.|{n} of {places} hold other bytes.';
 export const playerOtherReleaseProbably = 'It is probably another release of the game.';
 export const playerOlderPatchPerhaps = 'Or an older version of this patch has changed it: choose the original image.';
@@ -1156,7 +1156,7 @@ export const playerSizeOfImage = 'size';
 export const playerSizeAsExpected = '{n} bytes, as expected';
 export const playerSizeNotAuthors = '{n} bytes, the author’s has {wanted}';
 export const playerFirstPlace = 'first place';
-// its second step
+// the second step of that page
 export const playerPatchIt = 'Patch it';
 export const playerChangesNeedSpace =
     '{n} change. The new file needs {space} MB of space.|{n} changes. The new file needs {space} MB of space.';
@@ -1168,7 +1168,7 @@ export const playerNothingLeftToDo = 'There is nothing to do.';
 export const playerExactlyAuthorsImage = 'It is exactly the image that the author made: the SHA-1 is the same.';
 export const playerChangesLeftOut = '{n} change left out.|{n} changes left out.';
 export const playerNothingShowedFit = 'Nothing has shown whether the patch fits this disc.';
-// its third step
+// the third step of that page
 export const playerStepPlay = 'Play';
 export const playerOpenInEmulator = 'Open {name} in your emulator.';
 export const playerYourCueSheet = 'Your cue sheet';

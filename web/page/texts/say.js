@@ -1,4 +1,4 @@
-// Putting names, numbers and parts of the page into the texts of the page.
+// Inserts names, numbers, and parts of the page into the texts of the page.
 
 import { sentenceOf } from '../../sentences/index.js';
 import { LANGUAGE, sentences } from './english.js';
@@ -10,25 +10,25 @@ import { LANGUAGE, sentences } from './english.js';
  * @typedef {Text extends `${string}{${infer Name}}${infer Rest}` ? Name | NamesIn<Rest> : never} NamesIn
  */
 /**
- * The same and, if it has several forms, the number that chooses one.
+ * The names in the braces of a text and, if it has several forms, the number `n` that selects one.
  * @template {string} Text
  * @typedef {NamesIn<Text> | (Text extends `${string}|${string}` ? 'n' : never)} Given
  */
 /**
- * What goes into a text, by the names in its braces.
+ * The values that are inserted into a text, by the names in its braces.
  * @template {string} Text
  * @template Part
  * @typedef {[Given<Text>] extends [never] ? [] : [{ [Name in Given<Text>]: Part }]} Parts
  */
 
-/** @type {Intl.LDMLPluralRule[]} kinds of counts, of which each language has some, and which engines name in any order */
+/** @type {Intl.LDMLPluralRule[]} the plural categories in order; a language has some of them, which engines list in any order */
 const KINDS = ['zero', 'one', 'two', 'few', 'many', 'other'];
 
-/** What knows the counts of the language, made when it is first asked: a start can do without the milliseconds that this takes. */
+/** The Intl objects of the language, which are created lazily: they would cost milliseconds at the start. */
 const asked = { counts: /** @type {Intl.PluralRules | null} */ (null), numbers: /** @type {Intl.NumberFormat | null} */ (null) };
 
 /**
- * A count with separators, as 1,329. Blocks and offsets have none, so that they can be copied into a script.
+ * Formats a count with separators, such as 1,329. Blocks and offsets have none, so that they can be copied into a script.
  * @param {number} number
  */
 export function counted(number) {
@@ -37,7 +37,7 @@ export function counted(number) {
 }
 
 /**
- * The form of a text for a count, if it has several, one for each kind of count in its language.
+ * Selects the form of a text for a count. A text has one form, or one for each plural category of its language.
  * @param {string} text
  * @param {unknown} count
  */
@@ -51,7 +51,7 @@ function formOf(text, count) {
 }
 
 /**
- * A text with parts of the page in it, in place of the names in its braces. A number is written as a count, and `n` chooses the form.
+ * Replaces the names in the braces of a text by parts of the page. A number is formatted as a count, and `n` selects the form.
  * @template {string} Text
  * @param {Text} text
  * @param {Parts<Text, Child | Child[]>} given
@@ -66,7 +66,7 @@ export function say(text, ...given) {
 }
 
 /**
- * The same as a text, of texts and counts.
+ * Like `say`, for texts and numbers only; returns a string.
  * @template {string} Text
  * @param {Text} text
  * @param {Parts<Text, string | number>} given
@@ -76,7 +76,7 @@ export function told(text, ...given) {
 }
 
 /**
- * What is said of a failure or a remark of the core.
+ * The sentence for a failure or a remark of the core.
  * @param {import('../../core/facts.js').Remark} remark
  */
 export function remarkText(remark) {

@@ -1,18 +1,18 @@
-// Buttons that copy a text, and say so for a moment.
+// Buttons that copy a text, and show the result for a moment.
 
 import * as texts from '../texts/index.js';
 import { announce, button, element } from './dom.js';
 import { fill } from './fill.js';
 
-/** For so many milliseconds a button says what became of its text. */
+/** How long a button shows the result, in milliseconds. */
 const SAID_FOR = 2000;
 
-/** What was copied last, by the label of its button, and what is said of it. A button that is drawn anew meanwhile says it too. */
+/** The label of the button that has copied last, and the result. A button with this label that is redrawn meanwhile shows it too. */
 const copying = { label: '', says: '', ends: 0 };
 
 /**
  * A button that copies a text.
- * @param {string} looks classes, as of other buttons
+ * @param {string} looks classes, like those of other buttons
  * @param {() => string | Promise<string>} text
  * @param {string} label
  * @param {string} [what] it copies, if the label does not say so, for screen readers
@@ -27,7 +27,7 @@ export function copyButton(looks, text, label, what = '') {
 }
 
 /**
- * Both texts lie in one place, and one is not seen: so the button stays as large as it is, and where it is.
+ * Puts the label and the result into the same place, one of them invisible, so that the button keeps its size and place.
  * @param {HTMLElement} made
  */
 function drawCopying(made) {
@@ -55,7 +55,7 @@ function say(label, says) {
 }
 
 /**
- * Puts a text on the clipboard, and says whether it is there.
+ * Copies a text to the clipboard, and returns whether that succeeded.
  * @param {string} text
  */
 async function isCopied(text) {

@@ -1,4 +1,4 @@
-// Making parts of the page, and numbers and texts as people read them. Texts go in as texts: nothing here reads markup.
+// Creates parts of the page, and formats bytes for people. Texts are inserted as text: nothing here parses markup.
 
 import { listen, nodesOf } from './fill.js';
 
@@ -8,7 +8,7 @@ import { listen, nodesOf } from './fill.js';
 const SVG = 'http://www.w3.org/2000/svg';
 
 /**
- * A new element. An attribute that is a function listens to the event of its name; false and null leave an attribute out.
+ * Creates an element. An attribute that is a function listens to the event of its name; false and null leave an attribute out.
  * @template {keyof HTMLElementTagNameMap} Tag
  * @param {Tag} tag
  * @param {Record<string, Attribute>} [attributes]
@@ -23,7 +23,7 @@ export function element(tag, attributes = {}, ...children) {
 }
 
 /**
- * Sets an attribute, or takes it away if the value is false or null. A function becomes a listener.
+ * Sets an attribute, or removes it if the value is false or null. A function becomes a listener.
  * @param {Element} target
  * @param {string} name
  * @param {Attribute} value
@@ -38,22 +38,22 @@ export function setAttribute(target, name, value) {
 const unsaved = [];
 
 /**
- * Asks before the page is left, as long as something would be lost.
+ * Makes the browser ask before the page is left, while something would be lost.
  * @param {() => boolean} isLost
- * @param {string} [what] is lost too when the image is closed, as a sentence
+ * @param {string} [what] a sentence about the loss, if closing the image loses it too
  */
 export function askBeforeLeaving(isLost, what = '') {
     unsaved.push({ isLost, what });
     window.addEventListener('beforeunload', event => { if (isLost()) event.preventDefault(); });
 }
 
-/** What would be lost if the image and all that was done with it were closed, in sentences. */
+/** Sentences that say what would be lost if the image were closed. */
 export function lostByClosing() {
     return unsaved.flatMap(({ isLost, what }) => what !== '' && isLost() ? [what] : []);
 }
 
 /**
- * The element of the page with an id.
+ * The element of the page with an id. Throws an Error if there is none.
  * @param {string} id
  * @returns {HTMLElement}
  */
@@ -64,7 +64,7 @@ export function byId(id) {
 }
 
 /**
- * A picture of the page's own: 'mark', 'disc', 'lock', 'tick' or 'warn'. What it says is said in words beside it.
+ * A picture from the page: 'mark', 'disc', 'lock', 'tick' or 'warn'. Screen readers skip it: words beside it say the same.
  * @param {string} name
  */
 export function icon(name) {
@@ -79,7 +79,7 @@ export function icon(name) {
 
 /**
  * A button.
- * @param {string} looks classes beside `btn`, as 'main' or 'slim bare'
+ * @param {string} looks classes in addition to `btn`, such as 'main' or 'slim bare'
  * @param {() => void} press
  * @param {...Child} children
  */
@@ -88,7 +88,7 @@ export function button(looks, press, ...children) {
 }
 
 /**
- * A word that opens its explanation, which stands in page.html under `term-NAME`.
+ * A word that opens its explanation, which is in page.html under `term-NAME`.
  * @param {string} name
  * @param {string} word
  */
@@ -97,7 +97,7 @@ export function term(name, word) {
 }
 
 /**
- * A text in which the keys stand between `.
+ * Formats a text in which each key is between `.
  * @param {string} text
  */
 export function keysIn(text) {
@@ -105,7 +105,7 @@ export function keysIn(text) {
 }
 
 /**
- * Makes a button that can't be pressed now stay reachable, and says so to screen readers.
+ * Marks a button as disabled, for screen readers too, but leaves it reachable by the Tab key.
  * @param {Element} target
  * @param {boolean} disabled
  */
@@ -127,7 +127,7 @@ export function hexOf(bytes) {
 }
 
 /**
- * A hash, which has its line break in the middle if it needs one.
+ * A hash with a possible line break in its middle.
  * @param {string} digits
  * @returns {Child[]}
  */

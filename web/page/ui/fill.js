@@ -1,16 +1,16 @@
-// The one way in which a part of the page is drawn again.
+// Redraws parts of the page, and keeps elements that stay. All parts are redrawn by these functions.
 
 /** @typedef {Node | string | number | null | false} Child */
 
-/** @type {WeakMap<Node, string>} which part a node is, as long as its parent is drawn again and again */
+/** @type {WeakMap<Node, string>} the keys of nodes, which identify a node when its parent is redrawn */
 const keys = new WeakMap();
 
-/** @type {WeakMap<Element, Map<string, ((event: any) => void) | null>>} who listens now to which events */
+/** @type {WeakMap<Element, Map<string, ((event: any) => void) | null>>} the current listener for each event of an element */
 const listeners = new WeakMap();
 
 /**
- * Names a part. When its parent is filled again, the part of that name is the same element as before, with what it looks like now and who
- * listens to it now: so it keeps the focus, and a press on it goes on. Nothing else may hold on to an element in it.
+ * Gives a part a key. When its parent is filled again, the element with this key is kept, and gets the new attributes, children, and
+ * listeners. So it keeps the focus, and a press on it continues. No other code may hold a reference to an element in it.
  * @template {Element} Part
  * @param {string} key
  * @param {Part} part
@@ -21,7 +21,7 @@ export function keyed(key, part) {
 }
 
 /**
- * Has a listener hear an event of an element, in place of the one before.
+ * Sets the listener for an event of an element, which replaces the previous one.
  * @param {Element} target
  * @param {string} name
  * @param {((event: any) => void) | null} listener
@@ -34,8 +34,8 @@ export function listen(target, name, listener) {
 }
 
 /**
- * Puts children into an element, instead of those that it has. What stays is not taken out: it is the same node, or has the same key. If
- * the focus was on a control that goes, it goes to the control of the class `next`, or else to the first one.
+ * Replaces the children of an element. Nodes that are in both, or have the same key, are not removed. If the focused control is removed,
+ * the control of the class `next` is focused, or else the first one.
  * @param {HTMLElement | Element} target
  * @param {...Child} children
  */
@@ -49,7 +49,7 @@ export function fill(target, ...children) {
 }
 
 /**
- * The control of a part to which the focus goes; of its card, if it has none; and if that has none, the card itself, which has a name.
+ * The control that gets the focus: one in this part, or else one in its card, or else the card itself, which has a name.
  * @param {Element} target
  */
 function controlIn(target) {
@@ -73,7 +73,7 @@ export function nodesOf(children) {
 /**
  * @param {Element} target
  * @param {Node[]} fresh
- * @param {boolean} isKept whether the target itself was kept: then its parts without a key are kept by their places
+ * @param {boolean} isKept whether the target itself was kept: then its nodes without a key are kept by their order
  */
 function put(target, fresh, isKept) {
     const before = [...target.childNodes];
@@ -95,7 +95,7 @@ function put(target, fresh, isKept) {
 }
 
 /**
- * A node that stays, with what another one looks like and who listens to that.
+ * Updates a node that is kept with the attributes, children, and listeners of a new one. Returns the kept node.
  * @param {Node} old
  * @param {Node} fresh
  */
@@ -104,7 +104,7 @@ function changed(old, fresh) {
         if (old.nodeValue !== fresh.nodeValue) old.nodeValue = fresh.nodeValue;
         return old;
     }
-    // Groups of controls set which of them is a stop of the Tab key. A policy of a page refuses `style` as an attribute.
+    // Groups of controls set `tabindex` themselves. The content security policy of a page refuses `style` as an attribute.
     for (const name of old.getAttributeNames()) {
         if (!fresh.hasAttribute(name) && name !== 'tabindex') old.removeAttribute(name);
     }

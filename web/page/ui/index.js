@@ -1,4 +1,4 @@
-// What all parts of the page are drawn with.
+// The functions that draw all parts of the page.
 
 export { counted } from '../texts/index.js';
 export { copyButton } from './copying.js';

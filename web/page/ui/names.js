@@ -1,4 +1,4 @@
-// Names of files and other texts of strangers, as they are shown: who made a file has chosen its name.
+// Formats names of files and other texts of strangers for safe display: whoever made a file has chosen its name.
 
 import * as texts from '../texts/index.js';
 import { told } from '../texts/index.js';
@@ -7,13 +7,13 @@ import { element } from './dom.js';
 /** @typedef {import('./fill.js').Child} Child */
 
 const MOST_SHOWN = 60;
-/** More files than these at one place are only counted: a volume may have any number of them there. */
+/** Any further files at one place are only counted: a volume may have any number of them there. */
 const MOST_PATHS = 3;
-/** Characters at the end of a name that is cut: they have its kind. */
+/** The number of characters kept at the end of a shortened name, which include its extension. */
 const END_SHOWN = 20;
 
 /**
- * A text with a dot for each character that is not seen, ends a line, or turns the direction of others.
+ * Replaces each character that is invisible, ends a line, or changes the direction of text by a dot.
  * @param {string} text
  */
 export function seen(text) {
@@ -21,7 +21,7 @@ export function seen(text) {
 }
 
 /**
- * A text in which spaces at the end and bytes without a sign can be seen.
+ * Makes the spaces at the end of a text and its unprintable bytes visible.
  * @param {string} text
  */
 export function shownText(text) {
@@ -29,7 +29,7 @@ export function shownText(text) {
 }
 
 /**
- * The same for a text in sentences, as a title: what joins letters stays.
+ * Like `seen`, for prose such as a title: characters that join letters are kept.
  * @param {string} text
  */
 export function seenTitle(text) {
@@ -37,7 +37,7 @@ export function seenTitle(text) {
 }
 
 /**
- * A text as the first words of a line.
+ * A text with a capital first letter.
  * @param {string} text
  */
 export function capital(text) {
@@ -45,7 +45,7 @@ export function capital(text) {
 }
 
 /**
- * A name as a text, without its middle if it is long.
+ * A name as a text, shortened in its middle if it is long.
  * @param {string} name
  */
 export function shownName(name) {
@@ -55,7 +55,7 @@ export function shownName(name) {
 }
 
 /**
- * A name as a part of the page, whose letters do not move those around it.
+ * A name as a part of the page. Its text direction does not affect the text around it.
  * @param {string} name
  */
 export function nameOf(name) {
@@ -74,7 +74,7 @@ export function namesOf(names) {
 /**
  * The files of a volume at one place, as a text.
  * @param {{ path: string }[]} files
- * @param {string} joint what stands between them
+ * @param {string} joint the separator
  */
 export function shownPaths(files, joint) {
     const more = files.length - MOST_PATHS;
@@ -83,7 +83,7 @@ export function shownPaths(files, joint) {
 }
 
 /**
- * A text in which names stand, as parts of the page.
+ * A text as parts of the page, in which each of the names is isolated.
  * @param {string} text
  * @param {string[]} names
  * @returns {Child[]}
@@ -95,7 +95,7 @@ export function withNames(text, names) {
 }
 
 /**
- * A text as the first part of a new file's name.
+ * Turns a text into the first part of a new file's name.
  * @param {string} text
  */
 export function stemOf(text) {

@@ -1,4 +1,4 @@
-// What the page says of files and failures: first what it is, then what to do.
+// The notices of the page about files and errors: first the fact, then what to do.
 
 import { Fault, failedBy } from '../../core/faults.js';
 import * as texts from '../texts/index.js';
@@ -23,7 +23,7 @@ export function notice(tone, head, ...rest) {
 }
 
 /**
- * Shows a notice over the panel or the player, or at the drop area of the start, until it is closed or another one comes.
+ * Shows a notice above the panel or the player, or at the drop area of the start, until it is closed or replaced.
  * @param {Tone} tone
  * @param {Child | Child[]} head
  * @param {...Child} rest
@@ -49,10 +49,10 @@ function showWords(made) {
 }
 
 /**
- * Whether an image is being saved, which is said then: no other one is opened until it has ended, and none is closed.
+ * Returns whether an image is being saved. If so, shows a notice that no image is opened or closed until that has ended.
  * @param {App} app
  * @param {string[]} [names] of the files that were to be opened
- * @param {HTMLElement | null} [place] beside what was pressed
+ * @param {HTMLElement | null} [place] beside the control that was pressed
  */
 export function refuseWhileSaving({ saves }, names = [], place = null) {
     if (saves === 0) return false;
@@ -68,7 +68,7 @@ export function refuseWhileSaving({ saves }, names = [], place = null) {
 }
 
 /**
- * Gives the focus back to what had it before something was closed, or to the heading of what is shown.
+ * Returns the focus to the element that had it before something was closed, or else to the visible heading.
  * @param {Element | null} before
  */
 export function focusAgain(before) {
@@ -79,13 +79,13 @@ export function focusAgain(before) {
     target?.focus({ preventScroll: true });
 }
 
-/** Takes away what was said of an image that was being saved. */
+/** Removes the notices about an image that was being saved. */
 export function endSavingNotices() {
     document.querySelectorAll('.while-saving').forEach(it => it.remove());
     for (const id of ['messages', 'start-message']) byId(id).hidden = byId(id).childElementCount === 0;
 }
 
-/** Takes away what showNotice has shown. */
+/** Removes the notice of showNotice. */
 export function clearNotices() {
     for (const place of [byId('messages'), byId('start-message')]) {
         place.hidden = true;
@@ -94,7 +94,7 @@ export function clearNotices() {
 }
 
 /**
- * A place for what is said beside a control that was pressed.
+ * A place for messages beside a control.
  * @param {string} [looks] classes
  */
 export function said(looks = '') {
@@ -102,7 +102,7 @@ export function said(looks = '') {
 }
 
 /**
- * Says something at such a place, and has it seen.
+ * Shows a message at a place, and scrolls it into view.
  * @param {HTMLElement} place
  * @param {HTMLElement} words
  */
@@ -111,14 +111,14 @@ export function sayAt(place, words) {
     words.scrollIntoView({ block: 'nearest' });
 }
 
-/** Ends all that was said of what was done before. */
+/** Removes all messages about earlier actions. */
 export function endMessages() {
     clearNotices();
     document.querySelectorAll('.said').forEach(place => fill(place));
 }
 
 /**
- * Shows a failure. Errors of our own say themselves what to do.
+ * Shows an error. The messages of our own errors already say what to do.
  * @param {unknown} error
  * @param {string} [rest]
  */
@@ -132,7 +132,7 @@ export function showFailure(error, rest = '') {
     return showNotice('bad', first, [after, rest].filter(it => it !== '').join(' '));
 }
 
-/** Most characters of a message that are shown: the lines of a stranger's cue sheet stand in some of them. */
+/** The maximum number of characters shown of a message: some messages contain lines of a stranger's cue sheet. */
 const MOST_MESSAGE = 1000;
 
 /** @param {unknown} error */
@@ -148,7 +148,7 @@ function errorWords(error) {
 }
 
 /**
- * What an error says.
+ * The message of an error.
  * @param {unknown} error
  */
 export function messageOf(error) {
@@ -156,7 +156,7 @@ export function messageOf(error) {
 }
 
 /**
- * What an error says of files with these names, as parts of the page, with a capital letter unless it begins with a name.
+ * The message of an error about files with these names, as parts of the page. It has a capital letter unless it begins with a name.
  * @param {unknown} error
  * @param {string[]} names
  */
@@ -167,7 +167,7 @@ export function messageParts(error, names) {
 }
 
 /**
- * What an error says, as a sentence begins.
+ * The message of an error with a capital letter.
  * @param {unknown} error
  */
 export function sentence(error) {
@@ -180,7 +180,7 @@ export function isCancelled(error) {
 }
 
 /**
- * A command to copy.
+ * A command with a button that copies it.
  * @param {string} text
  */
 export function copyable(text) {

@@ -1,6 +1,6 @@
-// How far a job has come, how fast, and how long it still takes.
+// Calculates the progress, the rate, and the remaining time of a job.
 
-/** The rate of a job, and how long it still takes. */
+/** The pace of a job: its percentage, its rate per second, and the seconds left. */
 export class Pace {
     /**
      * @param {number} all

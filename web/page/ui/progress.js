@@ -1,4 +1,4 @@
-// The bar of a running job, with how much is done, the rate and the time left, and Cancel, which Escape presses in the job's card.
+// The progress bar of a job, with the amount done, the rate, the time left, and Cancel, which Escape presses in the job's card.
 
 import { SECTOR_SIZE } from '../../core/module/index.js';
 import * as texts from '../texts/index.js';
@@ -10,10 +10,11 @@ import { Pace } from './pace.js';
 /** @typedef {import('./fill.js').Child} Child */
 
 /**
- * A bar. `at` is told how many bytes of how many are done, `sectors` how many sectors, `things` how many of something else.
+ * Creates a progress bar. Each of its functions receives the amount done and the total: `at` in bytes, `sectors` in sectors, `things` in
+ * other things.
  * @param {string} name what the job does, for screen readers
  * @param {() => void} cancel
- * @param {{ saves?: boolean, noun?: string }} how whether an image is saved, and what `things` are, in the plural
+ * @param {{ saves?: boolean, noun?: string }} how whether an image is saved, and the name of the `things`, in the plural
  */
 export function jobBar(name, cancel, { saves = false, noun = '' } = {}) {
     const bar = element('i');
@@ -46,7 +47,7 @@ function bold(text) {
 }
 
 /**
- * How many bytes are done, and how fast, in megabytes.
+ * The bytes done, the total, and the rate, in megabytes.
  * @param {number} done
  * @param {number} all
  * @param {number} rate bytes a second
@@ -62,7 +63,7 @@ export function timeLeft(seconds) {
 }
 
 /**
- * The button that ends a job. Escape in its card presses it; if an image is saved it asks first.
+ * The button that ends a job. Escape in its card presses it, but asks first if an image is being saved.
  * @param {() => void} cancel
  * @param {boolean} saves
  */
@@ -80,7 +81,7 @@ export function jobEnd(cancel, saves) {
 }
 
 /**
- * Says that a job runs already, as long as it does.
+ * Shows that a job is already running, until it ends.
  * @param {Element} place of its bar
  */
 function sayBusy(place) {
@@ -92,7 +93,7 @@ function sayBusy(place) {
 const busy = new WeakSet();
 
 /**
- * Runs a job whose bar stands at a place, unless one runs there, which is said then.
+ * Runs a job with its progress bar at a place. If a job is already running there, shows that instead.
  * @param {Element} place
  * @param {() => Promise<void>} job
  */
@@ -106,7 +107,7 @@ export async function runAt(place, job) {
 }
 
 /**
- * What Escape does to the job of the card that has the focus. Says whether there is one.
+ * Handles Escape for the job of the card that has the focus. Returns whether there is one.
  * @param {Element | null} focused
  */
 export function escapeJob(focused) {
@@ -117,7 +118,7 @@ export function escapeJob(focused) {
 }
 
 /**
- * A size as it is said everywhere: in megabytes, fewer than 100 with a tenth.
+ * Formats a size in megabytes, with one decimal if it is less than 100.
  * @param {number} bytes
  */
 export function megabytes(bytes) {

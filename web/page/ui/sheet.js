@@ -1,4 +1,4 @@
-// A small sheet over the page that asks what is to be done.
+// A small dialog over the page that asks the user a question.
 
 import { cancel } from '../texts/index.js';
 import { button, byId, element } from './dom.js';
@@ -6,16 +6,16 @@ import { fill, listen } from './fill.js';
 
 /** @typedef {import('./fill.js').Child} Child */
 
-/** Ends the question that is asked, without an answer. */
+/** Ends the current question without an answer. */
 const asking = { end: () => {} };
 
 /**
- * Asks a question. Returns the answer that was pressed, or '' if none was: the sheet was closed, or another question came.
+ * Asks a question. Returns the answer that was pressed, or '' if the dialog was closed or another question has replaced it.
  * @template {string} Answer
  * @param {Child[]} title
  * @param {Child[]} words
- * @param {[Answer, Child[]][]} answers and what stands on their buttons
- * @param {Answer | ''} main that of the main button
+ * @param {[Answer, Child[]][]} answers and the labels of their buttons
+ * @param {Answer | ''} main the answer of the main button
  * @returns {Promise<Answer | ''>}
  */
 export function asked(title, words, answers, main) {

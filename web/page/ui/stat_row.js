@@ -1,4 +1,4 @@
-// A few counts, written large, and the card of a table.
+// A row of large counts, and a card with a table.
 
 import * as texts from '../texts/index.js';
 import { counted, told } from '../texts/index.js';
@@ -6,7 +6,7 @@ import { copyButton } from './copying.js';
 import { element } from './dom.js';
 import { oneStop } from './tab_groups.js';
 
-/** @param {[number, string, string][]} counts each with what it counts, and how it looks */
+/** @param {[number, string, string][]} counts each with its name and its class */
 export function tallyOf(counts) {
     return element('div', { class: 'tally' }, ...counts.map(([count, name, looks]) =>
         element('div', { class: looks || null }, element('b', {}, counted(count)), name)));
@@ -19,7 +19,7 @@ export function tallyOf(counts) {
  * @param {HTMLElement[]} rows
  * @param {string} text
  * @param {string} foot
- * @param {import('./fill.js').Child} [more] beside the button that copies
+ * @param {import('./fill.js').Child} [more] beside the copy button
  */
 export function tableCard(title, head, rows, text, foot, more = null) {
     const table = element('table', {}, element('thead', {}, head), element('tbody', {}, ...rows));

@@ -1,11 +1,11 @@
-// Groups of controls that are one stop of the Tab key, with the arrow keys inside.
+// Groups of controls that are a single stop of the Tab key. Inside a group, the arrow keys move the focus.
 
-/** By these attributes a control is the chosen one. */
+/** The attributes that mark the chosen control. */
 const CHOOSES = ['aria-selected', 'aria-current'];
 
 /**
- * Makes the controls in an element one tab stop: arrows, Home and End move the focus. `chosen` is called when the focus moves, which
- * is for tabs and switches that follow it.
+ * Makes the controls in an element one tab stop: arrows, Home, and End move the focus. `chosen` is called with the control to which a key
+ * moves the focus, for tabs and switches that follow it.
  * @param {HTMLElement} group
  * @param {string} controls a selector
  * @param {(control: HTMLElement) => void} [chosen]
@@ -43,7 +43,7 @@ function nextOf(list, at, event) {
 }
 
 /**
- * Gives a list one stop: the one that it has, or else its chosen one, or its first.
+ * Gives a list one tab stop: its chosen control, or else its present stop, or else its first control.
  * @param {HTMLElement[]} list
  */
 function keepStop(list) {

@@ -1,6 +1,6 @@
-// Long work in parts.
+// Splits long work into parts, so that the browser stays responsive.
 
-/** Between two parts: what the browser has to do meanwhile, as to hear a key, gets its turn. */
+/** Waits between two parts of long work, so that the browser can handle events such as a key press. */
 export function nextTurn() {
     return new Promise(resolve => { setTimeout(() => resolve(undefined)); });
 }
