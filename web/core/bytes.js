@@ -3,23 +3,23 @@
 import { Fault, newBytes } from './faults.js';
 
 /**
- * What an image is read by: bytes from a place on, as many as were asked for or fewer, but none only if the image ends there. They may
- * be put into `room`, which then belongs to who reads. `lent` is what a worker of this door reads bytes by, as it can be posted; `forward`
- * gives a reader of the same bytes that takes less work if one alone reads with it, forward, and does not change what it was given.
+ * Reads the bytes of an image. `read` returns at most `length` bytes from `at` on, and none only at the end of the image. It may put them
+ * into `room`, which then belongs to the caller. `lent` returns a postable object by which a worker of this door reads the same bytes.
+ * `forward` returns a faster reader of the same bytes for a single caller that reads forward and does not change the bytes it gets.
  * @typedef {{ size: number, read(at: number, length: number, room?: Uint8Array): Promise<Uint8Array>,
  *     lent?(at: number, length: number): unknown, forward?(): Reader }} Reader
  */
 
 /**
- * A piece of what is written: bytes at a place, or a slice of a reader, which is there what it was.
+ * A piece of an image that is written: new bytes at a place, or an unchanged range of the source.
  * @typedef {{ at: number, bytes: Uint8Array } | { from: number, to: number }} Piece
  */
 
-/** Bytes of a slice that are read at a time. */
+/** The most bytes of a slice that are read at a time. */
 export const READ_SIZE = 1 << 22;
 
 /**
- * A reader of the same bytes for one who reads them forward.
+ * A reader of the same bytes for a caller that reads forward.
  * @param {Reader} reader
  */
 export function forwardOf(reader) {
@@ -27,9 +27,9 @@ export function forwardOf(reader) {
 }
 
 /**
- * The same reader, but it says before each read where that begins.
+ * Wraps a reader so that a callback is called before each read, with the place where the read begins.
  * @param {Reader} reader
- * @param {(at: number) => void} told what it throws ends the read
+ * @param {(at: number) => void} told the callback; an exception that it throws ends the read
  * @returns {Reader}
  */
 export function watchedReader(reader, told) {
@@ -45,11 +45,11 @@ export function watchedReader(reader, told) {
 }
 
 /**
- * Reads bytes, by more reads if the first are short. Throws a Fault, `image-ended`, if the image ends before.
+ * Reads bytes, with further reads after a short one. Throws a Fault, `image-ended`, if the image ends before `least` bytes are read.
  * @param {Reader} reader
  * @param {number} at
  * @param {number} length
- * @param {Uint8Array} [room] of as many bytes, in which they may stand
+ * @param {Uint8Array} [room] `length` bytes of memory, which the reader may use for the result
  * @param {number} [least] how many bytes are enough
  * @returns {Promise<Uint8Array>}
  */
@@ -65,7 +65,7 @@ export async function readBytes(reader, at, length, room, least = length) {
 }
 
 /**
- * Fills room with bytes. Throws as readBytes does.
+ * Fills `room` with the bytes of an image. Throws what readBytes throws.
  * @param {Reader} reader
  * @param {number} at
  * @param {Uint8Array} room
@@ -76,8 +76,8 @@ export async function readInto(reader, at, room) {
 }
 
 /**
- * The bytes of pieces, in turn. Each may be gone when the next is asked for.
- * @param {Reader} reader that the slices are of
+ * Yields the bytes of pieces in order. The bytes that one step yields may be overwritten by the next step.
+ * @param {Reader} reader the source of the slices
  * @param {Iterable<Piece> | AsyncIterable<Piece>} pieces
  * @param {Uint8Array} [room] of READ_SIZE bytes
  * @returns {AsyncGenerator<Uint8Array>}
@@ -95,7 +95,7 @@ export async function* bytesOfPieces(reader, pieces, room) {
 }
 
 /**
- * Bytes one after the other.
+ * Concatenates byte arrays.
  * @param {Uint8Array[]} parts
  */
 export function joinedBytes(parts) {
@@ -114,7 +114,7 @@ export function bytesOfLines(lines) {
 }
 
 /**
- * Whether as many bytes are the same.
+ * Whether two byte arrays of the same length are equal.
  * @param {Uint8Array} a
  * @param {Uint8Array} b
  */
@@ -123,7 +123,7 @@ export function sameBytes(a, b) {
 }
 
 /**
- * The first of ascending numbers that is greater than another one.
+ * The index of the first of ascending numbers that is greater than `number`; their count if none is.
  * @param {number[]} numbers
  * @param {number} number
  */
@@ -138,7 +138,7 @@ export function firstAfter(numbers, number) {
 }
 
 /**
- * All bytes of a reader.
+ * Reads all bytes of a reader.
  * @param {Reader} reader
  */
 export function wholeOf(reader) {
@@ -146,7 +146,7 @@ export function wholeOf(reader) {
 }
 
 /**
- * A reader of a part of a file, as of a track.
+ * A reader of a part of a file, for example of a track.
  * @param {Reader} reader
  * @param {number} from
  * @param {number} to
@@ -163,7 +163,7 @@ export function sliceOf(reader, from, to) {
 }
 
 /**
- * Where a piece stands in the image.
+ * The range of the image that a piece covers.
  * @param {Piece} piece
  */
 export function extentOf(piece) {
@@ -171,7 +171,7 @@ export function extentOf(piece) {
 }
 
 /**
- * What of a piece stands in a range, null if nothing does.
+ * The part of a piece that lies in a range, or null if no part does.
  * @template {Piece} Some
  * @param {Some} piece
  * @param {number} from
@@ -186,12 +186,12 @@ export function pieceWithin(piece, from, to) {
     return /** @type {Some} */ (bytes ? { at, bytes } : { from: at, to: end });
 }
 
-/** Bytes of memory in which pieces are kept. */
+/** The least size in bytes of the memory blocks in which pieces are kept. */
 const KEPT_SIZE = 1 << 20;
 
 /**
- * Keeps pieces, since the bytes of one that is passed on may be others then. They stand side by side in large memory: to get memory for
- * each takes longer than to copy it.
+ * Copies pieces, since the bytes of a piece may be overwritten after it is passed on. The copies share large blocks of memory, because
+ * an allocation for each piece takes longer than the copy.
  */
 export class PieceKeeper {
     constructor() {
@@ -213,7 +213,7 @@ export class PieceKeeper {
     }
 }
 
-/** Cuts an image in which some bytes are others into pieces, in order. */
+/** Splits a modified image into copied and changed pieces, in order. */
 export class PieceCutter {
     /** @param {(piece: Piece) => void | Promise<void>} take */
     constructor(take) {
@@ -221,7 +221,7 @@ export class PieceCutter {
         this.end = 0;
     }
 
-    /** @param {number} end up to which the image stays as it is */
+    /** @param {number} end the place up to which the image is unchanged */
     async keep(end) {
         if (this.end < end) await this.take({ from: this.end, to: end });
         this.end = end;
@@ -229,7 +229,7 @@ export class PieceCutter {
 
     /**
      * @param {number} at
-     * @param {Uint8Array} bytes what stands there
+     * @param {Uint8Array} bytes the new bytes there
      */
     async put(at, bytes) {
         await this.keep(at);
@@ -238,22 +238,22 @@ export class PieceCutter {
     }
 }
 
-/** Bytes that others are appended to. */
+/** A growing byte array. */
 export class ByteList {
-    /** @param {Uint8Array} [room] in which they stand as long as there is enough of it */
+    /** @param {Uint8Array} [room] memory for the bytes, which is replaced if it becomes too small */
     constructor(room = new Uint8Array(1 << 12)) {
         this.room = room;
         this.size = 0;
     }
 
-    /** @param {Uint8Array} bytes what is appended, copied */
+    /** @param {Uint8Array} bytes the bytes to append, which are copied */
     push(bytes) {
         const at = this.grow(bytes.length);
         this.room.set(bytes, at);
     }
 
     /**
-     * Makes room for more bytes, and returns where in `room` they begin.
+     * Makes room for more bytes, and returns the place in `room` where they begin.
      * @param {number} count
      */
     grow(count) {
@@ -267,12 +267,12 @@ export class ByteList {
         return at;
     }
 
-    /** The bytes, not copied: they stay until the list changes. */
+    /** The bytes, not copied. They are valid until the list changes. */
     bytes() {
         return this.room.subarray(0, this.size);
     }
 
-    /** @param {number} count how many bytes at the front are dropped */
+    /** @param {number} count how many bytes are removed from the front */
     drop(count) {
         this.room.copyWithin(0, count, this.size);
         this.size -= count;

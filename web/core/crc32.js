@@ -1,13 +1,13 @@
-// CRC-32, as archives of dumps list it.
+// The CRC-32 that DATs list for dumps.
 
 const POLYNOMIAL = 0xEDB88320;
-/** The polynomials 1 and x^8: the highest bit is that of x^0. */
+/** The polynomials 1 and x^8. The highest bit is the coefficient of x^0. */
 const ONE = 1 << 31;
 const X_8 = 1 << 23;
-/** Bytes that go into the sum at a time: two words with the lowest byte first, each byte by a table of its own. */
+/** How many bytes are added to the sum at a time: two little-endian words, with a table for each byte. */
 const TABLES = 8;
 
-/** Table k has what each byte adds to the sum if k bytes follow it. */
+/** Table k lists the contribution of each byte value to the sum if k bytes follow it. */
 const CRC_TABLES = (() => {
     const tables = Array.from({ length: TABLES }, () => new Int32Array(256));
     for (let byte = 0; byte < 256; byte++) {
@@ -21,14 +21,14 @@ const CRC_TABLES = (() => {
     return tables;
 })();
 
-/** @param {number} sum a polynomial, which is multiplied by x */
+/** @param {number} sum the polynomial that is multiplied by x */
 function timesX(sum) {
     return sum >>> 1 ^ (sum & 1 ? POLYNOMIAL : 0);
 }
 
 /**
- * The CRC-32 of what was summed before, 0 for nothing, and of more bytes.
- * @param {number} before
+ * Continues a CRC-32 with more bytes.
+ * @param {number} before the CRC-32 of the earlier bytes, 0 if there are none
  * @param {Uint8Array} bytes
  */
 export function crc32(before, bytes) {
@@ -47,10 +47,10 @@ export function crc32(before, bytes) {
 }
 
 /**
- * The CRC-32 of bytes and of more after them, by that of each: the first is moved on over as many bytes as come after it.
+ * The CRC-32 of two adjacent ranges, from the CRC-32 of each. The first one is multiplied by x^(8 * size).
  * @param {number} before
  * @param {number} after
- * @param {number} size how many bytes come after
+ * @param {number} size of the second range in bytes
  */
 export function joinedCrc(before, after, size) {
     let moves = ONE;
@@ -62,7 +62,7 @@ export function joinedCrc(before, after, size) {
 }
 
 /**
- * The product of two polynomials, modulo that of the CRC-32.
+ * The product of two polynomials, modulo the polynomial of the CRC-32.
  * @param {number} a
  * @param {number} b
  */

@@ -1,16 +1,16 @@
-// What is known of each failure and remark of the core, by its code. A failure is thrown, and a remark is returned. Their sentences are in
+// The facts of each failure and remark of the core, by its code. A failure is thrown, and a remark is returned. Their sentences are in
 // `web/sentences`. Most codes begin with a subject and a slash.
 
-/** Where the fact is a text, it is of the user's files: a name, a path, or a word. */
+/** The facts by code. A fact of type `string` comes from the user's files: a name, a path, or a word. */
 export interface Facts {
     cancelled: {};
     'no-memory': {};
     /** The image ends at this byte. */
     'image-ended': { at: number };
-    /** A hand cannot read what it is lent. */
+    /** A worker cannot read the bytes that it is lent. */
     unread: {};
 
-    // Discs. `names` are all files that are missing, and `file` is the one with data.
+    // Discs. `names` lists all missing files, and `file` is the missing file with data.
     'disc/missing-files': { sheet: string; file: string; names: string[] };
     'disc/two-sheets': { one: string; other: string };
     'disc/no-image': {};
@@ -19,11 +19,11 @@ export interface Facts {
     'disc/no-data': {};
     'disc/other-track': { track: number };
     'disc/sector-size': { track: number; name: string; size: number };
-    /** What a file is, and what to do with it. */
+    /** The kind of a file, and advice on what to do with it. */
     'kind/what': { kind: FileKind };
     'kind/advice': { kind: FileKind };
 
-    // Cue sheets, by their lines.
+    // Cue sheets. `line` is the number of a line of the sheet.
     'cue/no-track': {};
     'cue/no-index': { line: number; track: number };
     'cue/file-words': { line: number };
@@ -56,13 +56,13 @@ export interface Facts {
     'dat/too-many': { most: number };
     'dat/cut': {};
     'dat/no-dump': {};
-    /** An entry of a DAT, and how many others have its hash. */
+    /** An entry of a DAT, and how many other entries have the same hash. */
     'dat/dump': { name: string; isBad: boolean; others: number };
     'dat/only-size': {};
     'dat/no-size': {};
 
-    // Volumes: why a track has none; what was not read of one, by the path at which that was; and why the bytes of a file are not just those
-    // from its block on.
+    // Volumes: why a track has none; which part of a volume was not read, and at which path; and why the bytes of a file are not simply
+    // the bytes from its block on.
     'volume/no-descriptor': { block: number };
     'volume/block-size': { size: number; due: number };
     'volume/no-root': {};
@@ -93,7 +93,8 @@ export interface Facts {
     'extents/apart': { path: string; count: number };
     'extents/over': { path: string };
 
-    // Texts without bytes, and a game's own tables. `at` is the character's place in the string, and `place` counts whole characters from 1.
+    // Texts that an encoding cannot express, and a game's own tables. `at` is the index of the character in the string, and `place` counts
+    // whole characters from 1.
     'text/no-character': { name: string; character: string; place: number; at: number };
     'text/half-byte': { place: number };
     'text/large-table': { size: number; most: number };
@@ -105,23 +106,23 @@ export interface Facts {
     'text/twice': { line: number; digits: string };
     'text/lines-left-out': { lines: number[] };
 
-    // Scripts. `line` of `refused` is the program's own.
+    // Scripts. `line` of `refused` is the line that the program prints.
     'script/refused': { line: string; tooLong: boolean };
     'script/other-base': { line: number; base: number; begins: number };
     'script/conflict': {};
     'script/too-large': { most: number };
     'script/wrong-sector': { block: number };
-    /** Sectors of an image that no script makes, all for one reason; and how many runs of them are named. */
+    /** Sectors of an image that a script cannot produce, all for one reason, and the most runs of them that are listed. */
     'script/left': { runs: LeftRun[]; image: string; most?: number };
 
-    // Texts that are looked for, and where they stand.
+    // Searches for texts.
     'find/empty': {};
     'find/nothing': {};
-    /** The byte before a text that may begin in the middle of a character. */
+    /** The byte before a found text, which may begin in the middle of a character. */
     'find/inside': { before: number };
     'no-file': { path: string };
 
-    // Bytes that others replace. An old size is in bytes, and so is a room.
+    // Replacing of bytes. `old`, `fresh`, `size`, and `room` are in bytes.
     'replace/other-size': { fresh: number; old: number };
     'replace/filler': { missing: number; filler: Uint8Array };
     'replace/no-room': { name: string; size: number; room: number };
@@ -134,7 +135,7 @@ export interface Facts {
     'replace/overlaps': {};
     'replace/hit-left': { text: { block: number; offset: number }; why: Remark };
 
-    // Files that others replace.
+    // Replacing of files.
     'replace/own-block': { path: string; block: number; kind: 'descriptor' | 'directory' | 'path table' };
     'replace/udf': { path: string };
     'replace/shared-length': { path: string; other: string };
@@ -150,7 +151,7 @@ export interface Facts {
     'list/column-twice': { row: number; column: string };
     'list/no-new-text': {};
     'list/no-place': {};
-    /** The row to which a cell in quotes runs on. */
+    /** The row in which a quoted cell ends that begins in an earlier row. */
     'list/cell-runs-on': { row: number };
     'list/overlaps': { row: number };
     'list/long-text': { most: number };
@@ -160,20 +161,20 @@ export interface Facts {
     'list/formula': { cell: string };
     'list/no-code': { code: string };
     'list/row-left': { text: { number: number }; why: Remark };
-    /** How often new texts leave out a code, in how many rows, and the numbers of the first of them. */
+    /** How often new texts leave out a code, in how many rows, and the numbers of the first of these rows. */
     'list/code-left': { code: string; count: number; rows: number; first: number[] };
 }
 
 export type FileKind = 'raw' | 'audio' | 'subchannels' | 'iso' | 'chd' | 'ecm' | 'archive' | 'wave' | 'cue' | 'empty' | 'unknown' | 'scrambled'
     | 'nrg' | 'mds' | 'ccd' | 'toc' | 'sub';
 
-/** Blocks from the first to the last, why no script makes them, and their kinds if that is why. */
+/** A run of blocks, why a script cannot produce them, and their kinds if these are the reason. */
 export type LeftRun = { first: number; last: number; why: 'damaged' | 'kind' | 'address'; kinds: number[] };
 
 export type Code = keyof Facts;
-/** What codes begin with. */
+/** The subjects with which codes begin. */
 export type Subject = Code extends infer Name ? (Name extends `${infer First}/${string}` ? First : never) : never;
-/** The codes that are named, and those of subjects that are named. */
+/** The given codes, and all codes of the given subjects. */
 export type CodesOf<Wanted extends Code | Subject> = Extract<Code, Wanted | `${Wanted}/${string}`>;
 
 export type Remark<Name extends Code = Code> = { [Each in Name]: { code: Each; facts: Facts[Each] } }[Name];

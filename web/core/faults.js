@@ -1,11 +1,11 @@
-// Failures that a user may see.
+// Failures and remarks that a user may see.
 
 /** @typedef {import('./facts.js').Code} Code */
 /** @typedef {import('./facts.js').Facts} Facts */
 /** @typedef {import('./facts.js').Subject} Subject */
 
 /**
- * An expected failure, which is shown to the user. Any other exception is a bug. A door's own failure has its sentence among its facts.
+ * An expected failure, which is shown to the user. Any other exception is a bug. A failure of a door itself has its sentence in `facts`.
  * @template {Code} [Name=Code]
  */
 export class Fault extends Error {
@@ -22,7 +22,7 @@ export class Fault extends Error {
 }
 
 /**
- * Whether an error is a failure with one of some codes, or of one of some subjects.
+ * Whether an error is a failure with one of the given codes or subjects.
  * @template {Code | Subject} Wanted
  * @param {unknown} error
  * @param {...Wanted} wanted
@@ -33,7 +33,7 @@ export function failedBy(error, ...wanted) {
 }
 
 /**
- * What is returned to be said.
+ * A remark: a code and its facts, which are returned and not thrown.
  * @template {Code} Name
  * @param {Name} code
  * @param {Facts[Name]} facts
@@ -43,13 +43,13 @@ export function remark(code, facts) {
     return /** @type {import('./facts.js').Remark<Name>} */ ({ code, facts });
 }
 
-/** That a job was ended by its signal. */
+/** The failure of a job that its signal ended. */
 export function cancelled() {
     return new Fault('cancelled', {});
 }
 
 /**
- * What a function makes that only takes memory. Engines throw a RangeError if they have none left.
+ * Calls a function that does nothing but allocate memory. Throws a Fault, `no-memory`, if none is left: engines throw a RangeError then.
  * @template Made
  * @param {() => Made} make
  * @returns {Made}

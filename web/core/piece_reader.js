@@ -1,4 +1,4 @@
-// An image that is only in pieces yet, read as if it were a file.
+// A reader of an image that exists only as a list of pieces.
 
 import { extentOf, firstAfter, forwardOf, pieceWithin, readInto } from './bytes.js';
 import { newBytes } from './faults.js';
@@ -7,9 +7,9 @@ import { newBytes } from './faults.js';
 /** @typedef {import('./bytes.js').Piece} Piece */
 
 /**
- * A reader of pieces that stand one after the other up to the image's end, from the first one on. It reads the range of the image, unless
- * they have all its bytes, and puts the bytes that are others over it.
- * @param {Reader} reader that slices are of
+ * A reader of adjacent pieces, from the first one up to the end of the image. It reads the range from the source, unless the pieces have
+ * all its bytes, and overwrites the changed bytes.
+ * @param {Reader} reader the source of the slices
  * @param {Piece[]} pieces
  * @returns {Reader}
  */

@@ -1,18 +1,18 @@
-// Reads of an image that are near one another, made as one.
+// Combines reads of an image that are close together.
 
 import { READ_SIZE, forwardOf, readBytes, readInto } from './bytes.js';
 import { newBytes } from './faults.js';
 
 /** @typedef {import('./bytes.js').Reader} Reader */
 
-/** The fewest bytes that are read at a time. */
+/** The fewest bytes that are read at a time, unless the image ends or a part of them is buffered. */
 const LEAST = 1 << 15;
-/** Bytes by which one of two readers is behind the other at most, without another read. */
+/** How many bytes one of two callers may be behind the other without a second read. */
 const BEHIND = 1 << 20;
 
-/** What of an image was read last. If places near its end are asked for next, more is read at a time. */
+/** A buffer of the bytes of an image that were read last. It reads more at a time if the next request is close to the buffer's end. */
 export class ReadAhead {
-    /** @param {Reader} reader of the image, which is read forward */
+    /** @param {Reader} reader of the image, which is read forward from now on */
     constructor(reader) {
         this.reader = forwardOf(reader);
         this.at = 0;
@@ -22,7 +22,7 @@ export class ReadAhead {
     }
 
     /**
-     * Bytes of the image, not copied; null if they have to be read first.
+     * Buffered bytes of the image, not copied; null if they have to be read first.
      * @param {number} at
      * @param {number} size
      */
@@ -32,7 +32,7 @@ export class ReadAhead {
     }
 
     /**
-     * Bytes of the image, read if they are not here. They stay until others are asked for.
+     * Bytes of the image, which are read if they are not buffered. They are valid until the next request.
      * @param {number} at
      * @param {number} size
      */
@@ -41,8 +41,7 @@ export class ReadAhead {
     }
 
     /**
-     * Bytes of the image that begin in what was read last, or where that ends: what is missing of them is read. Null if they begin
-     * elsewhere.
+     * Bytes of the image that begin in the buffer or at its end. Missing bytes are read. Null if the range begins elsewhere.
      * @param {number} at
      * @param {number} size
      */
@@ -52,8 +51,8 @@ export class ReadAhead {
     }
 
     /**
-     * Reads bytes, and as many after them as one read gives. What of them is here is not read again; then none after them are read, so
-     * that few are moved.
+     * Reads bytes, and those after them that the same read returns. Buffered bytes are not read again. In that case nothing after the
+     * range is read either, so that few bytes are moved.
      * @param {number} at
      * @param {number} size
      */
@@ -74,7 +73,7 @@ export class ReadAhead {
     }
 
     /**
-     * Room for bytes after others, which are moved to its front.
+     * Room for bytes after the kept ones, which are moved to the front of the buffer.
      * @param {Uint8Array} kept
      * @param {number} length
      */
@@ -88,7 +87,7 @@ export class ReadAhead {
 }
 
 /**
- * A reader for two who read forward, of whom one is a little behind the other: what was read for one is there for the other.
+ * A reader for two callers that read forward, one a little behind the other. Bytes that were read for one are kept for the other.
  * @param {Reader} reader
  * @returns {Reader}
  */

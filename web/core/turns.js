@@ -1,25 +1,25 @@
-// Long work in parts: signals, Cancel, and what the page shows get their turn in between.
+// Interrupts long work regularly, so that signals, Cancel, and the display of the page are handled in between.
 
 import { cancelled } from './faults.js';
 
-/** @typedef {{ aborted: boolean }} Signal what ends a job */
+/** @typedef {{ aborted: boolean }} Signal ends a job if it is aborted */
 
-/** After so many milliseconds of work the others get a turn. */
+/** How many milliseconds of work pass before other tasks get a turn. */
 const WORK_TIME = 50;
 
-/** How many items are sorted in one piece. */
+/** How many items are sorted without a turn. */
 const SORTED_AT_ONCE = 1 << 13;
 
 let lastTurn = 0;
 
-/** Whether the last turn of the others was a while ago. A loop of millions of short steps asks this first: it only looks at the clock. */
+/** Whether other tasks are due a turn. A loop of millions of short steps asks this first, because it only reads the clock. */
 export function isTurnDue() {
     return Date.now() - lastTurn >= WORK_TIME;
 }
 
 /**
- * Gives the others their turn if it is due. A loop over a stranger's input awaits this in each step. Throws a Fault, `cancelled`, if the
- * signal ends the job.
+ * Lets other tasks run if a turn is due. A loop over untrusted input awaits this in each step. Throws a Fault, `cancelled`, if the signal
+ * ends the job.
  * @param {Signal} [signal]
  */
 export async function letOthersIn(signal) {
@@ -31,7 +31,7 @@ export async function letOthersIn(signal) {
 }
 
 /**
- * Items in the order of their keys, those of equal keys in the order in which they were. The others get turns in between.
+ * Sorts items by their keys, stably. Other tasks get turns in between.
  * @template T
  * @param {T[]} items
  * @param {(item: T) => number} keyOf
@@ -55,7 +55,7 @@ export async function sortedInTurns(items, keyOf, signal) {
 }
 
 /**
- * Two sorted runs as one.
+ * Merges two sorted runs.
  * @template T
  * @param {{ key: number, item: T }[]} first
  * @param {{ key: number, item: T }[]} second

@@ -1,4 +1,4 @@
-// What other programs in JavaScript, in node and in browsers, call of cdpatch: the interface of the package for npm.
+// The interface of the npm package, for JavaScript programs in node and in browsers.
 
 import { Calls, RECORD, RECORD_SIZE, STATUS, kindName } from '../core/module/index.js';
 import { auditText, listText } from '../core/sectors/index.js';
@@ -8,26 +8,26 @@ import { patchLines, patched, reported, surveyed, textOf } from './jobs.js';
 export { RESULT } from '../core/module/index.js';
 export { Fault, ScriptError } from './errors.js';
 
-/** What reads a file: bytes from a place on, as many as were asked for or fewer, and none only at its end. More are refused. */
+/** Reads a file. `read` returns at most `length` bytes from `at` on, and none only at the end. More bytes are refused. */
 /** @typedef {{ size: number, read(at: number, length: number): Promise<Uint8Array> }} Source */
 /** @typedef {Blob | Uint8Array | ArrayBuffer | Source} Input a raw image, of 2352 bytes a sector */
 /** @typedef {Input | string} ScriptInput a script: its bytes, or its text */
 /**
- * A signal that ends a job, which then throws its reason; and who hears how many bytes of the image are done, of all.
+ * A signal that ends a job, which then throws its reason; and a callback for the number of bytes of the image that are done, of all.
  * @typedef {{ signal?: AbortSignal, progress?: (done: number, all: number) => void }} Watch
  */
-/** @typedef {{ base?: number } & Watch} SurveySettings the first sector's block, or 0 */
-/** @typedef {SurveySettings & { carry?: boolean }} Settings with whether damaged sectors are patched */
-/** @typedef {{ status: 0 | 1 | 2, text: string }} Report what the command prints, and its status */
+/** @typedef {{ base?: number } & Watch} SurveySettings `base` is the block of the first sector, by default 0 */
+/** @typedef {SurveySettings & { carry?: boolean }} Settings `carry`: whether damaged sectors are patched */
+/** @typedef {{ status: 0 | 1 | 2, text: string }} Report the status of the command, and its output */
 /**
- * What became of a patch: its line; a RESULT, which is 0 if it was applied, or why it is refused; and the block and the user byte there
- * that refuse it.
+ * The outcome of a patch: its line; a RESULT, which is 0 if it was applied, or the reason why it is refused; and the block and the offset of
+ * the user byte that refuses it.
  * @typedef {{ number: number, result: number, block: number, offset: number }} Outcome
  */
 /** @typedef {Report & { outcomes: Outcome[] }} Patched */
 /**
- * A sector: its block; what it is; whether its address is that of another block; and of a Mode 1 sector, whether bytes that have to be 0
- * are not, whether its EDC is wrong, and how many words of its P and Q parity are.
+ * A sector: its block; its kind; and whether its address is that of a different block. For a Mode 1 sector also: whether bytes that have to
+ * be 0 are not (`zeros`), whether its EDC is wrong, and how many words of its P and Q parity are wrong.
  * @typedef {{ block: number, kind: 'nosync' | 'mode0' | 'mode1' | 'mode2' | 'other', address: boolean, zeros: boolean, edc: boolean,
  *     p: number, q: number }} Sector
  */
@@ -44,14 +44,14 @@ export class Cdpatch {
         this.calls = new Calls(module);
     }
 
-    /** The version of the library, as '1.3.0'. */
+    /** The version of the library, for example '1.3.0'. */
     get version() {
         const number = this.calls.version();
         return [number / 10000, number / 100 % 100, number % 100].map(Math.floor).join('.');
     }
 
     /**
-     * What each sector is, and what is wrong with it.
+     * Surveys an image: the kind and the errors of each sector.
      * @param {Input} image
      * @param {SurveySettings} settings
      * @returns {Promise<Sector[]>}
@@ -67,7 +67,7 @@ export class Cdpatch {
     }
 
     /**
-     * What `cdpatch list` prints; of an image of more than 1000000 sectors only the line that says so.
+     * The output of `cdpatch list`. For an image of more than 1000000 sectors, it is only the line that says so.
      * @param {Input} image
      * @param {SurveySettings} settings
      * @returns {Promise<Report>}
@@ -77,7 +77,7 @@ export class Cdpatch {
     }
 
     /**
-     * What `cdpatch audit` prints; of an image of more than 1000000 sectors only the line that says so.
+     * The output of `cdpatch audit`. For an image of more than 1000000 sectors, it is only the line that says so.
      * @param {Input} image
      * @param {SurveySettings} settings
      * @returns {Promise<Report>}
@@ -97,7 +97,7 @@ export class Cdpatch {
     }
 
     /**
-     * What becomes of the patches of a script, as `cdpatch check` prints it. Throws ScriptError, also if the script says another base.
+     * Tries the patches of a script, and reports as `cdpatch check` does. Throws ScriptError, also if the script names a different base.
      * @param {Input} image
      * @param {ScriptInput} script
      * @param {Settings} [settings]
@@ -108,9 +108,9 @@ export class Cdpatch {
     }
 
     /**
-     * Makes the patched image, which is given to `write` in order, each piece when the one before was taken. The bytes may change after
-     * that. `write` has to take all bytes of a piece, as `writeFile` of a FileHandle does, and its `write` does not. Throws as check does,
-     * and then nothing was written.
+     * Creates the patched image, and passes it to `write` in order, each piece when `write` is done with the one before. Its bytes may
+     * change after that. `write` has to write all bytes of a piece. `writeFile` of a FileHandle does so, but its `write` does not. Throws
+     * what check throws, and then nothing was written.
      * @param {Input} image
      * @param {ScriptInput} script
      * @param {(bytes: Uint8Array) => void | Promise<void>} write
@@ -124,7 +124,7 @@ export class Cdpatch {
 }
 
 /**
- * The patched image as a stream; `report` is known when that has ended. What `apply` throws fails the stream too, and so does status 2.
+ * The patched image as a stream. `report` resolves when that has ended. The stream fails if `apply` throws, and also with status 2.
  * @param {Cdpatch} cdpatch
  * @param {Input} image
  * @param {ScriptInput} script
@@ -143,7 +143,7 @@ export function patchedStream(cdpatch, image, script, settings) {
 }
 
 /**
- * Loads the library: `cdpatch.wasm` that lies beside this file, or another module or its bytes. Throws a Fault if a server lacks that file.
+ * Loads the library: `cdpatch.wasm` beside this file, or a given module or its bytes. Throws a Fault if a server lacks that file.
  * @param {WebAssembly.Module | BufferSource} [module]
  * @returns {Promise<Cdpatch>}
  */
@@ -153,13 +153,13 @@ export async function load(module) {
 }
 
 /**
- * A regular file in node, read piece by piece. Throws a Fault if it is another, such as a pipe, whose size is not known.
+ * Opens a regular file in node. Throws a Fault for any other file, such as a pipe, whose size is not known.
  * @param {string} path
  * @returns {Promise<Source & { close(): Promise<void> }>}
  */
 export async function openFile(path) {
     const { open, stat } = await import('node:fs/promises');
-    // To open a pipe would wait for its writer.
+    // Opening a pipe would wait for its writer.
     if (!(await stat(path)).isFile()) throw new Fault(`${path} is not a regular file`);
     const file = await open(path);
     const { size } = await file.stat();

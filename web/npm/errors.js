@@ -1,12 +1,12 @@
-// What the calls of the package throw.
+// The errors that the calls of the package throw.
 
 import { Fault as CoreFault, failedBy } from '../core/faults.js';
 import { sentenceOf } from '../sentences/index.js';
 
-/** The program's line for a fault of a script, or what is said of its base. */
+/** Matches the program's line for a fault of a script, and the sentence about its base. */
 const LINE = /^(?:script )?line (\d+)/;
 
-/** By what callers know failures of the core. */
+/** The codes by which callers recognise failures of the core. */
 const CODES = new Map([['image-ended', 'image ended'], ['no-memory', 'no memory']]);
 
 /** An expected failure. Its `code` is 'image ended' for an image that ends before its size. */
@@ -23,8 +23,8 @@ export class Fault extends Error {
 }
 
 /**
- * A script that is refused. Its message is the program's line, or says for which base the script is; `line` is the number of the script's
- * line that is named, null if none is.
+ * The refusal of a script. Its message is the program's line, or says for which base the script is. `line` is the number of the script's
+ * line in the message, or null.
  */
 export class ScriptError extends Error {
     /** @param {string} message */
@@ -37,7 +37,7 @@ export class ScriptError extends Error {
 }
 
 /**
- * What a job of the core gives. Its failures become those of the package.
+ * Awaits a job of the core, and converts its failures to errors of the package.
  * @template Made
  * @param {Promise<Made>} job
  * @returns {Promise<Made>}

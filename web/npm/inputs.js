@@ -1,4 +1,4 @@
-// What the calls of the package are given: images and scripts of several kinds, each as one that is read, and who follows a job.
+// Converts the inputs of the package, which are images and scripts of several types, to sources, and ends their reads by a signal.
 
 import { READ_SIZE, readBytes, watchedReader } from '../core/bytes.js';
 
@@ -20,13 +20,13 @@ function assertSource(input, kinds) {
 }
 
 /**
- * What a source's read gave, if it keeps what it promises: with more bytes the image would become another, without a word.
+ * Checks the result of a source's `read`. With more bytes than requested, the image would silently become wrong.
  * @param {any} given
- * @param {number} length how many bytes it was asked for
+ * @param {number} length how many bytes were requested
  * @returns {Uint8Array}
  */
 function bytesGiven(given, length) {
-    // Those of another realm too, such as a frame, which are instances of another Uint8Array.
+    // Bytes of another realm, such as a frame, are instances of a different Uint8Array.
     const isBytes = Object.prototype.toString.call(given) === '[object Uint8Array]';
     if (!isBytes) throw new TypeError(`read(at, length) gives a Uint8Array, and not ${given?.constructor?.name ?? given}`);
     if (given.length > length) throw new RangeError(`read(at, length) gave ${given.length} bytes, and was asked for ${length}`);
@@ -35,7 +35,7 @@ function bytesGiven(given, length) {
 
 /**
  * @param {Input} input
- * @param {string} [kinds] what it may be
+ * @param {string} [kinds] the allowed types, for the message
  * @returns {Source}
  */
 export function sourceOf(input, kinds = `an image is ${KINDS}`) {
@@ -70,10 +70,10 @@ export function assertWanted(signal) {
 }
 
 /**
- * The same source, whose reads end with a signal.
+ * Wraps a source so that its reads throw as soon as a signal ends the job.
  * @param {Source} source
  * @param {Watch['signal']} signal
- * @param {(at: number) => void} [told] where each read begins
+ * @param {(at: number) => void} [told] receives the place where each read begins
  * @returns {Source}
  */
 export function watchedSource(source, signal, told) {

@@ -1,4 +1,4 @@
-// The jobs of the package, over the core.
+// The jobs of the package, which use the core.
 
 import { READ_SIZE, bytesOfPieces, readBytes } from '../core/bytes.js';
 import { LAST_BASE, RECORD_SIZE, SECTOR_SIZE, STATUS, sectorCount } from '../core/module/index.js';
@@ -32,7 +32,7 @@ export function reportOf({ status, text }) {
 }
 
 /**
- * The records of an image's sectors, and how many bytes follow them.
+ * Surveys an image: the records of its sectors, and how many bytes follow the last sector.
  * @param {Calls} calls
  * @param {Input} image
  * @param {{ base?: number } & Watch} settings
@@ -52,7 +52,7 @@ export async function surveyed(calls, image, { base = 0, signal, progress }) {
 }
 
 /**
- * Throws a RangeError if no image of the program's begins with a block.
+ * Throws a RangeError if an image cannot begin with a block.
  * @param {number} base
  */
 function assertBase(base) {
@@ -61,7 +61,7 @@ function assertBase(base) {
 }
 
 /**
- * What a command prints of an image's sectors. If the image is too long, only the line that says so, and nothing is read.
+ * The report of a command on an image's sectors. If the image is too long, it is only the line that says so, and nothing is read.
  * @param {Calls} calls
  * @param {Input} image
  * @param {{ base?: number } & Watch} settings
@@ -89,7 +89,7 @@ export async function patchLines(calls, script) {
 }
 
 /**
- * What becomes of the patches of a script. The patched image is given to `write`, if somebody wants it.
+ * Applies a script, and returns the outcomes. The patched image is passed to `write`, unless that is null.
  * @param {Calls} calls
  * @param {Input} image
  * @param {ScriptInput} script

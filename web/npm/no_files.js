@@ -1,4 +1,4 @@
-// What stands for node:fs/promises where there is no node: bundlers for browsers get the package with it.
+// Replaces node:fs/promises where there is no node. Bundlers for browsers include it in place of that module.
 
 import { Fault } from './errors.js';
 

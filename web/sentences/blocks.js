@@ -1,13 +1,13 @@
-// Blocks in words.
+// Formats runs of blocks as words.
 
 import { blocksIn } from '../core/sectors/index.js';
 
 /** @typedef {import('../core/sectors/runs.js').Run} Run */
 
 /**
- * The blocks of runs in words, as 'block 3' or 'blocks 3, 5 to 6 and 9'. Of those after the first runs only the number is said.
+ * Formats the blocks of runs, for example as 'block 3' or 'blocks 3, 5 to 6 and 9'. Blocks after the first runs are only counted.
  * @param {Run[]} runs one at least
- * @param {number} [most] how many runs are named
+ * @param {number} [most] how many runs are listed
  */
 export function blocksText(runs, most = runs.length) {
     const words = runs.slice(0, most).map(({ first, last }) => first === last ? String(first) : `${first} to ${last}`);

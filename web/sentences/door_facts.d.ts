@@ -1,10 +1,10 @@
-// What doors throw themselves. The sentence is one of their own.
+// The facts of failures that only doors throw. Each of them includes its sentence.
 
 import { Code, Facts, Remark } from '../core/facts.js';
 
 declare module '../core/facts.js' {
     interface Facts {
-        /** `file` is one that the sentence names, and `advice` says what to do. */
+        /** `file` is a file that the sentence names, and `advice` says what to do. */
         own: { sentence: string; file?: string; advice?: string };
         'disc/own': { sentence: string };
         file: { sentence: string; file: string; attempt: 'open' | 'read' | 'make' | 'write' };
@@ -19,5 +19,5 @@ declare module '../core/facts.js' {
 /** The codes of the core. */
 export type CoreCode = { [Name in Code]: Facts[Name] extends { sentence: string } ? never : Name }[Code];
 
-/** A sentence for each of them, without which `tsc` refuses a language. `said` is what that says of a remark among the facts. */
+/** The sentences of a language by code. `tsc` refuses a language that lacks one. `said` formats a remark among the facts. */
 export type Sentences = { readonly [Name in CoreCode]: (facts: Facts[Name], said: (remark: Remark) => string) => string };

@@ -1,4 +1,4 @@
-// What is said in English of the failures and remarks of the core, by their codes. A translation is another such table.
+// The English sentences for the failures and remarks of the core, by code. A translation is another such table.
 
 import { hexText } from '../core/hex_digits.js';
 import { MOST_SECTORS, kindName } from '../core/module/index.js';
@@ -13,7 +13,7 @@ const NO_DAT = 'not a DAT in Logiqx XML';
 /** The program's message about an image that is too long, without its `cdpatch: `. */
 export const LONG_IMAGE = `the image has more than ${MOST_SECTORS} sectors`;
 
-/** What begins what is said of a bad dump. */
+/** The beginning of the sentence about a bad dump. */
 export const BAD_DUMP = 'known as a bad dump:';
 
 /**
@@ -39,7 +39,7 @@ function leftClause({ runs, image, most }) {
 }
 
 /**
- * A character, by its number too.
+ * Formats a character, with its code point.
  * @param {string} character
  */
 function shownCharacter(character) {
@@ -47,7 +47,7 @@ function shownCharacter(character) {
     return /[\p{C}\p{Z}\p{M}]/u.test(character) ? `U+${code}` : `'${character}' (U+${code})`;
 }
 
-/** How many lines of a table are named that mean nothing here. */
+/** The most lines of a table that are listed because they mean nothing here. */
 const MOST_NAMED = 20;
 
 /** @param {Facts['text/lines-left-out']} facts */

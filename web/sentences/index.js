@@ -1,4 +1,4 @@
-// What is said of the failures and remarks of the core, which the doors share.
+// The sentences for the failures and remarks of the core, which the doors share.
 
 export { blocksText } from './blocks.js';
 export { BAD_DUMP, ENGLISH, LONG_IMAGE } from './english.js';

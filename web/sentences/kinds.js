@@ -1,6 +1,6 @@
-// Kinds of files in words.
+// Descriptions of the kinds of files.
 
-/** @type {Record<import('../core/facts.js').FileKind, [string, string]>} what it is, and what to do with it */
+/** @type {Record<import('../core/facts.js').FileKind, [string, string]>} a description, and advice on what to do with the file */
 export const KINDS = {
     raw: ['a raw image, 2352 bytes a sector', ''],
     audio: ['sectors of audio, or no image: none that was looked at has a sync field', 'Choose the data track of the disc.'],

@@ -1,4 +1,4 @@
-// What is said of failures and remarks.
+// Finds the sentences for failures and remarks.
 
 import { Fault } from '../core/faults.js';
 import { ENGLISH } from './english.js';
@@ -8,7 +8,7 @@ import { ENGLISH } from './english.js';
 /** @typedef {import('./door_facts.js').Sentences} Sentences */
 
 /**
- * A failure with a sentence of the door's own.
+ * A failure with a door's own sentence.
  * @param {string} sentence
  * @param {Omit<Facts['own'], 'sentence'>} [facts]
  */
@@ -17,9 +17,9 @@ export function ownFault(sentence, facts = {}) {
 }
 
 /**
- * What is said of a failure or a remark.
+ * The sentence for a failure or a remark.
  * @param {Remark | Fault} remark
- * @param {Sentences} [sentences] those of another language
+ * @param {Sentences} [sentences] those of a different language
  * @returns {string}
  */
 export function sentenceOf({ code, facts }, sentences = ENGLISH) {

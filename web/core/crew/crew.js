@@ -1,4 +1,4 @@
-// Jobs over ranges of sectors, shared out to workers.
+// Distributes jobs over ranges of sectors among workers.
 
 import { readBytes } from '../bytes.js';
 import { Fault, cancelled, newBytes } from '../faults.js';
@@ -18,30 +18,31 @@ import { SECTOR_SIZE } from '../module/index.js';
  */
 /** @typedef {{ reader: Reader, at: number, length: number }} Slice the bytes of a range in an image */
 /**
- * A hand: a worker thread, or this one, that runs jobs. The door calls `onreply` with what `serving` has returned, and `onfault` if the
- * worker itself fails. One that `isHere` has done the job when `post` returns, and keeps no bytes.
+ * A worker of a crew: a worker thread, or this thread. The door calls `onreply` with the reply of `serving`, and `onfault` if the worker
+ * itself fails. With `isHere` the job is done when `post` returns, and the hand keeps no bytes.
  * @typedef {{ post(message: Message, transfer: ArrayBuffer[]): void, onreply: (reply: Reply) => void,
  *     onfault: (error: Error) => void, isHere?: boolean }} Hand
  */
-/** @typedef {Pick<Crew, 'share'>} Sharer what shares out a job */
+/** @typedef {Pick<Crew, 'share'>} Sharer distributes a job */
 /**
- * The block of the first sector; how many sectors a range has, and how many after it a job sees; the bytes of a sector in each image, if
- * they are not 2352 in all; who is told of sectors that are done; what ends the job; and the mark that its messages have.
+ * Options of `share`. `base`: the block of the first sector. `step`: sectors per range. `beyond`: how many sectors after its range a job
+ * also gets. `units`: the bytes of a sector in each image, if not 2352 in all. `progress` is called with the number of sectors done.
+ * `signal` ends the job. `own`: the mark of its messages.
  * @typedef {{ base?: number, step?: number, beyond?: number, units?: number[], progress?: (done: number, all: number) => void,
  *     signal?: { aborted: boolean }, own?: number }} Sharing
  */
 
-/** Sectors per range. */
+/** Sectors per range, unless the caller gives another number. */
 const SHARED_STEP = 1024;
 
-/** Ranges in flight per hand. */
+/** The most ranges in flight per hand. */
 const RANGES_A_HAND = 2;
 
-/** The fault of a reply if the hand can't read what it is lent. */
+/** The fault of a reply if the hand cannot read the bytes that it is lent. */
 export const UNREAD = Object.freeze({ code: /** @type {const} */ ('unread'), facts: {} });
 
 /**
- * What a worker does with the bytes of a range.
+ * The function by which a worker answers messages. It does not throw: a failure is part of the reply.
  * @param {Calls} calls
  * @param {JobTable} table
  * @returns {<Name extends JobName>(message: Message<Name, Uint8Array>) => Reply}
@@ -59,7 +60,7 @@ export function serving(calls, table) {
 }
 
 /**
- * An error as it can be posted.
+ * Converts an error to an object that can be posted.
  * @param {unknown} error
  * @returns {ReplyFault}
  */
@@ -68,7 +69,7 @@ function errorFault(error) {
 }
 
 /**
- * Whether a hand could not read what it was lent.
+ * Whether a hand could not read the bytes that it was lent.
  * @param {ReplyFault | undefined} fault
  */
 function isUnread(fault) {
@@ -76,7 +77,7 @@ function isUnread(fault) {
 }
 
 /**
- * The memory of a reply that its thread gives away: that of the bytes that stand in the answer or in a list of it.
+ * The buffers of a reply that are transferred: those of byte arrays in the answer, or in lists of the answer.
  * @param {Reply} reply
  */
 export function transfersOf({ answer }) {
@@ -110,7 +111,7 @@ export function localHand(calls, table) {
 
 /**
  * @param {Slice[]} slices
- * @param {Uint8Array[] | null} [rooms] where they are read to, in place of memory of their own
+ * @param {Uint8Array[] | null} [rooms] memory to read into, instead of new memory
  * @returns {Promise<Uint8Array[]>}
  */
 function readSlices(slices, rooms) {
@@ -121,7 +122,7 @@ function readSlices(slices, rooms) {
 }
 
 /**
- * Bytes whose memory is only theirs.
+ * The bytes in a buffer of their own, copied if necessary.
  * @param {Uint8Array} bytes
  */
 function ownBytes(bytes) {
@@ -129,22 +130,22 @@ function ownBytes(bytes) {
 }
 
 /**
- * Hands, among which ranges of sectors are shared out. Several jobs may be under way. What readers lend, hands may read for themselves,
- * each its next range while it works on the last one.
+ * Distributes ranges of sectors among hands. Several jobs may run at the same time. Hands may read lent bytes themselves, each its next
+ * range while it works on the last one.
  */
 export class Crew {
     /**
      * @param {Hand[]} hands one at least
-     * @param {boolean} lends whether they read what is lent. One that can't says so by UNREAD, and then this thread reads for all.
+     * @param {boolean} lends whether hands read lent bytes. If one replies UNREAD, this thread reads for all hands from then on.
      */
     constructor(hands, lends = false) {
         this.lends = lends;
         this.number = 0;
         /** @type {Error | null} */
         this.fault = null;
-        /** @type {Map<Hand, number>} how many ranges each has */
+        /** @type {Map<Hand, number>} the number of ranges in flight of each hand */
         this.loads = new Map(hands.map(hand => [hand, 0]));
-        /** @type {Map<number, (reply: Reply) => void>} who waits for the reply of a number */
+        /** @type {Map<number, (reply: Reply) => void>} callbacks by the number of the expected reply */
         this.waiting = new Map();
         for (const hand of hands) {
             hand.onreply = reply => this.settle(hand, reply);
@@ -163,7 +164,7 @@ export class Crew {
         if (settle) settle(reply);
     }
 
-    /** @param {Error} error with which a worker ended */
+    /** @param {Error} error the failure of a worker, with which all expected replies and later ones fail */
     fail(error) {
         this.fault = error;
         for (const [number, settle] of this.waiting) settle({ number, fault: error });
@@ -171,7 +172,7 @@ export class Crew {
     }
 
     /**
-     * Hands a range to the hand that has fewest, and returns its reply.
+     * Posts a range to the least busy hand, and returns its reply.
      * @param {Omit<Message, 'number'>} range
      * @returns {Promise<Reply>}
      */
@@ -192,7 +193,7 @@ export class Crew {
     }
 
     /**
-     * The reply of a hand that reads for itself. If it can't, this thread reads for it.
+     * The reply of a hand that reads the bytes itself. If it cannot, this thread reads them.
      * @param {Omit<Message, 'number' | 'pieces'>} range
      * @param {Slice[]} slices
      * @returns {Promise<Reply>}
@@ -209,7 +210,7 @@ export class Crew {
     }
 
     /**
-     * What is lent, read by a hand that has nothing to do, so that this thread has less to do. Null if no hand is free, or can read it.
+     * Lets an idle hand read lent bytes, which saves work in this thread. Null if no hand is idle, or if it cannot read them.
      * @param {unknown} lent
      * @returns {Promise<Uint8Array | null>}
      */
@@ -221,8 +222,7 @@ export class Crew {
     }
 
     /**
-     * Does a job on bytes that are at hand, which are given away. Throws a Fault that the job throws, and for a bug an
-     * Error.
+     * Does a job on bytes in memory, which are given away. Throws a Fault that the job throws, and an Error for a bug.
      * @template {JobName} Name
      * @param {Name} job
      * @param {Uint8Array[]} pieces
@@ -233,11 +233,11 @@ export class Crew {
     }
 
     /**
-     * Does a job on images that have the same number of sectors, and gives its answers to `take` in the order of the ranges. Throws
+     * Does a job on images that have the same number of sectors, and passes its answers to `take` in the order of the ranges. Throws
      * what a reader throws, a Fault if an image shrinks (`image-ended`) or `signal` ends it (`cancelled`), and what `given` throws.
      * @template {JobName} Name
      * @param {Name} job
-     * @param {Reader[]} readers what they read is given away
+     * @param {Reader[]} readers the bytes that they return are given away
      * @param {import('./jobs.js').Shared<Name>} args
      * @param {Sharing} how
      * @param {(answer: Jobs[Name]['answer']) => void | Promise<void>} take

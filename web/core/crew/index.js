@@ -1,3 +1,3 @@
-// Workers, and how jobs over ranges of sectors are shared out to them.
+// Workers, and the distribution of jobs over ranges of sectors among them.
 
 export { Crew, UNREAD, localHand, serving, transfersOf } from './crew.js';

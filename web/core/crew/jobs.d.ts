@@ -3,18 +3,18 @@
 import { Remark } from '../facts.js';
 import { Calls } from '../module/calls.js';
 
-/** What each job is given beside bytes, and its answer, by its name. The room `jobs` adds those that it lists. */
+/** The arguments beside bytes and the answer of each job, by its name. The room `jobs` adds the jobs of its table. */
 export interface Jobs {
     read: { args: {}; answer: Uint8Array };
 }
 export type JobName = keyof Jobs;
 
-/** What the caller of `share` gives: `share` adds `count`, the number of sectors in a range. */
+/** The arguments that the caller of `share` passes. `share` adds `count`, the number of sectors in a range. */
 export type Shared<Name extends JobName> = Omit<Jobs[Name]['args'], 'count'>;
 
 /**
- * A function of a range of sectors, whose answer depends on nothing else. It is given the range of each image, its first block, and plain
- * data. The bytes may have more than the range, if borders count. What it returns can be posted.
+ * A function of a range of sectors, whose answer depends on nothing else. It gets the range of each image, its first block, and plain
+ * data. The bytes may extend beyond the range (`beyond` of `share`). Its answer can be posted.
  */
 export type Job<Name extends JobName> =
     (calls: Calls, pieces: Uint8Array[], first: number, args: Jobs[Name]['args']) => Jobs[Name]['answer'];
@@ -22,7 +22,7 @@ export type Job<Name extends JobName> =
 /** The jobs that a hand can do. */
 export type JobTable = { readonly [Name in JobName]?: Job<Name> };
 
-/** A range of a job for a hand, which reads those pieces that are lent. `own` is the door's mark of the call of `share`. */
+/** A range of a job for a hand, which reads the pieces that are lent. `own` is the door's mark of the call of `share`. */
 export interface Message<Name extends JobName = JobName, Piece = unknown> {
     number: number;
     job: Name;
@@ -35,5 +35,5 @@ export interface Message<Name extends JobName = JobName, Piece = unknown> {
 /** A failure of a job. Without a code it is a bug. */
 export type ReplyFault = Remark | { message: string };
 
-/** The answer of the job that the message with this number names, or a failure. */
+/** The answer to the message with this number, or a failure. */
 export type Reply = { number: number; answer: unknown; fault?: undefined } | { number: number; answer?: undefined; fault: ReplyFault };

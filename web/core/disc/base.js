@@ -1,5 +1,5 @@
-// The block with which a raw image begins, by the addresses of its sectors. A cue sheet is asked only if these say none: its gaps may be
-// missing in the file.
+// Determines the first block of a raw image from the addresses of its sectors. A cue sheet is used only if these do not show it, because
+// the gaps in the sheet may be missing in the file.
 
 import { SECTOR_KIND, SECTOR_SIZE } from '../module/index.js';
 import { addressIn, blockAt, isSound } from '../sectors/index.js';
@@ -10,14 +10,14 @@ import { sampledSectors } from './file_type.js';
 
 const SAMPLES_OF_ADDRESSES = 64;
 const SAMPLED_TOGETHER = 8;
-/** Fewer sound sectors at the beginning of an image do not decide its base. */
+/** The fewest sound sectors at the beginning of an image that decide its base. */
 const FEWEST_FIRST = 4;
 
-/** @typedef {{ bases: Map<number, number>, count: number }} Addresses of how many sectors, and how many of these fit each base */
+/** @typedef {{ bases: Map<number, number>, count: number }} Addresses of `count` sectors: how many of them fit each base */
 
 /**
- * The addresses of some sectors, of Mode 1 and of Mode 2, whose headers are alike; and the bases that the sound ones among the first
- * sectors say.
+ * Counts the bases that the addresses of sampled sectors imply, separately for Mode 1 and Mode 2, which have the same header. `first`
+ * lists the bases of the sound sectors at the beginning of the image.
  * @param {Calls} calls
  * @param {Reader} reader
  */
@@ -40,7 +40,7 @@ async function sampledBases(calls, reader) {
 }
 
 /**
- * The base that most of some addresses fit, and how many do.
+ * The base that the most addresses fit, and how many of them fit it.
  * @param {Addresses} addresses
  */
 function mostSaid({ bases, count }) {
@@ -49,8 +49,8 @@ function mostSaid({ bases, count }) {
 }
 
 /**
- * The block of an image's first sector that more of some Mode 1 sectors say than any other, below 0 if the image begins before block 0;
- * how many these are; and of how many.
+ * The base that the most sampled Mode 1 sectors imply, below 0 if the image begins before block 0; how many sectors imply it (`agreeing`);
+ * and how many were sampled (`mode1`).
  * @param {Calls} calls
  * @param {Reader} reader
  */
@@ -60,10 +60,10 @@ export async function sampledBase(calls, reader) {
 }
 
 /**
- * The block of an image's first sector, or null if nothing shows it: what the sound ones among the first sectors agree in. Most sectors
- * may have addresses of another base, since sectors are missing somewhere, or too many. If the first ones do not agree: what the
- * addresses of more than half of some Mode 1 sectors agree in, or of Mode 2 if there are none of Mode 1. It is below 0 if the image
- * begins before block 0.
+ * The base of an image according to its addresses, or null if they do not show it. It is below 0 if the image begins before block 0. If
+ * the sound sectors at the beginning agree, their base counts: the addresses of most sectors may imply a different base, because some
+ * sectors are missing or extra. Otherwise the base counts that more than half of the sampled Mode 1 sectors imply, or of the Mode 2
+ * sectors if there is no Mode 1.
  * @param {Calls} calls
  * @param {Reader} reader
  */

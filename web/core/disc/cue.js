@@ -1,30 +1,30 @@
-// Cue sheets: which tracks a disc has, and which bytes of which file each of them is.
+// Parses cue sheets: the tracks of a disc, and the bytes of each track in its file.
 
 import { textsOfFile } from '../encodings/index.js';
 import { Fault } from '../faults.js';
 import { SECTOR_SIZE } from '../module/index.js';
 
-/** @typedef {{ name: string, raw: boolean }} SheetFile `raw` if its bytes are sectors, as in BINARY */
-/** @typedef {{ track: SheetTrack, index: number, file: number, frame: number }} Point where an index of a track begins in a file */
+/** @typedef {{ name: string, raw: boolean }} SheetFile `raw` if its format is plain sectors, such as BINARY */
+/** @typedef {{ track: SheetTrack, index: number, file: number, frame: number }} Point the start of an index of a track in a file */
 /** @typedef {{ number: number, type: string, sectorSize: number, pregap: number, postgap: number, line: number }} SheetTrack */
 /** @typedef {{ files: SheetFile[], tracks: SheetTrack[], points: Point[] }} Sheet */
 /** @typedef {{ file: number, at: number | null, end: number | null, block: number | null }} FileRange */
 /**
- * A track: `at` to `end` are its bytes in the file of that number, from its INDEX 01 on, and `block` is the first of them on the
- * disc. Null is what a sheet does not say: places in audio files, and blocks after them.
+ * A track. `at` to `end` are its bytes in file number `file`, from its INDEX 01 on, and `block` is its first block on the disc. Values
+ * that a sheet does not determine are null: places in audio files, and blocks after these.
  * @typedef {{ number: number, type: string, sectorSize: number } & FileRange} Track
  */
 /** @typedef {{ point: Point, end: number | null } & FileRange} IndexRange from one index to the next, or to the end of the file */
 
 const RAW_FORMATS = ['BINARY', 'MOTOROLA'];
-/** Blocks count from the end of a pause of two seconds, which the first track's pregap begins with. */
+/** Blocks count from the end of a pause of two seconds, with which the pregap of the first track begins. */
 const FIRST_PAUSE = 150;
 export const LAST_TRACK = 99;
-/** A track may have a file of its own for its pause. */
+/** The most files of a sheet. The pause of a track may have its own file. */
 const MOST_FILES = 2 * LAST_TRACK;
 
 /**
- * Reads a cue sheet. Commands that move no bytes, as TITLE or REM, say nothing here.
+ * Parses a cue sheet. Commands that do not concern bytes, such as TITLE and REM, are ignored. Throws a Fault.
  * @param {string} text
  * @returns {Sheet}
  */
@@ -46,7 +46,8 @@ export function sheetOf(text) {
 }
 
 /**
- * What the bytes of a cue sheet may say: which of two encodings its names are in only files of these names show. Throws a Fault.
+ * Parses the bytes of a cue sheet, in each encoding that they may have. Only the names of the files show which one is right. Throws a
+ * Fault.
  * @param {Uint8Array} bytes
  * @returns {Sheet[]} one, or two
  */
@@ -88,7 +89,7 @@ function readTrackLine(sheet, rest, line) {
 }
 
 /**
- * The bytes of a sector, 0 for no type of a track.
+ * The size in bytes of a sector of a track type; 0 for an unknown type.
  * @param {string} type
  */
 function sizeOfType(type) {
@@ -119,7 +120,7 @@ function trackBefore({ tracks }, line) {
 }
 
 /**
- * The sectors of a time.
+ * Converts a time to a number of sectors.
  * @param {string} time minutes, seconds, frames
  * @param {number} line
  */
@@ -148,7 +149,7 @@ export function tracksOf(sheet, sizes) {
 }
 
 /**
- * What the indexes cut a file into. A file may have tracks of several sizes of sectors.
+ * Splits a file at its indexes. Its tracks may have sectors of different sizes.
  * @param {Sheet} sheet
  * @param {number} file
  * @param {number} size in bytes
@@ -170,7 +171,7 @@ function partsOfFile({ files, points }, file, size) {
 }
 
 /**
- * The parts with their blocks: one after the other, with the pauses that no file has.
+ * Adds the blocks of parts, which follow one another with the pauses that no file contains.
  * @param {Sheet} sheet
  * @param {IndexRange[]} parts of all files
  * @returns {IndexRange[]}
@@ -189,7 +190,7 @@ function placedParts({ tracks }, parts) {
 }
 
 /**
- * The sectors before a track that are in no file.
+ * The number of sectors before a track that no file contains.
  * @param {SheetTrack[]} tracks
  * @param {number} i
  */

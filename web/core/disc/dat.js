@@ -1,16 +1,16 @@
-// Known dumps: the list of a DAT (Logiqx XML), by size and hashes. It is read in pieces, and what it may hold is bounded.
+// Known dumps: the entries of DATs (Logiqx XML), by size and hash. A DAT is read in pieces, and its contents are limited.
 
 import { Fault, remark } from '../faults.js';
 import { TagReader } from './dat_tags.js';
 import { textOfDat } from './dat_text.js';
 
-/** @typedef {{ sha1: string, crc32?: string, md5?: string }} Hashes of a file, in small letters, as far as they are known */
+/** @typedef {{ sha1: string, crc32?: string, md5?: string }} Hashes of a file, in lower case, as far as they are known */
 /**
- * A dump of some size and hash. Several entries may have it: `name` is the first that is not a bad dump, or else the first, and `names`
- * has all if there is more than one, and whether each is bad. `md5` is '' if the entry has a SHA-1.
+ * A dump with a size and a hash, which several entries may share. `name` is the first entry that is not a bad dump, or else the first.
+ * `names` lists all entries if there are several, and whether each is bad. `md5` is '' if the entry has a SHA-1.
  * @typedef {{ name: string, size: number, isBad: boolean, md5: string, names: Map<string, boolean> | null }} Dump
  */
-/** @typedef {{ name: string, isBad: boolean, others: number }} Found an entry, and how many other ones have the same hash */
+/** @typedef {{ name: string, isBad: boolean, others: number }} Found an entry, and how many other entries have the same hash */
 
 const LONGEST_NAME = 512;
 const DEEPEST_ELEMENT = 16;
@@ -24,7 +24,7 @@ const ENTITIES = new Map([['amp', '&'], ['lt', '<'], ['gt', '>'], ['quot', '"'],
 const ATTRIBUTE = /\s+([\w:.-]+)\s*=\s*(?:"([^"]*)"|'([^']*)')/gy;
 
 /**
- * A text that does not keep the one alive that it was cut of.
+ * Copies a text, so that it does not keep the longer text in memory of which it is a slice.
  * @param {string} text
  */
 function copied(text) {
@@ -57,9 +57,9 @@ function attributesOf(tag) {
     return attributes;
 }
 
-/** What a DAT lists. Its text comes by `push`, in pieces; `end` comes after the last one. Both throw a Fault. */
+/** Reads the entries of a DAT. `push` receives its text in pieces, and `end` is called after the last one. Both throw a Fault. */
 class DatReading {
-    /** @param {KnownDumps} known to which its own are added */
+    /** @param {KnownDumps} known the dumps to which the entries are added */
     constructor(known) {
         this.known = known;
         this.tags = new TagReader(tag => this.tag(tag));
@@ -108,7 +108,7 @@ class DatReading {
 }
 
 /**
- * A hash, '' if it is none.
+ * Returns a hash, or '' if the text is not a hash.
  * @param {string} text
  * @param {number} digits
  */
@@ -118,14 +118,14 @@ function hexOf(text, digits) {
 
 /**
  * @param {number} size
- * @param {string} hash in small letters
+ * @param {string} hash in lower case
  */
 function dumpKey(size, hash) {
     return `${size}:${hash}`;
 }
 
 /**
- * The entry of a dump that a file means: the one of its own name, unless that is a bad one and another is not.
+ * The entry of a dump for a file: the entry with the name of the file, unless that is a bad dump and another entry is not.
  * @param {Dump} dump
  * @param {string} own the name of the file
  * @returns {Found}
@@ -142,18 +142,18 @@ export class KnownDumps {
         this.dumps = new Map();
         /** @type {Set<number>} */
         this.sizes = new Set();
-        /** @type {Map<string, Dump> | null} by their hash, once somebody asks for it */
+        /** @type {Map<string, Dump> | null} by hash, built on first use */
         this.byHash = null;
-        /** How many entries there are, of which several may have one hash. */
+        /** The number of entries. Several may have the same hash. */
         this.entries = 0;
-        /** How many entries have no size or no hash, or are of no dump. */
+        /** The number of entries without a size, a hash, or a dump. */
         this.leftOut = 0;
-        /** The hashes beside SHA-1 without which not all entries can be found. */
+        /** The hashes that are needed beside SHA-1 to find all entries. */
         this.needs = { crc32: false, md5: false };
     }
 
     /**
-     * Adds what a DAT lists. Throws a Fault.
+     * Adds the entries of a DAT. Throws a Fault.
      * @param {AsyncIterable<Uint8Array>} pieces of its bytes
      */
     async add(pieces) {
@@ -164,10 +164,10 @@ export class KnownDumps {
     }
 
     /**
-     * Adds an entry. It is found by its SHA-1, or if it has none by its CRC32, or else by its MD5. Throws a Fault.
+     * Adds an entry. It is found by its SHA-1, or else by its CRC32, or else by its MD5. Throws a Fault if there are too many.
      * @param {string} name
      * @param {number} size
-     * @param {Required<Hashes>} hashes '' for each that it does not have
+     * @param {Required<Hashes>} hashes '' for each that is missing
      * @param {boolean} isBad
      */
     addDump(name, size, { sha1, crc32, md5 }, isBad) {
@@ -190,10 +190,10 @@ export class KnownDumps {
     }
 
     /**
-     * The dump that a file is, or null.
+     * Finds the dump that matches a file; null if none does.
      * @param {number} size
      * @param {Hashes} hashes
-     * @param {string} [name] of the file, which one of several entries may have
+     * @param {string} [name] of the file, which selects one of several entries
      * @returns {Found | null}
      */
     find(size, { sha1, crc32 = '', md5 = '' }, name = '') {
@@ -203,8 +203,8 @@ export class KnownDumps {
     }
 
     /**
-     * The same of a file whose size is not known.
-     * @param {string} sha1 in small letters
+     * Finds the dump that matches a file of unknown size; null if none does.
+     * @param {string} sha1 in lower case
      * @param {string} [name]
      */
     findSha1(sha1, name = '') {
@@ -220,7 +220,7 @@ export class KnownDumps {
     }
 
     /**
-     * What is known of a file that is none of the dumps: whether one has its size, from which follows what to try next.
+     * The remark on a file that matches no known dump. It says whether a dump has its size, which suggests what to try next.
      * @param {number} size
      */
     remarkOfOther(size) {
@@ -229,7 +229,7 @@ export class KnownDumps {
 }
 
 /**
- * Gives a dump one more name.
+ * Adds an entry's name to a dump.
  * @param {Dump} dump
  * @param {string} name
  * @param {boolean} isBad

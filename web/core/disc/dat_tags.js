@@ -1,19 +1,19 @@
-// The tags of a DAT in XML. Its text comes in pieces, and no more of it is kept than a tag has.
+// Reads the tags of a DAT in XML. The text arrives in pieces, and at most one tag of it is kept between them.
 
 import { Fault } from '../faults.js';
 
 const LONGEST_TAG = 1 << 14;
 
-/** What is skipped: how it begins after its `<`, and how it ends. The page's script may not have the beginning of a comment whole. */
+/** Skipped constructs: their beginning after `<`, and their end. The script in the page must not contain the whole start of a comment. */
 const SKIPPED = [['!--', '-->'], ['![CDATA[', ']]>'], ['?', '?>']];
 const LONGEST_END = 3;
 
-/** A tag after its `<`: to the first `>` outside of quotes, or to the `[` after which a DOCTYPE declares elements. */
+/** A tag after its `<`: up to the first `>` outside quotes, or up to the `[` that begins the declarations of a DOCTYPE. */
 const TAG = /(?:[^"'>]|"[^"]*"|'[^']*')*>/y;
 const DOCTYPE = /!DOCTYPE(?:[^"'>[]|"[^"]*"|'[^']*')*[>[]/y;
 
 /**
- * The place after the end of a tag, or -1 if that has not come yet.
+ * The place after the end of a tag, or -1 if the end has not arrived yet. Throws a Fault if the tag is too long.
  * @param {string} text
  * @param {number} at the place after the `<`
  */
@@ -26,14 +26,14 @@ function endOfTag(text, at) {
     return -1;
 }
 
-/** Reads tags. Its text comes by `push`, in pieces; `isCut` is asked after the last one. */
+/** Reads tags from a text that `push` receives in pieces. After the last one, `isCut` tells whether the text is incomplete. */
 export class TagReader {
-    /** @param {(tag: string) => void} take is given each tag, without its brackets */
+    /** @param {(tag: string) => void} take receives each tag, without its brackets */
     constructor(take) {
         this.take = take;
         this.rest = '';
         this.at = 0;
-        /** The end of what is being skipped, '' for nothing. */
+        /** The end of the construct that is being skipped, '' if none is. */
         this.until = '';
         this.isDeclaring = false;
     }
@@ -45,7 +45,7 @@ export class TagReader {
         while (this.at < this.rest.length && this.step());
     }
 
-    /** Reads what comes next. Returns false if more of the text has to come first. */
+    /** Reads the next construct. Returns false if more of the text has to arrive first. */
     step() {
         if (this.until !== '') return this.skip();
         const { rest } = this;
@@ -59,7 +59,7 @@ export class TagReader {
         return true;
     }
 
-    /** Where the next `<` is, or in a DOCTYPE what comes after spaces. */
+    /** The place of the next `<`, or in a DOCTYPE of the next character after spaces. */
     nextPlace() {
         if (!this.isDeclaring) {
             const open = this.rest.indexOf('<', this.at);
@@ -98,7 +98,7 @@ export class TagReader {
 
     /**
      * @param {string} tag
-     * @param {boolean} opens whether declarations come after it
+     * @param {boolean} opens whether declarations follow it
      */
     declaration(tag, opens) {
         if (!this.isDeclaring && /^!DOCTYPE\s/i.test(tag)) this.isDeclaring = opens;

@@ -5,7 +5,7 @@ import { windowsText } from '../encodings/index.js';
 import { Fault } from '../faults.js';
 import { kindByBeginning } from './file_type.js';
 
-/** The encoding follows from these bytes. An XML declaration is shorter. */
+/** How many bytes at the start determine the encoding. An XML declaration is shorter. */
 const BEGINNING = 256;
 
 const BYTE_ORDER_MARK = '\xEF\xBB\xBF';
@@ -13,19 +13,19 @@ const DECLARATION = /^\s*<\?xml\s[^>]*\bencoding\s*=\s*["']([\w.:-]{1,40})["']/;
 const CLRMAMEPRO = /^\s*(?:clrmamepro|emulator|game|machine|resource)\s*\(/i;
 
 /**
- * The encoding that a DAT begins in, by its mark, its first characters or its declaration.
- * @param {string} begins the first bytes, a character each
+ * The encoding of a DAT, from its byte order mark, its first characters, or its declaration.
+ * @param {string} begins the first bytes, one character each
  */
 function encodingOfDat(begins) {
     if (/^(?:\xFF\xFE|<\0)/.test(begins)) return 'utf-16le';
     if (/^(?:\xFE\xFF|\0<)/.test(begins)) return 'utf-16be';
     const [, declared = 'utf-8'] = DECLARATION.exec(begins) || [];
-    // A declaration that can be read a byte a character is not in UTF-16.
+    // A declaration that is readable with one byte per character is not in UTF-16.
     return begins.startsWith(BYTE_ORDER_MARK) || /^utf-?16/i.test(declared) ? 'utf-8' : declared;
 }
 
 /**
- * What decodes a DAT. Throws a Fault if its encoding is not known, or if it is a file of another kind.
+ * The decoder for a DAT. Throws a Fault if its encoding is unknown, or if it is a file of a different kind.
  * @param {Uint8Array} start its first bytes
  */
 function decoderOf(start) {
@@ -41,7 +41,7 @@ function decoderOf(start) {
 }
 
 /**
- * The text of a DAT in pieces. Throws a Fault.
+ * Yields the text of a DAT in pieces. Throws a Fault.
  * @param {AsyncIterable<Uint8Array>} pieces of its bytes
  */
 export async function* textOfDat(pieces) {
@@ -61,7 +61,7 @@ export async function* textOfDat(pieces) {
 /**
  * @param {TextDecoder} decoder
  * @param {Uint8Array} bytes
- * @param {boolean} stream whether more comes
+ * @param {boolean} stream whether more bytes follow
  */
 function decoded(decoder, bytes, stream) {
     const text = decoder.decode(bytes, { stream });

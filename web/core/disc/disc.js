@@ -1,5 +1,5 @@
-// What was opened: one raw image, or a cue sheet and the files that it names. Its tracks, and the image and the block with which each
-// begins.
+// Opens a disc, which is one raw image, or a cue sheet and the files that it names. Determines its tracks, and the image and the first
+// block of each.
 
 import { sliceOf, wholeOf } from '../bytes.js';
 import { Fault } from '../faults.js';
@@ -15,18 +15,18 @@ import { kindOfFile } from './file_type.js';
 /** @typedef {import('./file_type.js').FileKind} FileKind */
 /** @typedef {{ name: string, reader: Reader }} DiscFile */
 /**
- * An image of sectors, and the block of its first one. `addressed` is that block as most addresses of some sectors give it; if it is
- * null or below 0, `base` is what the cue sheet says, or 0.
+ * An image of sectors. `base` is the block of its first sector. `addressed` is that block according to the addresses of the sectors. If
+ * it is null or below 0, `base` is from the cue sheet, or 0.
  * @typedef {{ name: string, reader: Reader, base: number, addressed: number | null, sectors: number, tail: number }} DiscImage
  */
 /**
- * An image whose texts are read in the order of its files; undefined is the order of its sectors. The functions on texts take no other
- * image, so that no caller forgets the order.
+ * An image whose texts are read in the order of its files, or of its sectors if `order` is undefined. The functions on texts accept only
+ * this type, so that no caller forgets the order.
  * @typedef {DiscImage & { order: import('../iso/file_order.js').FileOrder | undefined }} OrderedImage
  */
 /**
- * A track. Without a cue sheet there is one. `file` counts the files of the disc from 0; it is -1 if that is not open. `image` is that
- * whole file, and `part` the track in it, from its INDEX 01 on; both are null if it is no data of 2352 bytes a sector.
+ * A track. Without a cue sheet there is one. `file` is the index of its file in the disc's files, or -1 if that file is not open. `image`
+ * is the whole file, and `part` is the track in it, from its INDEX 01 on. Both are null if it is not data with 2352 bytes per sector.
  * @typedef {{ number: number, type: string, file: number, block: number | null, sectors: number | null,
  *     image: DiscImage | null, part: DiscImage | null }} DiscTrack
  */
@@ -55,7 +55,7 @@ export async function openDisc(calls, files) {
 }
 
 /**
- * What a file of sectors is, of data or of audio. Throws a Fault, `disc`, if it is neither.
+ * The kind of a file of sectors, `raw` or `audio`. Throws a Fault, `disc`, for any other kind.
  * @param {DiscFile} file
  * @param {Map<DiscFile, FileKind>} kinds
  */
@@ -66,7 +66,8 @@ function assertSectors(file, kinds) {
 }
 
 /**
- * The data track that a job means: the one of a number, or the first. An image without a cue sheet is the track of any number.
+ * The data track with a number, or the first data track. An image without a cue sheet is the track of any number. Throws a Fault, `disc`,
+ * if there is none.
  * @param {Disc} disc
  * @param {number | null} [number]
  * @returns {DiscTrack & { image: DiscImage, part: DiscImage }}
@@ -107,7 +108,7 @@ async function openSheet(calls, sheetFile, others, kinds) {
 }
 
 /**
- * What a sheet says: of several readings the one that names most of the files.
+ * Chooses the reading of a sheet that names the most files.
  * @param {Sheet[]} sheets
  * @param {DiscFile[]} files
  */
@@ -127,7 +128,8 @@ function isRaw({ type }) {
 }
 
 /**
- * The file that a sheet names: by its path below the sheet or by its last name, if need be in capitals or not.
+ * Finds the file that a sheet names, by its path below the sheet, or else by its last name, each first in the exact case and then in any
+ * case. Null if there is none.
  * @param {string} name
  * @param {DiscFile[]} files
  */
@@ -146,7 +148,7 @@ function fileNamed(name, files) {
  * @param {Calls} calls
  * @param {Track} track
  * @param {DiscFile | null} file
- * @param {number} place of the file among those that are open
+ * @param {number} place the index of the file among the open ones
  * @returns {Promise<DiscTrack>}
  */
 async function trackOf(calls, track, file, place) {
@@ -157,16 +159,16 @@ async function trackOf(calls, track, file, place) {
     const part = await imageOf(calls, { name: file.name, reader: sliceOf(file.reader, at, end) }, block);
     const before = at / SECTOR_SIZE;
     const image = imageAround(part, file.reader, before);
-    // Blocks are numbered from the whole image's base in both, if need be in spite of the addresses.
+    // In both, blocks are counted from the base of the whole image, even if the addresses disagree.
     const own = { ...part, base: image.base + before };
     return { ...shared, block: own.base, image, part: own };
 }
 
 /**
- * The image that a part is of.
+ * The whole image that contains a part.
  * @param {DiscImage} part
  * @param {Reader} reader
- * @param {number} before how many sectors it has before the part
+ * @param {number} before how many sectors precede the part
  * @returns {DiscImage}
  */
 function imageAround({ name, base, addressed }, reader, before) {
@@ -175,7 +177,7 @@ function imageAround({ name, base, addressed }, reader, before) {
 }
 
 /**
- * Throws a Fault, `disc`, if the file of a track has other sectors too than those of 2352 bytes.
+ * Throws a Fault, `disc`, if the file of a track also has sectors of a size other than 2352 bytes, or is not a file of sectors.
  * @param {DiscFile} file
  * @param {Sheet} sheet
  * @param {Track} track
@@ -198,7 +200,7 @@ function sizesOf({ size }) {
 /**
  * @param {Calls} calls
  * @param {DiscFile} file
- * @param {number | null} block what a cue sheet says of its first sector
+ * @param {number | null} block the block of its first sector according to a cue sheet
  * @returns {Promise<DiscImage>}
  */
 async function imageOf(calls, { name, reader }, block) {

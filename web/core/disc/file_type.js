@@ -1,4 +1,4 @@
-// What a file is: a raw image, or what it has to be made into first.
+// Recognises the kind of a file: a raw image, or a format that has to be converted first.
 
 import { readBytes, wholeOf } from '../bytes.js';
 import { textOfFile } from '../encodings/index.js';
@@ -13,25 +13,25 @@ const SUBCHANNEL_SIZE = 2448;
 const VOLUME_MARK = 16 * USER_SIZE + 1;
 const LARGEST_SHEET = 1 << 17;
 const SAMPLED_PAIRS = 32;
-/** The bytes in which it shows how a file begins, and how an image of Nero ends. */
+/** How many bytes at the start of a file, and at the end of a Nero image, are examined. */
 const LONGEST_BEGINNING = 16;
 const NERO_END = 12;
-/** Where a sector has its header, and what scrambling adds to that. */
+/** The offset of the header of a sector, and the bytes that scrambling adds to it (XOR). */
 const HEADER = 12;
 const SCRAMBLER = [0x01, 0x80, 0x00, 0x60];
-/** Of a file with a sample in so many bytes, so many are read at once: each read takes its time, however little it reads. */
+/** If samples are at most NEAR bytes apart, SAMPLED_AT_ONCE bytes are read at a time, because each read takes time even if it is short. */
 const NEAR = 1 << 16;
 const SAMPLED_AT_ONCE = 1 << 18;
 
-/** @type {[FileKind, string][]} how files begin, a byte a character */
+/** @type {[FileKind, string][]} the first bytes of files, one character each */
 const BEGINNINGS = [
     ['chd', 'MComprHD'], ['ecm', 'ECM\0'], ['archive', 'PK\x03\x04'], ['archive', '7z\xBC\xAF\x27\x1C'], ['archive', 'Rar!'],
     ['archive', '\x1F\x8B'], ['mds', 'MEDIA DESCRIPTOR'], ['ccd', '[CloneCD]'],
 ];
 
 /**
- * What a file is by how it begins; undefined if that does not say it.
- * @param {string} begins its first bytes, a character each
+ * The kind of a file according to its first bytes; undefined if these do not show it.
+ * @param {string} begins its first bytes, one character each
  */
 export function kindByBeginning(begins) {
     const known = BEGINNINGS.find(([, beginning]) => begins.startsWith(beginning));
@@ -39,7 +39,7 @@ export function kindByBeginning(begins) {
 }
 
 /**
- * What a file is, by its size, its first bytes and a few of its sectors.
+ * The kind of a file, from its size, its first and last bytes, and a few of its sectors.
  * @param {Calls} calls
  * @param {Reader} reader
  * @returns {Promise<FileKind>}
@@ -73,7 +73,7 @@ async function kindBySectors(calls, reader) {
 }
 
 /**
- * Bytes of a file, as many as it has of them, a character each.
+ * Bytes of a file, one character each. They are fewer if the file ends before.
  * @param {Reader} reader
  * @param {number} at
  * @param {number} length
@@ -84,11 +84,11 @@ async function latin(reader, at, length) {
 }
 
 /**
- * Some sectors all over a file, by groups of neighbours: their numbers from 0, and their first 2352 bytes.
+ * Samples sectors from all over a file, in groups of adjacent ones: their numbers from 0, and their first 2352 bytes.
  * @param {Reader} reader
  * @param {number} size of a sector
- * @param {number} together how many are a group
- * @param {number} most how many groups there are at most
+ * @param {number} together how many sectors a group has
+ * @param {number} most the most groups
  */
 export async function* sampledSectors(reader, size, together, most) {
     const sectors = Math.floor(reader.size / size);
@@ -109,8 +109,8 @@ export async function* sampledSectors(reader, size, together, most) {
 }
 
 /**
- * How many of some sectors begin with a sync field, and how many of these are scrambled. Of two neighbours at most one begins so if sectors
- * have a different size.
+ * Counts the sampled sectors that begin with a sync field, and how many of these are scrambled. If the sectors have a different size, at
+ * most one of two neighbours begins with a sync field.
  * @param {Calls} calls
  * @param {Reader} reader
  * @param {number} size of a sector
@@ -126,7 +126,7 @@ async function countSynced(calls, reader, size) {
 }
 
 /**
- * Whether the header of a sector is one if it is descrambled: digits of an address, and a mode (ECMA-130, Annex B).
+ * Whether the descrambled header of a sector is valid: digits of an address, and a mode (ECMA-130, Annex B).
  * @param {Uint8Array} sector
  */
 function isScrambled(sector) {
@@ -135,7 +135,7 @@ function isScrambled(sector) {
 }
 
 /**
- * Which sheet of tracks a small file is: a cue sheet, a TOC file, or none.
+ * Recognises a small file as a cue sheet or a TOC file; null if it is neither.
  * @param {Reader} reader
  * @returns {Promise<'cue' | 'toc' | null>}
  */

@@ -12,20 +12,20 @@ import { blocksOfVolume } from './volume_end.js';
 /** @typedef {import('../sectors/survey.js').Survey} Survey */
 /** @typedef {Run & { kind: number }} KindRun */
 /** @typedef {{ others: KindRun[], filled: FilledRun[] }} OtherSectors those that are not Mode 1, and those that one byte fills */
-/** @typedef {'track' | 'volume' | 'filled'} LostIn why blocks are lost: where they are, or what they are */
+/** @typedef {'track' | 'volume' | 'filled'} LostIn why blocks count as lost: by their place, or by their bytes */
 /**
- * The sectors of an image that are not Mode 1: those that are lost, and those that no test was made of; and what the volume uses, if that
- * was asked.
+ * The sectors of an image that are not Mode 1: those that are lost, and those that are not tested. `used` lists the blocks that the volume
+ * uses, null if they were not read.
  * @typedef {{ lost: (Run & { why: LostIn })[], untested: KindRun[], used: UsedBlocks | null }} Lost
  */
 
 /** How a cue sheet names a track of raw Mode 1 sectors. */
 export const MODE1 = 'MODE1/2352';
 
-/** No track is shorter (ECMA-130 and the Red Book: four seconds). */
+/** The number of sectors of the shortest track (ECMA-130 and the Red Book: four seconds). */
 const SHORTEST_TRACK = 300;
 
-/** @type {LostIn[]} by what the mark of a block says, from 1 on */
+/** @type {LostIn[]} by the mark of a block, which counts from 1 */
 const REASONS = ['filled', 'volume', 'track'];
 
 /**
@@ -39,7 +39,7 @@ export function otherSectors(survey, filled) {
 }
 
 /**
- * The tracks of a file that a cue sheet says are Mode 1, by the blocks of an image that begins with a block; null without a sheet.
+ * The tracks of a file that are Mode 1 according to the cue sheet, as runs of blocks counted from the image's base; null without a sheet.
  * @param {Disc} disc
  * @param {number} file
  * @param {number} base of the file's image
@@ -55,13 +55,13 @@ export function mode1Tracks({ sheet, tracks }, file, base) {
 }
 
 /**
- * Which sectors of an image are lost. With a sheet: those in its tracks of Mode 1, but not a track that is Mode 2 throughout. Without one:
- * those that one byte other than 00 fills, as no audio is; and if there is Mode 1, those that the volume uses, and those between Mode 1
- * that are fewer than any track has. Throws what the readers of the dumps throw.
+ * Finds the lost sectors of an image. With a sheet, these are the sectors in its Mode 1 tracks, except tracks that are Mode 2 throughout.
+ * Without a sheet, they are the sectors that one byte other than 00 fills, which audio never has. If there is Mode 1, they are also those
+ * that the volume uses, and runs between Mode 1 sectors that are shorter than any track. Throws what the readers of the dumps throw.
  * @param {{ base: number, sectors: number }} image
  * @param {OtherSectors} found
- * @param {Run[] | null} tracks that a sheet says are Mode 1, null without a sheet
- * @param {Dump[]} dumps of the disc, whose volumes are asked without a sheet
+ * @param {Run[] | null} tracks those that are Mode 1 according to the sheet, null without a sheet
+ * @param {Dump[]} dumps of the disc, whose volumes are read if there is no sheet
  * @returns {Promise<Lost>}
  */
 export async function lostSectors({ base, sectors }, { others, filled }, tracks, dumps) {
@@ -92,7 +92,7 @@ function isWithin(run, other) {
 }
 
 /**
- * What the volumes of dumps use, null if none has one.
+ * The blocks that the volumes of dumps use; null if no dump has a volume.
  * @param {Dump[]} dumps
  */
 async function usedByAll(dumps) {
@@ -102,12 +102,12 @@ async function usedByAll(dumps) {
 }
 
 /**
- * The blocks that a volume uses and that have to be Mode 1. A directory may list a track of audio as a file: a file that lies whole in a
- * run as long as a track, and is not for the most part hollow, is not among them.
+ * The blocks that a volume uses and that have to be Mode 1. A directory may list an audio track as a file. Therefore a file is excluded if
+ * it lies within a run that is as long as a track, and at most half of its sectors are hollow.
  * @param {UsedBlocks} used
  * @param {Run} range of the image
- * @param {Run[]} runs of sectors that are not Mode 1, the longest that there are
- * @param {Run[]} hollow sectors in which neither audio nor Mode 2 is
+ * @param {Run[]} runs of sectors that are not Mode 1, each as long as possible
+ * @param {Run[]} hollow sectors without audio and without Mode 2 data
  */
 function blocksInUse(used, range, runs, hollow) {
     const long = runs.filter(({ first, last }) => last - first + 1 >= SHORTEST_TRACK);
@@ -126,7 +126,7 @@ function blocksInUse(used, range, runs, hollow) {
 }
 
 /**
- * Whether a run lies within one of others.
+ * Whether a run lies within one of several others.
  * @param {Run[]} others in order
  * @param {Run} run
  */
@@ -141,7 +141,7 @@ function isInOne(others, run) {
 }
 
 /**
- * The runs that are lost, by why they are, and those that are not.
+ * Splits runs into those that are lost, each for one reason, and those that are not.
  * @param {KindRun[]} others
  * @param {number} base
  * @param {Uint8Array} reasons of each sector, 0 if it is not lost
@@ -165,7 +165,7 @@ function byReasons(others, base, reasons) {
 }
 
 /**
- * The path of a file that lies in some of the blocks of a run, '' if none does.
+ * The path of a file with blocks in a run; '' if there is none.
  * @param {UsedBlocks | null} used
  * @param {Run} run
  */

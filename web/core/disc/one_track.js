@@ -1,4 +1,4 @@
-// The cue sheet of a disc that has one track, for an image of which none is known.
+// Creates a cue sheet for an image without one, if it is a disc with one track.
 
 import { readBytes } from '../bytes.js';
 import { SECTOR_KIND, SECTOR_SIZE } from '../module/index.js';
@@ -9,8 +9,8 @@ import { sampledSectors } from './file_type.js';
 const SAMPLED = 64;
 
 /**
- * Whether an image looks like a whole disc of one track of Mode 1: it begins with block 0, and some sectors all over it are of Mode 1, the
- * last one too. The first track of a disc whose others are files of their own looks alike.
+ * Whether an image looks like a whole disc with one Mode 1 track: it begins with block 0, has no tail, and all sampled sectors and the last
+ * one are Mode 1. The first track of a disc with a file for each track looks the same.
  * @param {Calls} calls
  * @param {import('./disc.js').DiscImage} image
  */
@@ -24,7 +24,7 @@ export async function isOneTrack(calls, { reader, addressed, tail }) {
 }
 
 /**
- * The cue sheet of such an image; '' if no sheet can name it.
+ * The cue sheet of an image with one track; '' if a sheet cannot contain its name.
  * @param {string} name
  */
 export function sheetOfOneTrack(name) {

@@ -1,18 +1,18 @@
-// Files of subchannels, as programs write them beside an image: 96 bytes a sector, 12 for each channel, of which Q is the second.
+// Recognises files of subchannels, which programs write beside an image: 96 bytes per sector, 12 for each channel. Q is the second one.
 
 import { readBytes } from '../bytes.js';
 
 /** @typedef {import('../bytes.js').Reader} Reader */
 
 const CHANNELS_SIZE = 96;
-/** Where channel Q is, and its bytes: those that are summed, and the checksum. */
+/** The offset of channel Q, its size in bytes, and how many of these its checksum covers. */
 const Q_AT = 12;
 const Q_SIZE = 12;
 const Q_SUMMED = 10;
 const SAMPLED_CHANNELS = 32;
 
 /**
- * Whether channel Q has its checksum, a CRC-16 that is stored inverted.
+ * Whether the checksum of channel Q is right. It is a CRC-16, stored inverted.
  * @param {Uint8Array} q
  */
 function isChannelQ(q) {
@@ -25,7 +25,7 @@ function isChannelQ(q) {
 }
 
 /**
- * Whether a file has the subchannels of an image: more than half of some of its channels Q are right.
+ * Whether a file has the subchannels of an image: more than half of the sampled Q channels have the right checksum.
  * @param {Reader} reader
  */
 export async function isSubchannelFile(reader) {

@@ -1,4 +1,4 @@
-// Which blocks a volume uses, and whether an image ends before its volume does.
+// Determines which blocks a volume uses, and whether an image ends before its volume does.
 
 import { sliceOf } from '../bytes.js';
 import { failedBy } from '../faults.js';
@@ -9,31 +9,32 @@ import { LAST_BASE, SECTOR_SIZE } from '../module/index.js';
 /** @typedef {import('../sectors/runs.js').Run} Run */
 /** @typedef {import('../iso/files.js').FileEntry} FileEntry */
 /**
- * The blocks that an image lacks of its volume, how many blocks that has, and the path of a file that begins in the image and goes on after
- * its end, '' if there is none. With `isSure` the image is cut; else the volume may count other tracks, or a pause after its own.
+ * The blocks of a volume that its image lacks, the number of blocks of the volume, and the path of a file that begins in the image and
+ * continues after its end, '' if there is none. With `isSure` the image is cut. Otherwise the volume may count other tracks, or a pause
+ * after its own track.
  * @typedef {{ missing: Run, blocks: number, file: string, isSure: boolean }} Lack
  */
 
-/** @typedef {(Run & { path: string })[]} UsedBlocks those of files by their paths, and with the path '' those of the volume itself */
+/** @typedef {(Run & { path: string })[]} UsedBlocks the blocks of files with their paths, and the volume's own with the path '' */
 /**
- * An image of a disc, the track in it, and how many blocks its blocks come after those of the image that is looked at.
+ * An image of a disc, and the track in it. `later` is added to its blocks to get the same blocks of the examined image.
  * @typedef {{ image: DiscImage, part: DiscImage, later: number }} Dump
  */
 
-/** The sectors before the descriptors belong to the volume too (ECMA-119, 6.2.1). */
+/** The number of sectors before the descriptors, which belong to the volume too (ECMA-119, 6.2.1). */
 const SYSTEM_AREA = 16;
 
-/** Faults of files whose bytes are those from their block on, all the same. */
+/** Faults of files whose bytes are nevertheless those from their block on. */
 const READ = ['extent/several', 'extent/cut'];
 
-/** Where the primary descriptor has the number of the volume's blocks. */
+/** The offset of the volume's number of blocks in the primary descriptor. */
 const VOLUME_BLOCKS = 80;
 
-/** Writers count a pause of two seconds after the data, which not every reader gives back. */
+/** The sectors of the two-second pause after the data, which writing programs count, but not every drive returns. */
 const LONGEST_PAUSE = 150;
 
 /**
- * What is thrown if a track has no volume is null here.
+ * Awaits a result. Returns null in place of the failure that a track has no volume.
  * @template T
  * @param {Promise<T>} asked
  */
@@ -47,7 +48,7 @@ async function ifVolume(asked) {
 }
 
 /**
- * The volume of a track may be longer than that.
+ * A reader from the start of a track to the end of its image: the volume may be longer than the track.
  * @param {DiscImage} image
  * @param {DiscImage} part the track in it
  */
@@ -56,8 +57,8 @@ function volumeReader(image, part) {
 }
 
 /**
- * The blocks that the volume of a track uses; null if it has none. A file that ends after the volume is not believed: some discs have such
- * ones against copying.
+ * The blocks that the volume of a track uses; null if it has no volume. A file that ends after the volume is ignored, because some discs
+ * list such files as a copy protection.
  * @param {Dump} dump
  * @returns {Promise<UsedBlocks | null>}
  */
@@ -77,7 +78,7 @@ export async function blocksOfVolume({ image, part, later }) {
 }
 
 /**
- * What an image lacks of the volume of a track, null if it has all of it or the track has no volume.
+ * Determines which blocks of a track's volume an image lacks; null if it has all of them, or if the track has no volume.
  * @param {DiscImage} image
  * @param {DiscImage} part the track in it
  * @param {boolean} isAlone whether a cue sheet says that the disc has no other track
@@ -93,7 +94,7 @@ export async function lackOf(image, part, isAlone) {
     const [first, files] = found === null ? [part.base, []] : [found.first, found.files];
     const [from, most] = [volume.sectors, said].map(count => part.base + count);
     const cut = files.find(it => it.fault?.code === 'extent/cut' && it.block < from && endOfExtent(it) <= most);
-    // A volume that counts from the disc's start has so many blocks, or up to that one: it is taken for the shorter one that has the file.
+    // The number counts the blocks of the volume, or all from the disc's start. The smaller result that still has the cut file is used.
     const isUpTo = said > first && (cut === undefined || endOfExtent(cut) <= most - first);
     const blocks = isUpTo ? said - first : said;
     if (blocks <= volume.sectors) return null;

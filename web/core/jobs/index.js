@@ -1,3 +1,3 @@
-// The table of the jobs of workers.
+// The table of the jobs that workers do.
 
 export { JOBS } from './jobs.js';

@@ -12,7 +12,7 @@ import { Merged } from '../tasks/merge.js';
 declare module '../crew/jobs.js' {
     interface Jobs {
         survey: { args: { shift?: number }; answer: RangeSurvey };
-        /** Records that have only kinds. */
+        /** The records have only kinds. */
         kinds: { args: { shift?: number }; answer: Survey };
         sums: { args: { surveys: boolean; shift?: number }; answer: Summed };
         find: { args: { texts: Wanted[] } & Limits; answer: Found[] };

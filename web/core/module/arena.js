@@ -1,13 +1,13 @@
-// The memory of a module of libcdpatch: a few rooms of its own, what is lent, and after that an arena, which grows and is used again.
+// The memory of a libcdpatch module: fixed rooms, lent ranges, and after these an arena that grows and is reused.
 
 import { inMemory } from '../faults.js';
 import { PATCH_SIZE, PATCH_STRUCT, STEP_STRUCT } from './numbers.js';
 
-// No call but a step of a run answers more bytes.
+// The step of a run is the largest answer of any call.
 const ANSWER_SIZE = STEP_STRUCT.BYTES;
 const PAGE_SIZE = 65536;
 
-/** Bytes that are held stay until others are put. So nothing may be awaited while they are used. */
+/** Manages the memory of a module. Held bytes are valid until others are put, so nothing may be awaited while they are used. */
 export class Arena {
     /** @param {WebAssembly.Module} module of libcdpatch, with 32-bit addresses of memory */
     constructor(module) {
@@ -17,7 +17,7 @@ export class Arena {
         this.fresh = this.patch + PATCH_STRUCT.BYTES;
         this.old = this.fresh + PATCH_SIZE;
         this.arena = this.old + PATCH_SIZE;
-        /** @type {{ at: number, back: boolean }[]} what was lent, and whether it was given back */
+        /** @type {{ at: number, back: boolean }[]} the lent ranges, and whether each was given back */
         this.lent = [];
         this.places = { answer: BigInt(this.answer), patch: BigInt(this.patch), fresh: BigInt(this.fresh), old: BigInt(this.old) };
         this.memory = new Uint8Array(0);
@@ -26,7 +26,7 @@ export class Arena {
         this.reserve(0);
     }
 
-    /** @param {number} size how many bytes the arena has to have */
+    /** @param {number} size the least size of the arena in bytes */
     reserve(size) {
         const missing = this.arena + size - this.exports.memory.buffer.byteLength;
         if (missing > 0) inMemory(() => this.exports.memory.grow(Math.ceil(missing / PAGE_SIZE)));
@@ -36,7 +36,7 @@ export class Arena {
     }
 
     /**
-     * Memory that stays as it is, whatever is put or held meanwhile, until it is given back. Returns where it begins.
+     * Reserves memory that `put` and `hold` do not touch until it is given back. Returns the address at which it begins.
      * @param {number} size
      */
     lend(size) {
@@ -46,7 +46,7 @@ export class Arena {
         return at;
     }
 
-    /** @param {number} at where what was lent begins */
+    /** @param {number} at the address that `lend` returned */
     giveBack(at) {
         for (const it of this.lent) it.back = it.back || it.at === at;
         let end = this.arena;
@@ -54,7 +54,7 @@ export class Arena {
         this.moveArena(end);
     }
 
-    /** @param {number} at where it begins from now on. Nothing is held in it any more. */
+    /** @param {number} at the new start of the arena, in which nothing is held any more */
     moveArena(at) {
         this.arena = at;
         this.heldSize = 0;
@@ -62,8 +62,8 @@ export class Arena {
     }
 
     /**
-     * Copies bytes to the arena, one piece after the other, and returns where each stands. A number is room for as many bytes, whatever
-     * they are. The first piece stands as a record of the module has to.
+     * Copies pieces to the arena, one after the other, and returns the address of each. A number reserves that many bytes of any content.
+     * The first piece is aligned as records of the module require.
      * @param {...(Uint8Array | number)} pieces
      */
     put(...pieces) {
@@ -88,22 +88,22 @@ export class Arena {
         return this.memory.slice(Number(at), Number(at) + Number(size));
     }
 
-    /** @param {...Uint8Array} pieces texts, or sectors, for the calls that take a place in what is held */
+    /** @param {...Uint8Array} pieces texts or sectors, for the calls that use places in the held bytes */
     hold(...pieces) {
         this.put(...pieces);
         this.heldSize = pieces.reduce((sum, piece) => sum + piece.length, 0);
     }
 
-    /** @param {number} place in what is held */
+    /** @param {number} place in the held bytes */
     within(place) {
         if (place > this.heldSize) throw new RangeError(`place ${place} of ${this.heldSize} bytes`);
         return place;
     }
 
     /**
-     * The text that a call writes.
+     * Calls a function of the module that writes a text, and returns a copy of the text.
      * @param {string} name
-     * @param {...(number | bigint)} given
+     * @param {...(number | bigint)} given its arguments before the address of the text
      */
     line(name, ...given) {
         return this.copied(this.answer, this.exports[name](...given, this.places.answer));

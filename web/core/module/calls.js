@@ -1,31 +1,32 @@
-// The calls of the module of libcdpatch: here those on scripts, over bytes and numbers of JavaScript. cdpatch.h says what each does.
+// The calls of libcdpatch on scripts, with JavaScript bytes and numbers. cdpatch.h documents each call.
 
 import { ADDRESS_SIZE, ENTRY_STRUCT, LINE_STRUCT, PATCH_STRUCT, ROOMS_STRUCT, RUN_STRUCT, SECTOR_SIZE, STEP_STRUCT } from './numbers.js';
 import { MOST_PATCHES, SECTORS_IN_HAND, STEP, VERB } from './records.js';
 import { SectorCalls } from './sector_calls.js';
 
 /**
- * A run, and the memory that is lent to it: where that begins, where its hand and its step do, and what the two calls are given; and
- * how many patches its script has.
+ * A run, and the memory that is lent to it: the addresses of that memory, of its hand, and of its step; the arguments of the two calls;
+ * and the number of patches in its script.
  * @typedef {{ at: number, hand: number, step: number, script: bigint[], entries: bigint[], rooms: bigint[], patches: number }} Run
  */
-/** @typedef {{ number: number, start: number, size: number }} LinePlace a line's number, and where in the script its bytes stand */
+/** @typedef {{ number: number, start: number, size: number }} LinePlace a line's number, and the range of its bytes in the script */
 /**
- * Where a patch writes: its VERB; the block and the user byte at which it begins; how many user bytes it writes, 0 if none; and how many
- * old bytes it names, null if none.
+ * The range that a patch writes: its VERB, the block and the offset at which it begins, how many user bytes it writes (0 if none), and
+ * how many old bytes it names (null if none).
  * @typedef {{ verb: number, block: number, offset: number, size: number, old: number | null }} PatchRange
  */
 /**
- * A step of a run: a STEP, and the status of END; the line of a patch, its RESULT, and the block and the user byte there that refuse it;
- * where in the image its bytes stand, where in the memory, and how many they are.
+ * A step of a run. `kind` is a STEP, and `status` is set for END. `number` is the line of a patch, `result` its RESULT, and `block` and
+ * `offset` name the user byte that refuses it. `at` is the place of its bytes in the image, `from` their address, and `size` their count.
  * @typedef {{ kind: number, status: number, number: number, result: number, block: number, offset: number, at: number, from: number,
  *     size: number }} Step
  */
 
-/** A method for each call that the core makes. What it is given is copied to the arena, or held there; its answers are copies. */
+/** Has a method for each call that the core makes. Arguments are copied to the arena, or held there, and answers are copies. */
 export class Calls extends SectorCalls {
     /**
-     * The bytes of the first line of the held text from a place on, without its end and with it; null if there is none.
+     * The size in bytes of the first line of the held text from a place on, without its end (`size`) and with it (`taken`). Null if there
+     * is no line.
      * @param {number} from
      */
     firstLine(from) {
@@ -36,7 +37,7 @@ export class Calls extends SectorCalls {
     }
 
     /**
-     * Reads a line of the held text, and returns its CONTENT. `patchRead` has the patch of a line that has one.
+     * Reads a line of the held text, and returns its CONTENT. If that is a patch, `patchRead` returns it.
      * @param {number} version
      * @param {number} number
      * @param {number} earlier
@@ -51,7 +52,7 @@ export class Calls extends SectorCalls {
     }
 
     /**
-     * Where the patch of the line that was read writes.
+     * The range that the patch of the last read line writes.
      * @returns {PatchRange}
      */
     patchRange() {
@@ -62,7 +63,7 @@ export class Calls extends SectorCalls {
             size, old: memory[patch + HAS_OLD] ? size : null };
     }
 
-    /** What that patch says. It has new bytes if it sets some; `old` is null if it names no old ones. */
+    /** The patch of the last read line. `fresh` is empty unless its verb is `set`, and `old` is null if it names no old bytes. */
     patchRead() {
         const { memory, patch } = this;
         const range = this.patchRange();
@@ -144,11 +145,11 @@ export class Calls extends SectorCalls {
     /**
      * The next step of a run.
      * @param {Run} run
-     * @param {number} done how many bytes of the last step were moved, at first 0
+     * @param {number} done how many bytes of the last step were moved, 0 at first
      * @returns {Step}
      */
     runNext({ at, hand, step, script, entries, rooms }, done) {
-        // Written out: to spread the three takes ten times as long as the call.
+        // Written out, because spreading the three arrays takes ten times as long as the call.
         this.exports.cdpatch_run_next(BigInt(at), BigInt(done), script[0], script[1], entries[0], entries[1],
             rooms[0], rooms[1], rooms[2], rooms[3]);
         const number = (/** @type {number} */ place) => this.view.getUint32(step + place, true);

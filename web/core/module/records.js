@@ -1,19 +1,19 @@
-// The numbers and records of cdpatch.h by the names that the core has for them. `make` makes numbers.js of the header.
+// The constants and records of cdpatch.h, under the names that the core uses. `make` generates numbers.js from the header.
 
 import { CONTENT, RECORD_STRUCT, SECTOR_KIND, SECTOR_SIZE, STEP_KIND } from './numbers.js';
 
 export { CONTENT, RESULT, RUN_FLAG, SECTOR_KIND, STATUS, VERB } from './numbers.js';
 export { MOST_PATCHES, MOST_SCRIPT_BYTES, PATCH_SIZE, SECTORS_IN_HAND } from './numbers.js';
 
-/** What a step of a run is. */
+/** The kinds of steps of a run. */
 export const STEP = STEP_KIND;
 
-/** Where the members of a sector's record stand, and how many bytes it has. */
+/** The offsets of the members of a sector's record, and the size of a record in bytes. */
 export const RECORD = RECORD_STRUCT;
 export const RECORD_SIZE = RECORD_STRUCT.BYTES;
 
 /**
- * Whether what a line of a script has is an error.
+ * Whether the CONTENT of a script's line is an error.
  * @param {number} content
  */
 export function isFault(content) {

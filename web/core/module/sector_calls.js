@@ -1,4 +1,4 @@
-// The calls of the module of libcdpatch on sectors and images, over bytes and numbers of JavaScript. cdpatch.h says what each does.
+// The calls of libcdpatch on sectors and images, with JavaScript bytes and numbers. cdpatch.h documents each call.
 
 import { newBytes } from '../faults.js';
 import { Arena } from './arena.js';
@@ -6,7 +6,7 @@ import { ADDRESS_SIZE, COLUMNS, DIAGONALS, DIGEST_SIZE, SECTOR_SIZE, SHA1_STRUCT
 import { RECORD, RECORD_SIZE, sectorCount } from './records.js';
 
 /**
- * The bytes, if they have the size that a call takes for granted.
+ * Returns the bytes if they have the size that a call relies on. Throws a RangeError if they do not.
  * @param {Uint8Array} bytes
  * @param {number} size
  */
@@ -15,7 +15,7 @@ export function sized(bytes, size) {
     return bytes;
 }
 
-/** A method for each of these calls. What it is given is copied to the arena, or held there; its answers are copies. */
+/** Has a method for each of these calls. Arguments are copied to the arena, or held there, and answers are copies. */
 export class SectorCalls extends Arena {
     version() {
         return this.exports.cdpatch_version() >>> 0;
@@ -48,7 +48,7 @@ export class SectorCalls extends Arena {
     /**
      * The consistent sectors of neighbouring blocks.
      * @param {number} block the first one
-     * @param {Uint8Array} user 2048 bytes for each
+     * @param {Uint8Array} user 2048 bytes for each block
      */
     encodeBlocks(block, user) {
         const count = Math.floor(user.length / USER_SIZE);
@@ -63,7 +63,7 @@ export class SectorCalls extends Arena {
     /**
      * The records of whole sectors, RECORD_SIZE bytes each.
      * @param {Uint8Array} sectors
-     * @param {number} block that of the first
+     * @param {number} block the block of the first sector
      */
     survey(sectors, block) {
         const count = sectorCount(sectors.length);
@@ -74,7 +74,7 @@ export class SectorCalls extends Arena {
     }
 
     /**
-     * Records of whole sectors with nothing but their kinds.
+     * The records of whole sectors, in which only the kinds are set.
      * @param {Uint8Array} sectors
      */
     kinds(sectors) {
@@ -87,7 +87,7 @@ export class SectorCalls extends Arena {
     }
 
     /**
-     * The line of `list` for the blocks of a run of one kind; empty if the run has no block, or there is no such kind.
+     * The line of `list` for a run of blocks of one kind. It is empty if the run has no block, or if the kind does not exist.
      * @param {number} first
      * @param {number} last
      * @param {number} kind
@@ -99,14 +99,14 @@ export class SectorCalls extends Arena {
     /**
      * The last line of `list`.
      * @param {number} sectors
-     * @param {number} tail how many bytes follow them
+     * @param {number} tail how many bytes follow the last sector
      */
     listEnd(sectors, tail) {
         return this.line('cdpatch_list_end', sectors, tail);
     }
 
     /**
-     * The line of `audit` for a block, by its record; empty if it has none.
+     * The line of `audit` for a block with a record. It is empty if the record has no finding.
      * @param {number} block
      * @param {Uint8Array} record RECORD_SIZE bytes
      */
@@ -119,14 +119,14 @@ export class SectorCalls extends Arena {
      * @param {number} sectors
      * @param {number} mode1
      * @param {number} damaged
-     * @param {number} tail how many bytes follow them
+     * @param {number} tail how many bytes follow the last sector
      */
     auditEnd(sectors, mode1, damaged, tail) {
         return this.line('cdpatch_audit_end', sectors, mode1, damaged, tail);
     }
 
     /**
-     * Which P columns and Q diagonals of a Mode 1 sector are broken, a byte each.
+     * Finds the broken P columns and Q diagonals of a Mode 1 sector, with one byte for each column and diagonal.
      * @param {Uint8Array} sector
      */
     findBroken(sector) {

@@ -1,10 +1,10 @@
-// The base for which a script was written, as a comment in it says.
+// Reads and writes the comment that names the base of a script.
 
 import { MOST_SCRIPT_BYTES } from '../module/index.js';
 import { LINE_FEED, endsOfLines } from './line_words.js';
 
 /** @typedef {import('./script_writer.js').Script} Script */
-/** @typedef {{ line: number, base: number }} BaseSaid the comment's line, and the base that it says */
+/** @typedef {{ line: number, base: number }} BaseSaid the comment's line, and the base that it names */
 
 const BASE_COMMENT = /^# base (\d{1,6})\s*$/;
 const LONGEST_BASE_COMMENT = 21;
@@ -12,7 +12,7 @@ const HASH = 0x23;
 const LETTER_B = 0x62;
 
 /**
- * The comment that says for which base a script is written. There is none for base 0.
+ * The comment that names the base of a script, with its line end; '' for base 0.
  * @param {number} base
  */
 export function baseComment(base) {
@@ -20,7 +20,7 @@ export function baseComment(base) {
 }
 
 /**
- * Finishes a script: adds the comment that says its base, after the first line. Every script that is written passes through here.
+ * Finishes a script by adding the comment that names its base after the first line. Every script that is written passes through here.
  * @param {Script} script whose first piece is its first line
  * @param {number} base
  * @returns {Script}
@@ -32,7 +32,7 @@ export function scriptForBase({ pieces: [head, ...lines], ...script }, base) {
 }
 
 /**
- * The bases that the lines of a text say.
+ * The bases that comments of a text name.
  * @param {Uint8Array} text
  */
 export function basesSaid(text) {

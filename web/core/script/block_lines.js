@@ -1,17 +1,17 @@
-// What the lines of a script do with one block: a rebuild mends a damaged sector for the changes that come after it.
+// Finds the lines of a script that rebuild a block or write in it. A rebuild repairs a damaged sector for the changes after it.
 
 import { USER_SIZE, VERB } from '../module/index.js';
 
 /** @typedef {import('./model.js').ScriptLine} ScriptLine */
 /** @typedef {import('./model.js').ScriptModel} ScriptModel */
 
-/** @param {ScriptLine[]} lines whose least number it is, 0 if there are none */
+/** @param {ScriptLine[]} lines the lines of which the least number is returned, 0 if there are none */
 function firstOf(lines) {
     return lines.reduce((least, { number }) => least === 0 ? number : Math.min(least, number), 0);
 }
 
 /**
- * The number of the first line that rebuilds a block, and of the first one that writes in it otherwise; 0 if there is none.
+ * The numbers of the first line that rebuilds a block, and of the first line that writes in it otherwise, each 0 if there is none.
  * @param {ScriptModel} script
  * @param {number} block
  */

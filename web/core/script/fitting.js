@@ -1,4 +1,4 @@
-// Whether a script that this core has written fits its image.
+// Checks that a script written by this core fits its image.
 
 import { Fault } from '../faults.js';
 import { STATUS } from '../module/index.js';
@@ -10,7 +10,7 @@ import { Refusal, readScript } from './script.js';
 /** @typedef {import('./script_writer.js').Script} Script */
 
 /**
- * Throws a Fault if a patch of a script is refused.
+ * Throws a Fault, `script/conflict`, if a script or a patch of it is refused.
  * @param {Calls} calls
  * @param {{ reader: Reader, base: number }} image
  * @param {Script} script

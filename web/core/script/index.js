@@ -1,4 +1,4 @@
-// Scripts: their lines, what they do to an image, and how they are written.
+// Scripts: their lines, their effect on an image, and how they are written.
 
 export { baseComment, scriptForBase } from './base_said.js';
 export { firstLinesOf } from './block_lines.js';

@@ -1,14 +1,14 @@
-// The versions of the language of scripts, and its verbs.
+// The versions and the verbs of the script language.
 
 import { CONTENT } from '../module/index.js';
 
 /** @typedef {keyof typeof VERBS} Verb */
 
-/** The versions as head lines name them, from the first on; and the content of such a line, by which calls know the version. */
+/** The versions, from the first on: the name in head lines, and the CONTENT of a head line, by which calls identify the version. */
 export const VERSIONS = Object.freeze([{ name: '1', content: CONTENT.VERSION_1 }, { name: '2', content: CONTENT.VERSION_2 }]);
 export const NEWEST_VERSION = VERSIONS[VERSIONS.length - 1];
 
-/** Of each verb the version that it needs, and a line that has no fault. */
+/** For each verb the version that it needs, and an example of a valid line. */
 export const VERBS = Object.freeze({
     set: { version: 1, line: 'set 0 0 00 was 00' },
     fill: { version: 1, line: 'fill 0 0 1 00' },
@@ -18,7 +18,7 @@ export const VERBS = Object.freeze({
 
 /**
  * The head line of a version, without its end.
- * @param {string | number} [version] its name; the first one if none is given
+ * @param {string | number} [version] its name, by default that of the first version
  */
 export function headLine(version = VERSIONS[0].name) {
     return `cdpatch ${version}`;

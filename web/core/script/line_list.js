@@ -1,4 +1,4 @@
-// Lines of a script as they are written.
+// Writes the lines of a script.
 
 import { ByteList } from '../bytes.js';
 import { SECTOR_SIZE, USER_SIZE } from '../module/index.js';
@@ -8,18 +8,18 @@ import { VERBS } from './language.js';
 /** @typedef {import('./sector_lines.js').Left} Left */
 /** @typedef {import('./sector_lines.js').Lines} Lines */
 /** @typedef {import('./sector_lines.js').Text} Text */
-/** @typedef {{ bytes: Uint8Array, words: Int32Array, view: DataView }} Written bytes of which lines are written, as they are read */
+/** @typedef {{ bytes: Uint8Array, words: Int32Array, view: DataView }} Written bytes from which lines are written, with views of them */
 
-/** Bytes that differ are in one patch if at most this many equal ones stand between them: a patch of their own costs more. */
+/** Differing bytes with at most this many equal bytes between them are in one patch: two patches would take more bytes. */
 const JOINED_BYTES = 8;
 
 const HEX_DIGITS = '0123456789ABCDEF';
 
-/** The two digits of each byte, the first one in the low half. */
+/** The two hexadecimal digits of each byte, the first one in the low half. */
 const DIGITS = Uint16Array.from({ length: 256 }, (_, i) => HEX_DIGITS.charCodeAt(i >> 4) | HEX_DIGITS.charCodeAt(i % 16) << 8);
 
 /**
- * Bytes of which lines are written.
+ * Prepares bytes from which lines are written.
  * @param {Uint8Array} bytes
  * @returns {Written}
  */
@@ -27,7 +27,7 @@ export function asWritten(bytes) {
     return { bytes, words: asWords(bytes), view: new DataView(bytes.buffer, bytes.byteOffset, bytes.length) };
 }
 
-/** Lines of a script, as bytes, and what is left besides them. */
+/** Lines of a script as bytes, and the blocks that they leave out. */
 export class LineList extends ByteList {
     /** @param {Uint8Array} [room] */
     constructor(room) {
@@ -47,7 +47,7 @@ export class LineList extends ByteList {
     }
 
     /**
-     * The lines from a place on, not copied: they stay until the list changes.
+     * The lines from a place on, not copied. They are valid until the list changes.
      * @param {number} at
      * @returns {Text}
      */
@@ -62,7 +62,7 @@ export class LineList extends ByteList {
     }
 
     /**
-     * @param {Written} from bytes of which some come as digits
+     * @param {Written} from the source of the bytes that are appended as digits
      * @param {number} first
      * @param {number} end
      */
@@ -93,7 +93,7 @@ export class LineList extends ByteList {
      * @param {number} offset
      * @param {Written} fresh
      * @param {Written} old
-     * @param {number} from of both
+     * @param {number} from the place in both where the part begins
      * @param {number} end
      */
     setPart(block, offset, fresh, old, from, end) {
@@ -122,12 +122,12 @@ export class LineList extends ByteList {
     }
 
     /**
-     * The lines that make a Mode 1 sector another, the i-th of several.
+     * Adds the lines that change the i-th of several Mode 1 sectors.
      * @param {number} block
      * @param {Written} old
      * @param {Written} fresh
      * @param {number} i
-     * @param {boolean} rebuild whether its damage goes first
+     * @param {boolean} rebuild whether its damage is removed first
      */
     sector(block, old, fresh, i, rebuild) {
         if (rebuild) this.rebuild(block);
@@ -149,7 +149,7 @@ export class LineList extends ByteList {
 }
 
 /**
- * The line that is added to a list, without its end.
+ * The line that a function adds to a list, without its end.
  * @param {(lines: LineList) => void} add
  */
 export function lineText(add) {
@@ -159,10 +159,10 @@ export function lineText(add) {
 }
 
 /**
- * The runs of user bytes that differ, those that are near one another joined.
+ * The runs of differing user bytes. Runs that are close together are joined.
  * @param {Written} old
  * @param {Written} fresh
- * @param {number} start where the user bytes of a sector begin in both
+ * @param {number} start the place of the sector's user bytes in both
  */
 function differingRuns({ bytes: old, words: before }, { bytes: fresh, words: after }, start) {
     const runs = [];

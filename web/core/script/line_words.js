@@ -1,4 +1,4 @@
-// The lines of a script, the words of a line, and by the calls which of these is wrong.
+// Splits scripts into lines and lines into words, and finds the wrong word of a line.
 
 import { CONTENT } from '../module/index.js';
 import { NEWEST_VERSION, VERBS } from './language.js';
@@ -6,18 +6,18 @@ import { NEWEST_VERSION, VERBS } from './language.js';
 /** @typedef {import('../module/calls.js').Calls} Calls */
 /** @typedef {import('./language.js').Verb} Verb */
 
-/** What ends a line of bytes. CR before it belongs to it. */
+/** The byte that ends a line. A CR before it belongs to the line end. */
 export const LINE_FEED = 0x0A;
 
-/** What ends a line, and what separates words. */
+/** The end of a line, and the gap between words. */
 const ENDS = /\r?\n/;
 const GAPS = /([ \t]+)/;
 
-/** The faults of one word, which is as wrong in any other line of its verb. */
+/** The faults of a single word, which would be just as wrong in any other line with the same verb. */
 const FAULTS_OF_A_WORD = [CONTENT.BAD_NUMBER, CONTENT.BAD_HEX, CONTENT.BAD_OFFSET, CONTENT.BAD_ADDRESS];
 
 /**
- * How many ends of lines a range of a text has.
+ * Counts the line ends in a range of a text.
  * @param {Uint8Array} text
  * @param {number} from
  * @param {number} to
@@ -34,7 +34,7 @@ export function linesOfText(text) {
 }
 
 /**
- * A line in parts: at even places its words, of which the first and the last may be empty, and between them what separates these.
+ * Splits a line into parts: at even indices its words, of which the first and the last may be empty, and at odd ones the gaps.
  * @param {string} line
  */
 export function lineParts(line) {
@@ -47,16 +47,16 @@ export function wordsOf(line) {
 }
 
 /**
- * Which part of a line a word is.
+ * The index of a word among the parts of a line.
  * @param {string[]} parts
- * @param {number} word its place among the words
+ * @param {number} word its index among the words
  */
 export function partOfWord(parts, word) {
     return 2 * word + (parts[0] === '' ? 2 : 0);
 }
 
 /**
- * What a line has if no patch is before it, a CONTENT.
+ * The CONTENT of a line that no patch precedes.
  * @param {Calls} calls
  * @param {number} version
  * @param {string} line
@@ -68,7 +68,7 @@ export function contentOf(calls, version, line) {
 }
 
 /**
- * The place of the word that makes a line faulty, -1 if that is no single one.
+ * The index of the word that makes a line faulty, -1 if no single word does.
  * @param {Calls} calls
  * @param {string} line
  * @param {number} fault a CONTENT
@@ -83,8 +83,8 @@ export function faultyWord(calls, line, fault) {
 }
 
 /**
- * The program's words on a line of a script, without what names that line.
- * @param {Uint8Array} text the line that it prints
+ * The program's message about a line of a script, without the prefix that names the line.
+ * @param {Uint8Array} text the line that the program prints
  * @param {number} number
  */
 export function wordsOn(text, number) {
@@ -93,7 +93,7 @@ export function wordsOn(text, number) {
 }
 
 /**
- * What stands after the first colon of a line of the program: after its name, or after what became of a patch.
+ * The part of a program's line after the first colon, which follows the name of the program or the outcome of a patch.
  * @param {string} line
  */
 export function afterColon(line) {
@@ -101,7 +101,7 @@ export function afterColon(line) {
 }
 
 /**
- * Whether a word that is no bytes would be some with one digit more.
+ * Whether a word that is not valid as bytes would be valid with one more digit.
  * @param {Calls} calls
  * @param {string} word
  */

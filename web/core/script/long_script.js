@@ -1,4 +1,4 @@
-// The patches of a script line by line: of one that is longer than a run takes, which is cut into parts that have a run each.
+// Reads the patches of a script. Splits a script that exceeds the limits of a run into parts, each of which is run separately.
 
 import { joinedBytes } from '../bytes.js';
 import { CONTENT, MOST_PATCHES, MOST_SCRIPT_BYTES, isFault } from '../module/index.js';
@@ -8,18 +8,18 @@ import { faultOr } from './patch_run.js';
 
 /** @typedef {import('../module/calls.js').Calls} Calls */
 /** @typedef {import('../module/calls.js').PatchRange} PatchRange */
-/** @typedef {PatchRange & { number: number, line: Uint8Array }} PatchLine a line with a patch: its number, its bytes, and what it writes */
-/** @typedef {{ head: Uint8Array, patches: PatchLine[] }} Lines the head line, and the patches in their order */
+/** @typedef {PatchRange & { number: number, line: Uint8Array }} PatchLine a line with a patch: its number, its bytes, and its range */
+/** @typedef {{ head: Uint8Array, patches: PatchLine[] }} Lines the head line, and the patches in the order of application */
 
-/** Bytes of a text that are read at a time. Lines that fill them have no more patches than a run takes. */
+/** How many bytes of a text are read at a time. Lines of this size have no more patches than a run accepts. */
 const TEXT_WINDOW = 1 << 19;
 const END_OF_LINE = Uint8Array.of(LINE_FEED);
 
-/** What stands before lines until their head line was found. */
+/** The head line that is used until the head line of the script is found. */
 const ANY_HEAD = new TextEncoder().encode(headLine());
 
 /**
- * The whole lines of a text, as many at a time as a window takes, or one that is longer.
+ * Yields the lines of a text, as many whole lines at a time as fit into a window, or one line that is longer.
  * @param {Uint8Array} text
  */
 function* windowsOf(text) {
@@ -31,21 +31,21 @@ function* windowsOf(text) {
     }
 }
 
-/** Reads the lines of a script, of those that say nothing as many by one call as there are. */
+/** Reads the lines of a script. One call skips all lines of a window that are blank or comments. */
 class LineReader {
     /** @param {Calls} calls */
     constructor(calls) {
         this.calls = calls;
         this.version = 0;
         this.head = ANY_HEAD;
-        /** How many lines were read. */
+        /** The number of lines read so far. */
         this.number = 0;
         /** @type {PatchLine[]} */
         this.patches = [];
     }
 
     /**
-     * Reads whole lines. Returns the program's line for a fault, null if they have none.
+     * Reads whole lines. Returns the program's line for their first fault, null if they have none.
      * @param {Uint8Array} lines
      * @returns {Uint8Array | null}
      */
@@ -65,8 +65,8 @@ class LineReader {
     }
 
     /**
-     * Reads lines one by one up to the first fault, which has to be named, or to the head line, if it was not found yet.
-     * @param {Uint8Array} lines which are held
+     * Reads lines one by one, to find the first fault, or the head line if that was not found yet. Returns as `read` does.
+     * @param {Uint8Array} lines the held ones
      * @returns {Uint8Array | null}
      */
     readEach(lines) {
@@ -86,7 +86,7 @@ class LineReader {
 }
 
 /**
- * The patches of a script, or the program's line for its fault. It may have any number of bytes and of patches.
+ * Reads the patches of a script with any number of bytes and patches. Returns the program's line if the script has a fault.
  * @param {Calls} calls
  * @param {Uint8Array} text
  * @returns {Lines | Uint8Array}
@@ -103,7 +103,7 @@ export function readLines(calls, text) {
 }
 
 /**
- * How many patches name no old bytes, so that nothing shows whether they belong where they write; and how many old bytes the others name.
+ * Counts the patches without old bytes, for which nothing shows whether they fit the image, and the old bytes that the others name.
  * @param {{ old: number | null }[]} patches
  */
 export function countOld(patches) {
@@ -112,7 +112,7 @@ export function countOld(patches) {
 }
 
 /**
- * The patches of a script without faults.
+ * The patches of a script, none if it has a fault.
  * @param {Calls} calls
  * @param {string} script
  */
@@ -122,7 +122,7 @@ export function patchesOf(calls, script) {
 }
 
 /**
- * How many patches of a script without faults name no old bytes, and how many old bytes the others name.
+ * Counts the patches of a script that name no old bytes, and the old bytes that the others name.
  * @param {Calls} calls
  * @param {string} script
  */
@@ -130,7 +130,7 @@ export function oldBytesOf(calls, script) {
     return countOld(patchesOf(calls, script));
 }
 
-/** Patches in their order, as a script of their own, which is not too long for a run. */
+/** A part of a script: patches in the order of application, as a script that is not too long for a run. */
 export class Part {
     /**
      * @param {Uint8Array} head
@@ -146,7 +146,7 @@ export class Part {
     }
 
     /**
-     * The number that a line of this script has in the long one.
+     * The number that a line of this part has in the long script.
      * @param {number} number
      */
     numberOf(number) {
@@ -155,7 +155,7 @@ export class Part {
 }
 
 /**
- * Cuts a script into parts, at least one.
+ * Splits a script into parts, at least one.
  * @param {Lines} lines
  */
 export function scriptParts({ head, patches }) {

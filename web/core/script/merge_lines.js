@@ -1,4 +1,4 @@
-// Lines that come into a script, each in the place of those that write the same bytes.
+// Merges new lines into a script. Each one replaces the lines that write the same bytes.
 
 import { VERB } from '../module/index.js';
 import { isTurnDue, letOthersIn } from '../turns.js';
@@ -7,12 +7,12 @@ import { ScriptModel, byNumber, modelInParts, userPlace } from './model.js';
 
 /** @typedef {import('./model.js').ScriptLine} ScriptLine */
 /** @typedef {import('./model.js').UserRange} UserRange */
-/** How many lines are new, how many took the place of others, and how many stand there already. */
+/** How many lines are new, how many replaced others, and how many were there already. */
 /** @typedef {{ added: number, replaced: number, same: number }} Merged */
 
 /**
- * Whether a line gives way to one that sets a range of which it writes a byte: if it sets bytes from the same place on, or none but
- * these, or if it was made as that one, and not typed.
+ * Whether a line is replaced by a new line that sets an overlapping range: if it sets bytes from the same place on, or only bytes of the
+ * range, or if it was generated like the new line, and not typed.
  * @param {ScriptLine} line
  * @param {UserRange} range
  * @param {(line: ScriptLine) => boolean} isMade
@@ -28,15 +28,15 @@ function givesWay(line, range, isMade) {
 const scriptOf = texts => [headLine(), ...texts].join('\n');
 
 /**
- * Lines that set bytes, as they are read.
- * @param {ScriptModel} model of what scriptOf gives
+ * The lines that set bytes in a model of a scriptOf text.
+ * @param {ScriptModel} model
  */
 function linesRead({ lines }) {
     return /** @type {{ text: string, patch: UserRange }[]} */ (lines.slice(1));
 }
 
 /**
- * The lines of a script that give way to one that sets a range.
+ * The lines of a script that a new line replaces which sets a range.
  * @param {ScriptModel} script
  * @param {UserRange} range
  * @param {(line: ScriptLine) => boolean} isMade
@@ -45,7 +45,7 @@ function linesFor(script, range, isMade) {
     return script.linesWriting(range).filter(line => givesWay(line, range, isMade)).sort(byNumber);
 }
 
-/** Lines that come into a script that stays as it is, one after the other. */
+/** Merges lines, one after the other, with a script that itself does not change. */
 class Merging {
     /**
      * @param {ScriptModel} script
@@ -54,7 +54,7 @@ class Merging {
     constructor(script, isMade) {
         this.script = script;
         this.isMade = isMade;
-        /** @type {Map<number, string>} by the numbers of lines that give way: what stands there now, '' for nothing */
+        /** @type {Map<number, string>} the new texts by the numbers of the replaced lines, '' for a removed line */
         this.put = new Map();
         /** @type {string[]} */
         this.end = [];
@@ -83,10 +83,10 @@ class Merging {
 }
 
 /**
- * The lines of a script, in their order, that would give way to others which set bytes.
+ * The lines of a script, in order, that new lines which set bytes would replace.
  * @param {ScriptModel} script
  * @param {string[]} come
- * @param {(line: ScriptLine) => boolean} isMade whether a line was made as these, and not typed
+ * @param {(line: ScriptLine) => boolean} isMade whether a line was generated like the new ones, and not typed
  */
 export function linesGivingWay(script, come, isMade) {
     const read = linesRead(new ScriptModel(script.calls, scriptOf(come)));
@@ -94,11 +94,11 @@ export function linesGivingWay(script, come, isMade) {
 }
 
 /**
- * The texts of a script's lines after lines have come in that set bytes, of which none meets another: each in the place of the first one
- * that gives way to it, or at the end.
+ * Merges lines that set bytes, and do not overlap, with a script, and returns the texts of all lines. Each new line is put in the place of
+ * the first line that it replaces, or at the end.
  * @param {ScriptModel} script
  * @param {string[]} come
- * @param {(line: ScriptLine) => boolean} isMade whether a line was made as these, and not typed
+ * @param {(line: ScriptLine) => boolean} isMade whether a line was generated like the new ones, and not typed
  */
 export function mergedLines(script, come, isMade) {
     const merging = new Merging(script, isMade);
@@ -107,8 +107,8 @@ export function mergedLines(script, come, isMade) {
 }
 
 /**
- * What mergedLines gives, of tens of thousands of lines: others get turns in between, in which the script must stay as it is. Then make the
- * script of the lines by `modelInParts`, which gives turns too.
+ * Like mergedLines, for tens of thousands of lines. Other tasks get turns in between, in which the script must not change. Build the new
+ * script from the lines with `modelInParts`, which gives turns too.
  * @param {ScriptModel} script
  * @param {string[]} come
  * @param {(line: ScriptLine) => boolean} isMade
@@ -124,7 +124,7 @@ export async function mergedInTurns(script, come, isMade, signal) {
 }
 
 /**
- * What linesGivingWay gives, in the same way.
+ * Like linesGivingWay, with turns for other tasks in between, in which the script must not change.
  * @param {ScriptModel} script
  * @param {string[]} come
  * @param {(line: ScriptLine) => boolean} isMade

@@ -1,4 +1,4 @@
-// A script by its lines: what each of them has, as the calls read it, kept up as lines come and go; and where they write.
+// A model of a script: the content of each line as the calls read it, updated when lines are added or removed, and the bytes they write.
 
 import { hexText } from '../hex_digits.js';
 import { CONTENT, PATCH_SIZE, USER_SIZE, VERB, isFault } from '../module/index.js';
@@ -7,14 +7,14 @@ import { contentOf, lineParts, linesOfText, partOfWord, wordsOf } from './line_w
 
 /** @typedef {import('../module/calls.js').Calls} Calls */
 /** @typedef {import('../module/calls.js').PatchRange} PatchRange */
-/** A line: its number, from 1, its text, what it has, a CONTENT, and its patch, null if it has none. */
+/** A line: its number, from 1, its text, its CONTENT, and its patch, null if it has none. */
 /** @typedef {{ number: number, text: string, content: number, patch: PatchRange | null }} ScriptLine */
-/** @typedef {{ block: number, offset: number, size: number }} UserRange user bytes, from one of a block on */
-/** @typedef {{ number: number, block: number, offset: number }} Asked a line that asks for a user byte */
+/** @typedef {{ block: number, offset: number, size: number }} UserRange user bytes, from an offset in a block on */
+/** @typedef {{ number: number, block: number, offset: number }} Asked a line, and the user byte whose writer is looked up for it */
 
-/** If more lines go, all that stay are read: each that goes may be looked for among all of its block. */
+/** If more lines are removed, all others are read again, because each removed line is searched among all lines of its block. */
 const MANY = 256;
-/** So many lines are read in some ten milliseconds. */
+/** How many lines are read between two turns. They take some ten milliseconds. */
 const READ_AT_ONCE = 5000;
 
 /**
@@ -25,11 +25,11 @@ export function lastBlockOf({ block, offset, size }) {
     return block + Math.floor(Math.max(offset + size - 1, 0) / USER_SIZE);
 }
 
-/** A patch meets no block further from its first one: the longest, from the last byte of that on. */
+/** How many blocks after its first one a patch can meet: the longest patch, if it begins with the last byte of a block. */
 const BLOCKS_AFTER = lastBlockOf({ block: 0, offset: USER_SIZE - 1, size: PATCH_SIZE });
 
 /**
- * The place of a user byte among those from block 0 on.
+ * The index of a user byte, counted from the first one of block 0.
  * @param {{ block: number, offset: number }} place
  */
 export function userPlace({ block, offset }) {
@@ -45,10 +45,10 @@ export function byNumber(a, b) {
 }
 
 /**
- * For each of several lines, in their order, that ask for a byte of one block: the last line before it that writes the byte, or 0.
+ * Looks up the last line before each of several lines that writes a byte of one block, or 0.
  * @param {number} block
- * @param {ScriptLine[]} lines that write in it, in their order
- * @param {Asked[]} asked
+ * @param {ScriptLine[]} lines those that write in the block, in order
+ * @param {Asked[]} asked the lines, in order, with their bytes
  */
 export function writersIn(block, lines, asked) {
     const [writers, start] = [new Uint32Array(USER_SIZE), block * USER_SIZE];
@@ -63,7 +63,7 @@ export function writersIn(block, lines, asked) {
     });
 }
 
-/** The lines of a script. There is always one. */
+/** The lines of a script, at least one. */
 export class ScriptModel {
     /**
      * @param {Calls} calls
@@ -71,37 +71,37 @@ export class ScriptModel {
      */
     constructor(calls, text) {
         this.calls = calls;
-        /** The whole text, null if it is to be made again. */
+        /** The whole text, null if it has to be joined again. */
         this.joined = /** @type {string | null} */ (null);
         /** @type {ScriptLine[]} */
         this.lines = [];
-        /** The place of the head line, or of the line that stands where it should; -1 if no line says anything. */
+        /** The index of the head line, or of the line in its place; -1 if all lines are blank or comments. */
         this.head = -1;
         this.version = 0;
         this.patches = 0;
         this.faults = 0;
-        /** How many characters the text has, or one more. */
+        /** The number of characters of the text, or one more. */
         this.size = 0;
         /** @type {Map<number, ScriptLine[]>} the lines with a patch, by its first block, in any order */
         this.blocks = new Map();
-        /** Whether there are too many patches: then what a line has depends on those before it. */
+        /** Whether there are too many patches. Then the content of a line depends on the lines before it. */
         this.tooMany = false;
         this.readText(text);
     }
 
-    /** The whole text. It is made again only after a change. */
+    /** The whole text. It is joined again only after a change. */
     text() {
         if (this.joined === null) this.joined = this.lines.map(({ text }) => text).join('\n');
         return this.joined;
     }
 
-    /** The version as the head line names it, '' without one: the number that calls have for a later one is another. */
+    /** The name of the version in the head line, '' without one. For later versions, the calls use a different number. */
     versionName() {
         return this.version === 0 ? '' : wordsOf(this.lines[this.head].text)[1] || '';
     }
 
     /**
-     * Reads a whole text. If no head line is first, the lines after that are read as those of version 1.
+     * Reads a whole text. If its first line is not a head line, the lines after that are read as version 1.
      * @param {string} text
      */
     readText(text) {
@@ -109,19 +109,19 @@ export class ScriptModel {
         this.lines = this.entered(text, linesOfText(text), 1);
     }
 
-    /** @param {string} text of which no line is read yet */
+    /** @param {string} text the new text, of which no line is read yet */
     begin(text) {
         Object.assign(this, { joined: text, lines: [], head: -1, version: 0, patches: 0, faults: 0, size: 0, blocks: new Map(),
             tooMany: false });
     }
 
-    /** @param {ScriptModel} other whose lines are taken over, and no longer its own */
+    /** @param {ScriptModel} other the model whose lines are moved to this one */
     adopt({ joined, lines, head, version, patches, faults, size, blocks, tooMany }) {
         Object.assign(this, { joined, lines, head, version, patches, faults, size, blocks, tooMany });
     }
 
     /**
-     * Reads lines, which are counted from now on.
+     * Reads lines, and adds them to the counts.
      * @param {string} text
      * @param {string[]} texts its lines
      * @param {number} first the number of the first one
@@ -147,7 +147,7 @@ export class ScriptModel {
     }
 
     /**
-     * @param {ScriptLine} line that comes or goes
+     * @param {ScriptLine} line the line that is added (1) or removed (-1)
      * @param {1 | -1} step
      */
     count(line, step) {
@@ -161,7 +161,7 @@ export class ScriptModel {
     }
 
     /**
-     * Puts lines in place of others. Only these are read, but if the version becomes another, or if there are too many patches.
+     * Replaces lines. Only the new ones are read, unless the version changes, many lines are removed, or there are too many patches.
      * @param {number} at
      * @param {number} count
      * @param {string[]} texts
@@ -182,7 +182,7 @@ export class ScriptModel {
     }
 
     /**
-     * What the patch of a line says, with its bytes, or null.
+     * The patch of a line with its bytes, or null.
      * @param {number} i
      */
     patchAt(i) {
@@ -193,7 +193,7 @@ export class ScriptModel {
     }
 
     /**
-     * The lines whose patch may meet one of some blocks.
+     * The lines whose patch may meet a block of a range.
      * @param {number} first
      * @param {number} last
      */
@@ -223,7 +223,7 @@ export class ScriptModel {
     }
 
     /**
-     * The last lines before others that have written the bytes which these ask for, or 0, by the numbers of the lines that ask.
+     * For each asking line, by its number, the last applied line before it that writes the byte it asks for, or 0.
      * @param {Asked[]} asking
      * @param {(number: number) => boolean} isApplied
      */
@@ -245,7 +245,7 @@ export class ScriptModel {
     }
 
     /**
-     * The script that has only the patches which may change a block; '' if there are none. Lines with a fault are left out.
+     * A script with only the patches that may change a block; '' if there are none. Lines with a fault are left out.
      * @param {number} block
      */
     scriptNear(block) {
@@ -255,7 +255,7 @@ export class ScriptModel {
     }
 
     /**
-     * A line that writes just a range, with other new bytes; '' if it writes something else.
+     * The text of a line with different new bytes, if it sets exactly a range; '' otherwise.
      * @param {number} number of the line, or 0
      * @param {UserRange} range
      * @param {Uint8Array} fresh
@@ -271,10 +271,10 @@ export class ScriptModel {
 }
 
 /**
- * The lines of a text, as the calls read them, a part at a time.
+ * Builds the model of a text, a part at a time.
  * @param {Calls} calls
  * @param {string} text
- * @param {() => Promise<unknown>} turn between two parts
+ * @param {() => Promise<unknown>} turn is awaited between two parts
  */
 export async function modelInParts(calls, text, turn) {
     const model = new ScriptModel(calls, '');

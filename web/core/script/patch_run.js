@@ -1,4 +1,4 @@
-// A run of a script on an image by the calls, of which this only moves the bytes.
+// Runs a script on an image. The calls decide everything, and this file only moves the bytes.
 
 import { ByteList, PieceCutter } from '../bytes.js';
 import { RUN_FLAG, STATUS, STEP } from '../module/index.js';
@@ -12,18 +12,18 @@ import { isTurnDue, letOthersIn } from '../turns.js';
 /** @typedef {(piece: Piece) => void | Promise<void>} Take */
 
 /**
- * The block of the image's first sector; whether damaged sectors are patched too; whether old bytes are not compared; and so few bytes
- * between patched sectors go out with them, if they were read too.
+ * Options of a run. `base`: the block of the image's first sector. `carry`: whether damaged sectors are patched too. `withoutOld`: whether
+ * old bytes are not compared. `near`: up to how many bytes between patched sectors are passed on with them, if they were read too.
  * @typedef {{ base: number, carry?: boolean, withoutOld?: boolean, near?: number }} How
  */
 
-/** Largest piece of neighbouring sectors that goes out, in bytes. */
+/** The size in bytes from which joined bytes of adjacent sectors are passed on. */
 const JOINED_SIZE = 1 << 19;
-/** What `near` is if pieces are held; and if all are written at once: to read a slice again takes longer. */
+/** Values of `near`: if pieces are held, and if they are written at once, where reading a slice again takes longer. */
 export const NEAR_HELD = 1 << 14;
 export const NEAR_WRITTEN = 1 << 17;
 
-/** Pieces of which neighbouring bytes are joined. */
+/** Joins the bytes of adjacent pieces. */
 class JoinedPieces extends PieceCutter {
     /** @param {Take} take */
     constructor(take) {
@@ -34,7 +34,7 @@ class JoinedPieces extends PieceCutter {
 
     /**
      * @param {number} at
-     * @param {Uint8Array} bytes what stands there, after those that are not given yet. They are copied before anything is awaited.
+     * @param {Uint8Array} bytes the bytes there, which follow those not passed on yet. They are copied before anything is awaited.
      */
     async join(at, bytes) {
         if (this.bytes.size === 0) this.at = at;
@@ -42,7 +42,7 @@ class JoinedPieces extends PieceCutter {
         if (this.bytes.size >= JOINED_SIZE) await this.giveBytes();
     }
 
-    /** Gives the bytes, in whose place the next ones stand after that. */
+    /** Passes the joined bytes on. Their memory is then used for the next ones. */
     async giveBytes() {
         if (this.bytes.size > 0) await this.put(this.at, this.bytes.bytes());
         this.bytes.size = 0;
@@ -50,8 +50,8 @@ class JoinedPieces extends PieceCutter {
 }
 
 /**
- * The steps of a run of a script, each of which is done before the next one is asked for. The last one is END. If the bytes of a step
- * cannot be moved, whoever moves them throws, and the run is ended.
+ * Yields the steps of a run, of which the last one is END. The caller does each step before it requests the next one. If it cannot move the
+ * bytes of a step, it throws, and the run is ended.
  * @param {Calls} calls
  * @param {Uint8Array[]} script in pieces
  * @param {number} base
@@ -70,14 +70,14 @@ export function* stepsOf(calls, script, base, size, flags) {
 }
 
 /**
- * Makes a run of a script, and returns its status. The pieces of the patched image are given to `take` in order, as soon as no later patch
- * can meet them, and their bytes may be others when it has taken them; each line of the log to `log`, with its step.
+ * Runs a script, and returns its status. The pieces of the patched image are passed to `take` in order, as soon as no later patch can meet
+ * them. Their bytes may be overwritten once `take` is done. Each line of the log is passed to `log`, with its step.
  * @param {Calls} calls
  * @param {Reader} reader
  * @param {Uint8Array} script
  * @param {How} how
  * @param {(step: Step, line: Uint8Array) => void} log
- * @param {Take | null} take null if nobody wants the image
+ * @param {Take | null} take null if the image is not needed
  */
 export async function runScript(calls, reader, script, { base, carry = false, withoutOld = false, near = NEAR_HELD }, log, take) {
     const [ahead, out] = [new ReadAhead(reader), take && new JoinedPieces(take)];
@@ -103,8 +103,8 @@ export async function runScript(calls, reader, script, { base, carry = false, wi
 }
 
 /**
- * The line that refuses a script, or what is read of a run of it: on an image of unknown size the first step of a script without faults
- * logs nothing.
+ * The line that refuses a script, or the result of `read` for a run of it. On an image of unknown size, the first step of a script without
+ * faults does not log anything.
  * @template T
  * @param {Calls} calls
  * @param {Uint8Array[]} script in pieces

@@ -1,4 +1,4 @@
-// The patches of a script on an image, of which only the sectors that they meet are read.
+// Applies the patches of a script to an image, of which only the sectors that they meet are read.
 
 import { ByteList, PieceKeeper, pieceWithin } from '../bytes.js';
 import { RESULT, SECTOR_SIZE, STATUS } from '../module/index.js';
@@ -15,16 +15,16 @@ import { runScript } from './patch_run.js';
 /** @typedef {import('./long_script.js').Part} Part */
 
 /**
- * What became of a patch: its line, a RESULT, and the block and the user byte there that refuse it.
+ * The outcome of a patch: its line, a RESULT, and the block and the offset of the user byte that refuses it.
  * @typedef {{ number: number, result: number, block: number, offset: number }} Outcome
  */
 
 /**
- * What became of all patches: the status of the command, what it prints, and the outcomes in the order of application.
+ * The result of all patches: the status of the command, its output, and the outcomes in the order of application.
  * @typedef {{ status: number, text: Uint8Array, outcomes: Outcome[] }} Patched
  */
 
-/** The lines of runs, and what became of their patches. */
+/** The log lines of runs, and the outcomes of their patches. */
 class PatchLog {
     constructor() {
         this.text = new ByteList();
@@ -51,13 +51,13 @@ class PatchLog {
 }
 
 /**
- * Makes a run of a part of a long script on what the parts before it have left of the image: its pieces from a place on. Passes on what
- * no later part can meet, and returns the pieces after that; null if the run failed.
+ * Runs a part of a long script on the pieces that the parts before it have left of the image. Passes on the bytes that no later part can
+ * meet, and returns the pieces after them; null if the run failed.
  * @param {Calls} calls
  * @param {Reader} reader
  * @param {Part} part
  * @param {Piece[]} image
- * @param {number} end where the first block of the next part begins, be it in the image or not
+ * @param {number} end the place of the next part's first block, which may be outside the image
  * @param {{ how: How, log: PatchLog, take: Take }} where
  * @returns {Promise<Piece[] | null>}
  */
@@ -86,7 +86,7 @@ async function passPart(calls, reader, part, image, end, { how, log, take }) {
 }
 
 /**
- * The patches of a long script, by a run of each of its parts.
+ * Applies a long script by a run of each of its parts.
  * @param {Calls} calls
  * @param {Reader} reader
  * @param {Part[]} parts
@@ -110,13 +110,13 @@ async function passParts(calls, reader, parts, how, take) {
 }
 
 /**
- * What becomes of the patches of a script on an image. The pieces of the patched image are given to `take` in order, as soon as no later
- * patch can meet them. Their bytes may be others when it has taken them.
+ * Applies a script to an image, and returns the outcomes. The pieces of the patched image are passed to `take` in order, as soon as no
+ * later patch can meet them. Their bytes may be overwritten once `take` is done.
  * @param {Calls} calls
  * @param {Reader} reader
  * @param {ReadScript} script
  * @param {How} how
- * @param {Take | null} [take] null if nobody wants the image
+ * @param {Take | null} [take] null if the image is not needed
  * @returns {Promise<Patched>}
  */
 export async function passPatched(calls, reader, script, how, take = null) {
@@ -126,7 +126,7 @@ export async function passPatched(calls, reader, script, how, take = null) {
 }
 
 /**
- * What becomes of the patches of a script on an image, and the pieces of the patched image.
+ * Applies a script to an image, and returns the outcomes and the pieces of the patched image.
  * @param {Calls} calls
  * @param {Reader} reader
  * @param {ReadScript} script

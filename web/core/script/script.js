@@ -1,4 +1,4 @@
-// A script, whose bytes come in pieces.
+// Reads a script whose bytes arrive in pieces.
 
 import { joinedBytes } from '../bytes.js';
 import { MOST_SCRIPT_BYTES } from '../module/index.js';
@@ -12,7 +12,7 @@ import { faultOr } from './patch_run.js';
 /** @typedef {Iterable<Uint8Array> | AsyncIterable<Uint8Array>} Pieces */
 /** @typedef {{ bases: BaseSaid[] } & ({ text: Uint8Array } | { parts: Part[] })} ReadScript a script without faults; a long one in parts */
 
-/** Why a script is not read: the program's line for it. */
+/** The refusal of a script, with the program's line for it. */
 export class Refusal {
     /**
      * @param {Uint8Array} text
@@ -25,7 +25,7 @@ export class Refusal {
 }
 
 /**
- * The bytes of a script; of one that has more than `most`, no more than show it.
+ * The bytes of a script. If it has more than `most`, only as many as are needed to show this.
  * @param {Pieces} pieces
  * @param {number} most
  */
@@ -43,7 +43,7 @@ async function wholeText(pieces, most) {
 /**
  * @param {Calls} calls
  * @param {Pieces} pieces
- * @param {boolean} long whether the script may have more bytes and patches than the program takes
+ * @param {boolean} long whether the script may have more bytes and patches than the program accepts
  * @returns {Promise<ReadScript | Refusal>}
  */
 export async function readScript(calls, pieces, long = false) {

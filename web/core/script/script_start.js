@@ -1,4 +1,4 @@
-// Whether a text is a script, or meant as one, by the first of its lines that says something.
+// Recognises a script, or a text that is meant as one, by its first line that is neither blank nor a comment.
 
 import { CONTENT } from '../module/index.js';
 import { NEWEST_VERSION, VERSIONS } from './language.js';
@@ -7,7 +7,7 @@ import { wordsOf } from './line_words.js';
 /** @typedef {import('../module/calls.js').Calls} Calls */
 
 /**
- * The first line of a text that is neither blank nor a comment, and what it has for a script of a version; null if there is none.
+ * The first line of a text that is neither blank nor a comment, and its CONTENT in a script of a version; null if there is none.
  * @param {Calls} calls
  * @param {Uint8Array} text
  * @param {number} version
@@ -24,7 +24,7 @@ function firstLineSaying(calls, text, version) {
 }
 
 /**
- * Whether a text is a script: that line is a head line.
+ * Whether a text is a script: its first line that is neither blank nor a comment is a head line.
  * @param {Calls} calls
  * @param {Uint8Array} text
  */
@@ -34,7 +34,8 @@ export function isScript(calls, text) {
 }
 
 /**
- * Whether a text is meant as a script: that line has a word of scripts, or cdpatch in capitals too, and another one.
+ * Whether a text is meant as a script: its first line that is neither blank nor a comment has several words. The first one is a word of
+ * scripts, or cdpatch in any case.
  * @param {Calls} calls
  * @param {Uint8Array} text
  */

@@ -1,4 +1,4 @@
-// A script that this core has written, in pieces, and what it asks of who reads it.
+// Builds a script from lines that this core has written, in pieces, and determines what it requires of its reader.
 
 import { joinedBytes } from '../bytes.js';
 import { Fault } from '../faults.js';
@@ -11,16 +11,16 @@ import { lineText } from './line_list.js';
 /** @typedef {import('./sector_lines.js').Left} Left */
 /** @typedef {import('./sector_lines.js').Lines} Lines */
 /**
- * A script: its bytes in pieces, how many they are, how many patches it has, whether it has more of either than cdpatch takes, and
- * whether it needs `--carry`.
+ * A script: its bytes in pieces, the number of bytes and of patches, whether it has more of either than cdpatch accepts, and whether it
+ * needs `--carry`.
  * @typedef {{ pieces: Uint8Array[], size: number, patches: number, long: boolean, carry: boolean }} Script
  */
 
-/** Largest script that is held in memory, in bytes. */
+/** The size in bytes of the largest script that is held in memory. */
 const MOST_WRITTEN = 1 << 30;
 
 /**
- * Whether a script may have a number of patches, by the module.
+ * Whether a number of patches is too many for a script, according to the module.
  * @param {Calls} calls
  * @param {number} patches
  */
@@ -32,7 +32,7 @@ function tooManyPatches(calls, patches) {
 }
 
 /**
- * The lines of a script that was made, after its head and the comment that says its base.
+ * The lines of a generated script, without its head line and the comment that names its base.
  * @param {Script} script
  */
 export function linesMade({ pieces, patches }) {
@@ -40,7 +40,7 @@ export function linesMade({ pieces, patches }) {
     return new TextDecoder().decode(joinedBytes(pieces.slice(1))).trimEnd().split('\n').filter(line => !line.startsWith('#'));
 }
 
-/** The parts of a script, in order, and what they leave. */
+/** The parts of a script, in order, and the blocks that they leave out. */
 export class ScriptParts {
     constructor() {
         /** @type {Uint8Array[]} */
@@ -68,7 +68,7 @@ export class ScriptParts {
     }
 
     /**
-     * Lines whose text goes elsewhere at once, and is not held.
+     * Counts lines whose text is written elsewhere at once, and not held.
      * @param {Lines} lines
      */
     count(lines) {

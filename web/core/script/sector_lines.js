@@ -1,4 +1,4 @@
-// Lines of a script that make sectors others. They are applied by the calls before they are given out.
+// Generates the lines of a script that change sectors. They are applied by the calls before they are returned.
 
 import { sameBytes } from '../bytes.js';
 import { Fault } from '../faults.js';
@@ -11,36 +11,36 @@ import { stepsOf } from './patch_run.js';
 /** @typedef {import('../module/calls.js').Calls} Calls */
 
 /**
- * Sectors, one after the other, in the order of their blocks: what they are, and what they have to become.
+ * Sectors, one after the other, in the order of their blocks: as they are (`old`), and as they have to become (`fresh`).
  * @typedef {{ blocks: number[], old: Uint8Array, fresh: Uint8Array }} Pairs
  */
 /**
- * Why no line makes the sectors of neighbouring blocks what they have to become: they would be damaged, their kinds are not Mode 1
- * (`kinds`, before and after), or their address is none that a script can name.
+ * Adjacent blocks whose sectors no line can change as required, and the reason: they would be damaged, their kinds are not Mode 1 (`kinds`,
+ * before and after), or a script cannot express their address.
  * @typedef {{ first: number, last: number, why: 'damaged' | 'kind' | 'address', kinds: number[] }} Left
  */
 /**
- * Lines as bytes, how many patches they are, the version of the language and whether they need `--carry`, and what they leave.
+ * Lines as bytes, the number of their patches, the version of the language, whether they need `--carry`, and the blocks they leave out.
  * @typedef {{ text: Uint8Array, patches: number, version: number, carry: boolean, left: Left[] }} Lines
  */
 /** @typedef {Pick<Lines, 'text' | 'version'>} Text */
 /**
- * With `carry` the lines are for a patched image whose damage was carried. With `heal` a sector that has to become a damaged one becomes
- * it but for its damage, and is named too.
+ * With `carry` the lines are for a patched image whose damage was carried. With `heal` a sector that has to become damaged becomes the same
+ * without the damage, and is listed in `left` too.
  * @typedef {{ carry?: boolean, heal?: boolean }} How
  */
 
-/** Sectors whose lines are tried at a time: a run has at most MOST_PATCHES. */
+/** How many sectors have their lines tried at a time: a run has at most MOST_PATCHES. */
 const TRY_SIZE = 256;
 
-/** Where lines are written, which are copied when all are there: to grow a room takes longer than to write them. */
+/** Reused memory in which lines are written before they are copied: to grow memory takes longer than to write the lines. */
 let linesRoom = new Uint8Array(1 << 12);
 
-/** What stands in a block that is not looked at. */
+/** The content of a block that is not examined. */
 const NO_DATA = new Uint8Array(SECTOR_SIZE);
 
 /**
- * Whether an address is one that a script can name, by the module.
+ * Whether a script can express an address, according to the module.
  * @param {Calls} calls
  * @param {Uint8Array} address
  */
@@ -55,7 +55,7 @@ function canBeNamed(calls, address) {
 export const linesJob = (calls, [old, fresh], _, { blocks, how }) => linesBetween(calls, { blocks, old, fresh }, how);
 
 /**
- * The lines that make sectors others, applied before they are given out; and what no line can do.
+ * Generates the lines that change sectors, which are applied before they are returned, and lists the blocks that no line can change.
  * @param {Calls} calls
  * @param {Pairs} pairs
  * @param {How} how
@@ -73,8 +73,8 @@ export function linesBetween(calls, { blocks, old, fresh }, how = {}) {
 }
 
 /**
- * Adds lines for what differs in sectors. Returns whether they make these what they have to become, and adds none if they do not. If they
- * do, the sectors need no survey.
+ * Adds lines for the differences of sectors. Returns whether these lines change the sectors as required, and adds none if they do not. If
+ * they do, the sectors need no survey.
  * @param {Calls} calls
  * @param {LineList} lines
  * @param {Pairs} pairs
@@ -89,7 +89,7 @@ function addPlainly(calls, lines, pairs) {
 }
 
 /**
- * Adds the lines for sectors of which some may be damaged, or of no kind that a line changes, and what no line can do.
+ * Adds the lines for sectors of which some may be damaged or not Mode 1, and the blocks that no line can change.
  * @param {Calls} calls
  * @param {LineList} lines
  * @param {Pairs} pairs
@@ -97,7 +97,7 @@ function addPlainly(calls, lines, pairs) {
  */
 function addJudged(calls, lines, { blocks, old, fresh }, { carry = false, heal = false }) {
     const states = [old, fresh].map(sectors => calls.survey(sectors, 0));
-    const due = old.slice(); // what the sectors become: as they are if they are left
+    const due = old.slice(); // what the sectors become, unchanged if they are left out
     const { size } = lines;
     blocks.forEach((block, i) => {
         const [from, to] = [old, fresh].map(bytes => sectorOf(bytes, i));
@@ -122,7 +122,7 @@ function addJudged(calls, lines, { blocks, old, fresh }, { carry = false, heal =
 }
 
 /**
- * Whether patches that carry damage make a sector another.
+ * Whether patches that carry damage change a sector as required.
  * @param {Calls} calls
  * @param {number} block
  * @param {Uint8Array} old
@@ -135,8 +135,8 @@ function isCarried(calls, block, old, fresh) {
 }
 
 /**
- * Which sector lines do not make what it has to become, by a run of them; -1 if there is none. The blocks between those of the pairs are no
- * data, which no patch changes.
+ * Runs lines, and returns the index of a sector that they do not change as required, -1 if there is none. The blocks between those of the
+ * pairs are not data, and no patch changes them.
  * @param {Calls} calls
  * @param {Text} lines
  * @param {Pairs} pairs
@@ -160,7 +160,7 @@ function firstWrong(calls, { version, text }, { blocks, old, fresh }, carry) {
 }
 
 /**
- * Throws a Fault if lines do not make sectors what they have to become: a defect of this core. Nothing of them is given out then.
+ * Throws a Fault if lines do not change sectors as required, which is a defect of this core. None of them are returned then.
  * @param {Calls} calls
  * @param {Text} lines
  * @param {Pairs} pairs

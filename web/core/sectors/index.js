@@ -1,4 +1,4 @@
-// Sectors of an image: their layout, their runs, and what a survey finds in them.
+// Sectors of an image: their layout, their runs, and their surveys.
 
 export { addToRuns, blocksIn, commonRuns, firstBlocks, joinedRuns, runOf } from './runs.js';
 export { FIELDS, HEADER_OFFSET, USER_OFFSET, addressIn, addressText, asWords, blockAt, differingSectors } from './sector.js';

@@ -1,9 +1,9 @@
-// Runs of neighbouring blocks of which the same is true.
+// Runs of adjacent blocks with the same properties.
 
 /** @typedef {{ first: number, last: number }} Run */
 
 /**
- * Adds a run to others that are before it. It lengthens the last one if it follows that and differs in nothing else.
+ * Appends a run to runs of earlier blocks. If it is adjacent to the last run, and equal in all other members, that run is extended.
  * @template {Run} R
  * @param {R[]} runs
  * @param {R} run
@@ -15,7 +15,7 @@ export function addToRuns(runs, run) {
 }
 
 /**
- * Whether two runs differ in nothing but their blocks.
+ * Whether two runs are equal in all members except their blocks.
  * @param {Record<string, any>} before
  * @param {Record<string, any>} run with the same members
  */
@@ -38,7 +38,7 @@ export function runOf(block) {
 /**
  * The first blocks of runs.
  * @param {Run[]} runs
- * @param {number} most how many
+ * @param {number} most how many blocks are listed at most
  */
 export function firstBlocks(runs, most) {
     const blocks = [];
@@ -49,7 +49,7 @@ export function firstBlocks(runs, most) {
 }
 
 /**
- * How many blocks runs have.
+ * The number of blocks in runs.
  * @param {Run[]} runs
  */
 export function blocksIn(runs) {
@@ -57,10 +57,10 @@ export function blocksIn(runs) {
 }
 
 /**
- * The blocks that two lists of runs have in common, as the runs of the first list have them.
+ * The blocks that two lists of runs have in common, with the other members of the first list's runs.
  * @template {Run} R
- * @param {R[]} runs in order, none over another
- * @param {Run[]} others in order, none over another
+ * @param {R[]} runs in order, without overlaps
+ * @param {Run[]} others in order, without overlaps
  */
 export function commonRuns(runs, others) {
     /** @type {R[]} */
@@ -76,7 +76,7 @@ export function commonRuns(runs, others) {
 }
 
 /**
- * The blocks of runs in the longest runs that there are, in order.
+ * Sorts runs, and joins those that overlap or are adjacent.
  * @param {Run[]} runs
  */
 export function joinedRuns(runs) {

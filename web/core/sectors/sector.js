@@ -1,4 +1,4 @@
-// The layout of a sector and of an image (ECMA-130), and addresses by the calls.
+// The layout of sectors and images (ECMA-130), and their addresses.
 
 import { joinedBytes, sameBytes } from '../bytes.js';
 import { newBytes } from '../faults.js';
@@ -7,14 +7,14 @@ import { MOST_SECTORS, SECTOR_SIZE, USER_SIZE, sectorCount } from '../module/ind
 /** @typedef {import('../module/calls.js').Calls} Calls */
 /** @typedef {{ block: number, offset: number }} Place a user byte */
 
-/** Where the fields of a sector begin, in their order. */
+/** The offsets of the fields of a sector, in order. */
 export const FIELDS = Object.freeze({ sync: 0, header: 12, user: 16, edc: 2064, zeros: 2068, parity: 2076 });
 export const HEADER_OFFSET = FIELDS.header;
 export const USER_OFFSET = FIELDS.user;
 const WORDS = SECTOR_SIZE / 4;
 
 /**
- * Whether an image has more bytes than cdpatch takes.
+ * Whether an image has more bytes than cdpatch accepts.
  * @param {number} size of the image in bytes
  */
 export function imageTooLong(size) {
@@ -31,9 +31,9 @@ export function sectorOf(bytes, i) {
 }
 
 /**
- * Some sectors of a range, one after the other.
+ * Copies selected sectors of a range, one after the other.
  * @param {Uint8Array} bytes
- * @param {number[]} places
+ * @param {number[]} places the indices of the sectors
  */
 export function sectorsAt(bytes, places) {
     return joinedBytes(places.map(place => sectorOf(bytes, place)));
@@ -50,7 +50,7 @@ export function userOf(bytes, i) {
 }
 
 /**
- * Bytes as numbers of 32 bits, which compare four times as fast.
+ * Converts bytes to 32-bit words, which compare four times as fast. Only unaligned bytes are copied.
  * @param {Uint8Array} bytes
  */
 export function asWords(bytes) {
@@ -67,7 +67,7 @@ export function hasZeroByte(word) {
 }
 
 /**
- * Whether a sector's words are the same in two images, by four at a time.
+ * Whether a sector's words are equal in two images. Compares four words at a time.
  * @param {Int32Array} a
  * @param {Int32Array} b
  * @param {number} from
@@ -81,7 +81,7 @@ function sameWords(a, b, from) {
 }
 
 /**
- * Whether the i-th sector has nothing but one byte over and over, by four words at a time.
+ * Whether the i-th sector consists of one repeated byte. Compares four words at a time.
  * @param {Int32Array} words of sectors
  * @param {number} i
  */
@@ -95,7 +95,7 @@ export function isFilled(words, i) {
 }
 
 /**
- * Which sectors of some bytes are others in other bytes of the same length.
+ * The indices of the sectors that differ between two buffers of the same length.
  * @param {Uint8Array} old
  * @param {Uint8Array} fresh
  */
@@ -109,20 +109,20 @@ export function differingSectors(old, fresh) {
 }
 
 /**
- * The user data of whole sectors in one piece.
+ * Concatenates the user data of whole sectors.
  * @param {Uint8Array} bytes
- * @param {Uint8Array} [user] where they go, of just as many bytes
+ * @param {Uint8Array} [user] memory for the result, of exactly its size
  */
 export function joinedUser(bytes, user = newBytes(sectorCount(bytes.length) * USER_SIZE)) {
     for (let i = 0; i < sectorCount(bytes.length); i++) user.set(userOf(bytes, i), i * USER_SIZE);
     return user;
 }
 
-/** The user data of a range stand here until the next one: fresh memory costs more than the copy. */
+/** Memory for the user data of a range. It is reused, because an allocation costs more than the copy. */
 let userRoom = new Uint8Array(0);
 
 /**
- * The user data of whole sectors in one piece, which stay until others are asked for.
+ * Concatenates the user data of whole sectors in reused memory. The result is valid until the next call.
  * @param {Uint8Array} bytes
  */
 export function userOfRange(bytes) {
@@ -153,7 +153,7 @@ export function sameAddress(a, b, i) {
 }
 
 /**
- * An address as a script writes it, as 00:02:00.
+ * Formats an address as scripts do, for example 00:02:00.
  * @param {Uint8Array} address three bytes in BCD
  */
 export function addressText(address) {

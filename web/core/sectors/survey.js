@@ -1,4 +1,4 @@
-// What is found in sectors: their records, and the reports of `list` and `audit`.
+// Surveys of sectors: their records, and the reports of `list` and `audit`.
 
 import { ByteList, joinedBytes } from '../bytes.js';
 import { RECORD, RECORD_SIZE, SECTOR_KIND, SECTOR_SIZE, STATUS, sectorCount } from '../module/index.js';
@@ -8,26 +8,26 @@ import { asWords, isFilled } from './sector.js';
 /** @typedef {import('../module/calls.js').Calls} Calls */
 
 /** @typedef {import('./runs.js').Run} Run */
-/** @typedef {Run & { byte: number }} FilledRun sectors that have nothing but one byte over and over */
+/** @typedef {Run & { byte: number }} FilledRun sectors that consist of one repeated byte */
 
 /**
- * The records of neighbouring sectors, RECORD_SIZE bytes each, from a block on.
+ * The records of adjacent sectors, RECORD_SIZE bytes each. `block` is the block of the first one.
  * @typedef {{ block: number, records: Uint8Array }} Survey
  */
 
 /** @typedef {Survey & { filled: FilledRun[] }} RangeSurvey with the runs that one byte fills */
 
 /**
- * What a command prints, and its status.
+ * The output of a command, and its status.
  * @typedef {{ status: number, text: Uint8Array }} Report
  */
 
 /**
- * The survey of a range of sectors, and those of them that one byte fills. A job for a worker.
+ * Surveys a range of sectors, and finds those that one byte fills. A job for a worker.
  * @param {Calls} calls
  * @param {Uint8Array} bytes
  * @param {number} block
- * @param {{ shift?: number }} args how many blocks later those are whose addresses the sectors have
+ * @param {{ shift?: number }} args how many blocks later the sectors are by their addresses
  * @returns {RangeSurvey}
  */
 export function surveyRange(calls, bytes, block, { shift = 0 } = {}) {
@@ -36,7 +36,7 @@ export function surveyRange(calls, bytes, block, { shift = 0 } = {}) {
 }
 
 /**
- * The records of sectors from a block on that may be below 0. A block before block 0 has no address, and so no wrong one.
+ * The records of sectors whose first block may be below 0. A block below 0 has no address, so it cannot have a wrong one.
  * @param {Calls} calls
  * @param {Uint8Array} bytes
  * @param {number} block
@@ -52,7 +52,7 @@ function shiftedSurvey(calls, bytes, block) {
  * The runs of sectors that one byte fills.
  * @param {Uint8Array} bytes
  * @param {Uint8Array} records of the same sectors
- * @param {number} block that of the first
+ * @param {number} block the block of the first sector
  */
 function filledRuns(bytes, records, block) {
     /** @type {FilledRun[]} */
@@ -60,7 +60,7 @@ function filledRuns(bytes, records, block) {
     const words = asWords(bytes);
     for (let i = 0; i < sectorCount(bytes.length); i++) {
         if (records[i * RECORD_SIZE + RECORD.KIND] !== SECTOR_KIND.NOSYNC || !isFilled(words, i)) continue;
-        // Most sectors of silence follow another one, and to make a run of each would cost more than all else.
+        // Most sectors of silence follow another one. Creating a run for each would cost more than everything else.
         const [before, byte] = [filled[filled.length - 1], bytes[i * SECTOR_SIZE]];
         if (before && before.last === block + i - 1 && before.byte === byte) before.last = block + i;
         else filled.push({ ...runOf(block + i), byte });
@@ -69,7 +69,7 @@ function filledRuns(bytes, records, block) {
 }
 
 /**
- * Whether the record at a place is that of a damaged Mode 1 sector.
+ * Whether the record at a place belongs to a damaged Mode 1 sector.
  * @param {Uint8Array} records
  * @param {number} at
  */
@@ -78,7 +78,7 @@ export function isDamaged(records, at) {
 }
 
 /**
- * Whether it is that of a consistent sector.
+ * Whether the record at a place belongs to a consistent sector.
  * @param {Uint8Array} records
  * @param {number} at
  */
@@ -87,8 +87,8 @@ export function isSound(records, at) {
 }
 
 /**
- * How many sectors there are; how many are Mode 1; and how many of those are damaged, have another address than their block's, or are
- * `wrong` in one way or both.
+ * Counts the sectors of a survey: all of them, those of Mode 1, and of these the damaged ones, those with a wrong address (`elsewhere`),
+ * and the `wrong` ones, which are damaged, or have a wrong address, or both.
  * @param {Survey} survey
  */
 export function surveyCounts({ records }) {
@@ -104,7 +104,7 @@ export function surveyCounts({ records }) {
 }
 
 /**
- * The longest runs of neighbours of one kind, with their first and their last block.
+ * Yields the longest runs of adjacent sectors of one kind, with their first and last blocks.
  * @param {Survey} survey
  */
 export function* kindRuns({ block, records }) {
@@ -118,7 +118,7 @@ export function* kindRuns({ block, records }) {
 }
 
 /**
- * What `list` prints.
+ * The report of `list`.
  * @param {Calls} calls
  * @param {Survey} survey of the whole image
  * @param {number} tail how many bytes follow the last sector
@@ -132,7 +132,7 @@ export function listText(calls, survey, tail) {
 }
 
 /**
- * What `audit` prints.
+ * The report of `audit`.
  * @param {Calls} calls
  * @param {Survey} survey of the whole image
  * @param {number} tail how many bytes follow the last sector
@@ -152,7 +152,7 @@ export function auditText(calls, survey, tail) {
 }
 
 /**
- * What `audit` prints of a sector after its block, '' if that has no line.
+ * The finding that `audit` prints after the block of a sector; '' if the sector has none.
  * @param {Calls} calls
  * @param {number} block
  * @param {Uint8Array} record

@@ -1,4 +1,4 @@
-// Applies a script to an image, or tries what would become of its patches.
+// Applies a script to an image, or only tries its patches.
 
 import { applyPatches, passPatched } from '../script/index.js';
 import { assertBase } from './script_for.js';
@@ -14,14 +14,14 @@ import { watchedSectors } from './watched.js';
 /** @typedef {import('./engine.js').Watch} Watch */
 
 /**
- * What becomes of the patches of a script on an image. The pieces of the patched image are given to `take` in order, as soon as no later
- * patch can meet them; their bytes may change after that. Without `take` the patches are only tried. Throws a Fault, `script/other-base` or
- * `cancelled`, and what the reader throws.
+ * Applies a script to an image, and returns the outcomes. The pieces of the patched image are passed to `take` in order, as soon as no
+ * later patch can meet them. Their bytes may change after that. Without `take` the patches are only tried. Throws a Fault,
+ * `script/other-base` or `cancelled`, and what the reader throws.
  * @param {Pick<Engine, 'calls'>} engine
  * @param {Pick<DiscImage, 'reader' | 'base'>} image
  * @param {ReadScript} script
  * @param {Omit<How, 'base'> & { take?: Take | null }} [options]
- * @param {Watch} [watch] is told which sector is read
+ * @param {Watch} [watch] receives the number of the sector that is read
  * @returns {Promise<Patched>}
  */
 export async function applyScript({ calls }, { reader, base }, script, options = {}, watch = {}) {
@@ -31,7 +31,7 @@ export async function applyScript({ calls }, { reader, base }, script, options =
 }
 
 /**
- * As applyScript, with the pieces of the patched image, which are kept in memory.
+ * Like applyScript, but returns the pieces of the patched image, which are kept in memory.
  * @param {Pick<Engine, 'calls'>} engine
  * @param {Pick<DiscImage, 'reader' | 'base'>} image
  * @param {ReadScript} script

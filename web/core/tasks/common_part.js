@@ -1,4 +1,4 @@
-// Which part of a disc two images have both, and whether one of them is shifted.
+// Determines which part of a disc two images have in common, and whether one of them is shifted.
 
 import { readBytes } from '../bytes.js';
 import { SECTOR_SIZE } from '../module/index.js';
@@ -8,23 +8,23 @@ import { addressIn, blockAt, blocksIn } from '../sectors/index.js';
 /** @typedef {import('../disc/disc.js').DiscImage} DiscImage */
 /** @typedef {import('../sectors/runs.js').Run} Run */
 /**
- * The sectors of an image that another one has too, from the first one up to the end, and how many sectors later the other one begins.
+ * The sectors of an image that another image also has, from `from` up to `to`, and how many sectors later the other image begins.
  * @typedef {{ from: number, to: number, later: number }} CommonPart
  */
 
-/** What two images both have, what only the first one has, and what only the other one has. */
+/** The blocks that two images both have, that only the first one has, and that only the other one has. */
 /** @typedef {{ common: Run[], missing: Run[], beyond: Run[] }} Ranges */
 /**
- * By how many blocks an image is shifted, below 0 if sectors of it are too many, and from which block on; and whether it is the other of
- * two images.
+ * By how many blocks an image is shifted, below 0 if it has extra sectors; from which block on; and whether it is the second of two images
+ * (`isOther`).
  * @typedef {{ by: number, first: number, isOther: boolean }} Shift
  */
 
-/** Of so many sectors the addresses are read to find out whether an image is shifted. */
+/** The most sectors that are sampled to find out whether an image is shifted. */
 const MOST_SHIFTS_READ = 64;
 
 /**
- * The block of an image's first sector, as its addresses say, or else its cue sheet. It may be below 0.
+ * The block of an image's first sector according to its addresses, or else its base. It may be below 0.
  * @param {DiscImage} image
  */
 export function firstBlock({ addressed, base }) {
@@ -32,8 +32,8 @@ export function firstBlock({ addressed, base }) {
 }
 
 /**
- * How many blocks later those are whose addresses the sectors of an image have: blocks of an image that begins before block 0 count from
- * 0 all the same.
+ * How many blocks later the sectors of an image are by their addresses. It is below 0 for an image that begins before block 0, whose blocks
+ * nevertheless count from 0.
  * @param {DiscImage} image
  */
 export function addressShift({ base, addressed }) {
@@ -41,7 +41,7 @@ export function addressShift({ base, addressed }) {
 }
 
 /**
- * Which sectors of an image another one has too: those of the same blocks.
+ * The sectors of an image that another image also has, which are those of the same blocks.
  * @param {DiscImage} old
  * @param {DiscImage} other
  * @returns {CommonPart}
@@ -53,7 +53,7 @@ export function commonPart(old, other) {
 }
 
 /**
- * Which blocks two images have, as the first one counts them.
+ * The blocks of two images, as the first one counts them.
  * @param {DiscImage} old
  * @param {DiscImage} other
  * @returns {Ranges}
@@ -71,7 +71,7 @@ export function rangesOf(old, other) {
 }
 
 /**
- * Whether two images have the same blocks, and as many bytes.
+ * Whether two images have the same blocks and the same size.
  * @param {DiscImage} old
  * @param {DiscImage} other
  */
@@ -80,8 +80,7 @@ export function isSameRange(old, other) {
 }
 
 /**
- * Which of two images is shifted, whose sound sectors differ, by the addresses of most of some of these sectors. Null if they do not say
- * so.
+ * Determines which of two images is shifted, from the addresses of sampled sound sectors that differ. Null if these do not show a shift.
  * @param {Calls} calls
  * @param {DiscImage} old
  * @param {DiscImage} other
@@ -98,11 +97,11 @@ export async function shiftOf(calls, old, other, differing) {
 }
 
 /**
- * By how many blocks the addresses of most of some sectors of an image are later than its first block says, and the first block of those.
+ * By how many blocks the addresses of most sampled sectors are later than the image's first block implies, and the first of their blocks.
  * @param {Calls} calls
  * @param {DiscImage} image
  * @param {number[]} blocks
- * @param {number} before how many blocks earlier they are on the disc: an image that begins before block 0 is counted from there
+ * @param {number} before is added to a block to get its number on the disc: it is below 0 if the image begins before block 0
  * @returns {Promise<Omit<Shift, 'isOther'> | null>}
  */
 async function shiftIn(calls, image, blocks, before) {
@@ -125,7 +124,7 @@ async function shiftIn(calls, image, blocks, before) {
 }
 
 /**
- * Some blocks of runs: the first one, and others at equal distances.
+ * Samples blocks of runs: the first one, and others at equal distances.
  * @param {Run[]} runs
  */
 function someBlocks(runs) {

@@ -1,4 +1,4 @@
-// The script that leads from one image to another.
+// Compares two images, and creates the script that turns one into the other.
 
 import { readBytes, sameBytes } from '../bytes.js';
 import { RECORD, RECORD_SIZE, SECTOR_KIND, SECTOR_SIZE, sectorCount } from '../module/index.js';
@@ -14,8 +14,8 @@ import { FIELDS, differingSectors, isSound, sectorOf, sectorsAt } from '../secto
 /** @typedef {import('./engine.js').Engine} Engine */
 /** @typedef {import('./opened.js').OpenedTrack} OpenedTrack */
 /**
- * What comparing gives: the script, null if it would not give the other image; what no script can say; whether the bytes after the last
- * sector differ.
+ * The result of a comparison: the script, null if it would not produce the other image; the blocks that a script cannot express; and
+ * whether the bytes after the last sector differ.
  * @typedef {{ script: Script | null, left: Left[], tail: boolean }} Comparison
  */
 /**
@@ -24,15 +24,15 @@ import { FIELDS, differingSectors, isSound, sectorOf, sectorsAt } from '../secto
  */
 
 /**
- * Of each sector that differs: its block; in how many bytes of each field, by FIELDS; and what the second one's is.
+ * For each sector that differs: its block; the number of differing bytes in each of the FIELDS; and the SECOND_STATE of the second sector.
  * @typedef {{ blocks: Uint32Array, fields: Uint16Array, states: Uint8Array }} Differing
  */
 
-/** Sectors per range: what is written of them may be four times as much. */
+/** Sectors per range. Their lines may have four times as many bytes. */
 const COMPARED_STEP = 256;
 
 /**
- * The lines that lead from one range of sectors to another. A job for a worker.
+ * The lines that turn one range of sectors into another. A job for a worker.
  * @param {Calls} calls
  * @param {Uint8Array} old
  * @param {Uint8Array} fresh
@@ -47,14 +47,15 @@ export function diffRange(calls, old, fresh, first, how) {
 }
 
 /**
- * The script that leads from the image of a track to another one of as many bytes. There is none if a block is left that no script can
- * say, but damaged ones of the other may be left out, or with `partial` all that are left. Throws what the readers throw, and a Fault,
- * `cancelled`.
+ * Creates the script that turns the image of a track into another one of the same size. It is null if a script cannot express all
+ * differences. With `skipDamaged` it may leave out blocks that are damaged in the other image, and with `partial` everything that it
+ * cannot express. Throws what the readers throw, and a Fault, `cancelled`.
  * @param {Engine} engine
  * @param {Pick<OpenedTrack, 'image'>} opened
  * @param {Reader} fresh
- * @param {{ skipDamaged?: boolean, partial?: boolean, take?: (text: Uint8Array) => Promise<void> }} [options] with `take` the text is given
- *     to it as it comes, before it is known whether there is a script, and of the script only the first line is left to be written over
+ * @param {{ skipDamaged?: boolean, partial?: boolean, take?: (text: Uint8Array) => Promise<void> }} [options] `take` receives the text as
+ *     it is generated, before it is known whether there is a script. The returned script then has only the start, which overwrites the
+ *     start of the text
  * @param {Sharing} [watch]
  * @returns {Promise<Comparison>}
  */
@@ -74,7 +75,7 @@ export async function compareTrack({ calls, crew }, { image }, fresh, options = 
 }
 
 /**
- * Finds the sectors in which the image of a track and another one of as many bytes differ. They are given to `take` in order.
+ * Finds the sectors in which the image of a track and another one of the same size differ. They are passed to `take` in order.
  * @param {Pick<Engine, 'crew'>} engine
  * @param {Pick<OpenedTrack, 'image'>} opened
  * @param {Reader} fresh
@@ -93,7 +94,7 @@ export async function findDifferences({ crew }, { image }, fresh, take, watch) {
 }
 
 /**
- * In how many sectors only the codes differ, and not the address or the data.
+ * Counts the sectors in which only the codes differ, and not the address or the data.
  * @param {Differing} differing
  */
 function onlyCodesIn({ blocks, fields }) {
@@ -114,12 +115,12 @@ export async function tailsDiffer(old, fresh) {
 }
 
 export const FIELD_COUNT = Object.keys(FIELDS).length;
-/** The place of the EDC among the fields, after which there are only codes. */
+/** The index of the EDC among the fields, after which there are only codes. */
 const CODES_FROM = Object.keys(FIELDS).indexOf('edc');
 export const SECOND_STATE = Object.freeze({ SOUND: 0, DAMAGED: 1, NOT_MODE1: 2 });
 
 /**
- * Which sectors differ, and in what. A job for a worker.
+ * Finds the sectors that differ, and how they differ. A job for a worker.
  * @param {Calls} calls
  * @param {Uint8Array} old
  * @param {Uint8Array} fresh
@@ -138,7 +139,7 @@ export function differRange(calls, old, fresh, first) {
 }
 
 /**
- * In how many bytes of each field two sectors differ.
+ * Counts the differing bytes of two sectors in each field.
  * @param {Uint8Array} old
  * @param {Uint8Array} fresh
  */

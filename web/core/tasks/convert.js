@@ -1,4 +1,4 @@
-// The user data of sectors: an ISO image of a track, and the bytes of a file.
+// Extracts the user data of sectors, for an ISO image of a track or for the bytes of a file.
 
 import { sliceOf } from '../bytes.js';
 import { SECTOR_KIND, SECTOR_SIZE, USER_SIZE, sectorCount } from '../module/index.js';
@@ -17,11 +17,11 @@ import { fileOfTrack } from './opened.js';
 /** @typedef {{ user: Uint8Array, others: KindRun[] }} UserRange the user data of a range, and the sectors that are not of Mode 1 */
 
 /**
- * The user data of sectors, which is at the same place in each, whatever its kind; and the runs of those that are not of Mode 1, in
- * which other bytes may stand there.
+ * The user data of sectors, read from the same place in each, whatever its kind; and the runs of sectors that are not Mode 1, which may
+ * have other bytes at that place.
  * @param {Calls} calls
  * @param {Uint8Array} bytes of whole raw sectors
- * @param {number} block that of the first
+ * @param {number} block the block of the first sector
  * @returns {UserRange}
  */
 export function userRange(calls, bytes, block) {
@@ -35,10 +35,10 @@ export function userRange(calls, bytes, block) {
 }
 
 /**
- * Gives the user data of sectors to `take`, in order. Returns the runs of sectors that are not of Mode 1.
+ * Passes the user data of sectors to `take`, in order. Returns the runs of sectors that are not Mode 1.
  * @param {Sharer} crew
  * @param {Reader} reader of the sectors
- * @param {number} size how many bytes are given at most
+ * @param {number} size how many bytes are passed at most
  * @param {Sharing} how
  * @param {TakeBytes} take
  */
@@ -56,7 +56,7 @@ export async function passUser(crew, reader, size, how, take) {
 }
 
 /**
- * Extracts a file of a track: gives its bytes to `take`, in order. Returns the runs of its sectors that are not of Mode 1. Throws what
+ * Extracts a file of a track, and passes its bytes to `take`, in order. Returns the runs of its sectors that are not Mode 1. Throws what
  * fileOfTrack and the reader throw, and a Fault, `cancelled`.
  * @param {Pick<Engine, 'crew'>} engine
  * @param {Pick<OpenedTrack, 'part' | 'contents'>} opened

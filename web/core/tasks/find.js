@@ -13,16 +13,16 @@ import { replaceBytes } from './replace_bytes.js';
 /** @typedef {import('./engine.js').Engine} Engine */
 /** @typedef {import('./engine.js').Watch} Watch */
 /** @typedef {import('./opened.js').OpenedTrack} OpenedTrack */
-/** @typedef {{ text: string, encodings: Encoding[], loose?: boolean }} WantedText `loose` as `unitsAlike` takes it */
-/** @typedef {{ image: OrderedImage, encoding: Encoding, hits: Hit[] }} Places where a text was found, and in which encoding */
+/** @typedef {{ text: string, encodings: Encoding[], loose?: boolean }} WantedText `loose` as in `unitsAlike` */
+/** @typedef {{ image: OrderedImage, encoding: Encoding, hits: Hit[] }} Places the places of a text, and its encoding there */
 /**
- * What a search found: the part that was searched; the hits in the first encoding that has any, and those in the others; the names of the
- * encodings that were searched; and why others do not have the text.
+ * The result of a search: the part that was searched; the hits in the first encoding that has any, and in the others; the names of the
+ * encodings that were searched; and the failures of those that cannot express the text.
  * @typedef {{ image: OrderedImage, best: Hits | null, others: Hits[], searched: string[], faults: Fault[] }} FoundText
  */
 
 /**
- * Finds a text in a track. An encoding that has it only in the middle of characters comes last. Throws a Fault: `find/empty`,
+ * Finds a text in a track. An encoding in which it occurs only in the middle of characters is listed last. Throws a Fault: `find/empty`,
  * `text` if no encoding has its characters, `cancelled`.
  * @param {Pick<Engine, 'crew'>} engine
  * @param {OpenedTrack} opened
@@ -39,10 +39,10 @@ export async function findText({ crew }, opened, { text, loose, limit, ...option
 }
 
 /**
- * Finds a text at a place, in the first encoding that has it there. Throws a Fault if none has.
+ * Finds a text at a place, in the first encoding in which it is there. Throws a Fault if there is none.
  * @param {Pick<Engine, 'calls'>} engine
  * @param {OpenedTrack} opened
- * @param {WantedText & { place: Place }} options a place of the whole image
+ * @param {WantedText & { place: Place }} options with a place in the whole image
  * @returns {Promise<Places>}
  */
 export async function findTextAt({ calls }, opened, { text, loose, place, ...options }) {
@@ -56,6 +56,6 @@ export async function findTextAt({ calls }, opened, { text, loose, place, ...opt
         if (size > 0) return { image, encoding, hits: [{ ...place, size }] };
     }
     const usual = usualBytes(unitsAlike(encodings[0], text));
-    await replaceBytes(calls, image, place, usual, usual); // says which byte differs
+    await replaceBytes(calls, image, place, usual, usual); // throws a Fault that names the differing byte
     throw new Fault('find/nothing', {});
 }

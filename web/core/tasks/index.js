@@ -1,4 +1,4 @@
-// What a user does with a disc: each task once, for all doors. Tasks return data. Doors ask, show the progress, and print or draw.
+// The tasks that a user does with a disc, for all doors. Tasks return data. Doors ask, show the progress, and print or draw.
 
 export { applyInMemory, applyScript } from './apply.js';
 export { commonPart, isSameRange } from './common_part.js';

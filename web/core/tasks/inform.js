@@ -1,4 +1,4 @@
-// What is found in a disc: which tracks are surveyed, and what the survey of each shows.
+// Determines which tracks of a disc are surveyed, and the findings of each survey.
 
 import { MODE1, lackOf, lostSectors, mode1Tracks, otherSectors } from '../disc/index.js';
 import { SECTOR_SIZE } from '../module/index.js';
@@ -14,19 +14,19 @@ import { addressShift } from './common_part.js';
 /** @typedef {import('../sectors/survey.js').Survey} Survey */
 /** @typedef {Pick<import('./opened.js').OpenedTrack, 'disc' | 'track' | 'image' | 'part'>} Opened */
 /**
- * A track that is surveyed, as the `part` of an `image` whose sectors have addresses of blocks that are `shift` later. `isWhole` says that
- * the image is a whole file, and `isAlone` that by the cue sheet the disc has no other track. `mode1Tracks` are the tracks in the image
- * that the cue sheet says are Mode 1, null without a sheet.
+ * A track that is surveyed, as the `part` of an `image`, whose sectors are `shift` blocks later by their addresses. `isWhole` means that
+ * the image is a whole file, and `isAlone` that the disc has no other track according to the cue sheet. `mode1Tracks` lists the tracks in
+ * the image that are Mode 1 according to the cue sheet, null without a sheet.
  * @typedef {{ number: number, file: number, image: DiscImage, part: DiscImage, shift: number, isWhole: boolean, isAlone: boolean,
  *     mode1Tracks: Run[] | null }} SurveyedTrack
  */
 /**
- * What is found in an image: its counts, the sectors that are lost or that were not tested, and what it lacks of its volume.
+ * The findings of an image: its counts, the sectors that are lost or not tested, and the blocks of its volume that it lacks.
  * @typedef {ReturnType<typeof surveyCounts> & { survey: Survey, lack: Lack | null } & Lost} Found
  */
 
 /**
- * The tracks of data that are not surveyed: their sectors have another size.
+ * The data tracks that are not surveyed, because their sectors have a different size.
  * @param {Disc} disc
  */
 export function unsurveyedTracks({ tracks }) {
@@ -39,7 +39,7 @@ function hasOneTrack({ sheet, tracks }) {
 }
 
 /**
- * A track, which is surveyed with the whole image that it lies in.
+ * A track that is surveyed with the whole image in which it lies.
  * @param {Opened} opened
  * @returns {SurveyedTrack}
  */
@@ -49,8 +49,8 @@ export function surveyedTrack({ disc, track: { number, file }, image, part }) {
 }
 
 /**
- * The tracks of a disc that are surveyed: one for each image. But if the addresses of several tracks in one file count from different
- * blocks, each track is surveyed by itself.
+ * The tracks of a disc that are surveyed, one for each image. If the addresses of several tracks in one file imply different bases, each of
+ * these tracks is surveyed separately.
  * @param {Disc} disc
  */
 export function surveyedTracks(disc) {
@@ -67,7 +67,7 @@ export function surveyedTracks(disc) {
 }
 
 /**
- * What the survey of a track's image shows. Throws what its reader throws.
+ * The findings of the survey of a track's image. Throws what its reader throws.
  * @param {SurveyedTrack} track
  * @param {RangeSurvey} survey of the whole image
  * @returns {Promise<Found>}
@@ -79,7 +79,7 @@ export async function foundInSurvey({ image, part, isAlone, mode1Tracks: tracks 
 }
 
 /**
- * How many bytes of a file come after its last whole sector, if all of its sectors have 2352 bytes.
+ * The number of bytes after the last whole sector of a file; 0 unless all of its sectors have 2352 bytes.
  * @param {Disc} disc
  * @param {number} file
  */
@@ -89,7 +89,7 @@ export function tailOf({ files, tracks }, file) {
 }
 
 /**
- * How many findings a file has: blocks in which something is wrong, and one for each way in which it is cut.
+ * Counts the findings of a file: the blocks in which something is wrong, and one for each way in which it is cut.
  * @param {{ surveys: Pick<Found, 'wrong' | 'lost' | 'lack'>[], tail: number }} found
  */
 export function findingsIn({ surveys, tail }) {

@@ -1,4 +1,4 @@
-// A list of texts with the new ones, as translators keep it, and the lines that replace them.
+// Reads a translator's list of old and new texts, and generates the lines that replace them.
 
 import { encodingOf, fillerOf, fillingAfter, usualBytes } from '../encodings/index.js';
 import { Fault, failedBy, remark } from '../faults.js';
@@ -20,8 +20,8 @@ import { filledUp, replaceBytes } from './replace_bytes.js';
  * @typedef {import('../facts.js').Remark<Name>} Remark
  */
 /**
- * A row with a new text: its number, where the old one stands, the room there that it names, or -1, and the encoding, or ''; and why the
- * row is not read as it is meant, null if it is.
+ * A row with a new text: its number, the place of the old text, the room there that the row names, or -1, and the encoding, or ''. `fault`
+ * is the reason why the row cannot be read as it was meant, or null.
  * @typedef {{ number: number, block: number, offset: number, room: number, encoding: string, text: string, fresh: string,
  *     fault: Remark<'list/cell-runs-on'> | null }} ListRow
  */
@@ -30,20 +30,20 @@ import { filledUp, replaceBytes } from './replace_bytes.js';
 const LIST_COLUMNS = ['block', 'offset', 'text', 'new', 'room', 'encoding'];
 const NEEDED = LIST_COLUMNS.slice(0, 4);
 
-/** How many rows have new texts at most. */
+/** The most rows with new texts. */
 const MOST_ROWS = 1000000;
 
-/** The row that names the columns is one of the first: others, such as a title, may come before it. */
+/** How many rows at the start may name the columns. Other rows, such as a title, may come first. */
 const MOST_HEADS = 20;
 
 /** The most bytes of a list. */
 const MOST_LISTED = 1 << 28;
 
 /**
- * The rows of a list in a file that have a new text. Throws a Fault if there are none.
+ * Reads the rows with a new text of a list in a file. Throws a Fault if there are none.
  * @param {Reader} reader
  * @param {string} name
- * @param {(row: ListRow) => boolean} [isAlso] which rows without one are wanted too
+ * @param {(row: ListRow) => boolean} [isAlso] selects rows without a new text that are returned too
  * @param {Signal} [signal]
  */
 export async function rowsOfList(reader, name, isAlso, signal) {
@@ -55,9 +55,9 @@ export async function rowsOfList(reader, name, isAlso, signal) {
 }
 
 /**
- * Says the encodings in which a row may be: the one that it names, or else those that are given.
+ * Returns a function that chooses the encodings for a row by the name in it: the named one, or else the given ones.
  * @param {Encoding[]} given
- * @param {boolean} isAsked whether those are asked for, so that what a row names does not count
+ * @param {boolean} isAsked whether the given ones were requested, so that the names in rows are ignored
  */
 export function encodingsOfRows(given, isAsked) {
     return (/** @type {string} */ name) => {
@@ -67,8 +67,8 @@ export function encodingsOfRows(given, isAsked) {
 }
 
 /**
- * What stands between the cells of a list, and the row that names the columns, which may be in quotes. Null if the list has no row. Throws
- * a Fault if none of the first rows names the columns, or if it has a name twice.
+ * Finds the mark between the cells of a list, and the row that names the columns, which may be in quotes. Null if the list has no row.
+ * Throws a Fault if none of the first rows names the columns, or if a name occurs twice.
  * @param {string} list
  */
 function headOf(list) {
@@ -95,9 +95,9 @@ function wholeIn(cell) {
 }
 
 /**
- * The rows of a list that have a new text. Throws a Fault if none of its first rows names the columns.
+ * Yields the rows of a list that have a new text. Throws a Fault if none of its first rows names the columns.
  * @param {string} list
- * @param {(row: ListRow) => boolean} [isAlso] which rows without one are wanted too
+ * @param {(row: ListRow) => boolean} [isAlso] selects rows without a new text that are returned too
  * @param {Signal} [signal]
  * @returns {AsyncGenerator<ListRow>}
  */
@@ -126,12 +126,12 @@ export async function* listRows(list, isAlso = () => false, signal) {
 }
 
 /**
- * The lines that replace the texts of a list's rows, and the rows that are left, in their order. Nothing has tried the lines yet: that is
- * done with all of them.
+ * Generates the lines that replace the texts of a list's rows, and returns the rows that are left out, in order. The lines are not tried
+ * here: that is done later for all of them.
  * @param {Calls} calls
  * @param {OrderedImage} image
  * @param {ListRow[]} rows
- * @param {(name: string) => Encoding[]} encodingsFor the encodings that a row may be in, by the name that it has, or ''
+ * @param {(name: string) => Encoding[]} encodingsFor the encodings that a row may have, by the name in it, or ''
  * @param {Filler} fill
  * @param {Watch} [watch]
  */
@@ -152,8 +152,8 @@ export async function replaceList(calls, image, rows, encodingsFor, fill, watch 
 }
 
 /**
- * The old bytes that a row's new text takes the place of, and the new ones. Throws a Fault if the old text does not stand there, or if the
- * new one has no room there.
+ * The old bytes that a row's new text replaces, and the new bytes. Throws a Fault if the old text is not there, or if the new one does not
+ * fit.
  * @param {OrderedImage} image
  * @param {ListRow} row
  * @param {Encoding[]} encodings
@@ -168,7 +168,7 @@ async function fittedRow(image, row, encodings, fill) {
     const { encoding, size: known } = encodingAt(encodings, row, bytes, at);
     assertMeant(encoding, row.fresh);
     const fresh = usualBytes(unitsOfCell(encoding, row.fresh));
-    // A row may name less room than its old text has, if that has been read on into other data.
+    // A row may name less room than its old text has, if the text was read too far, into other data.
     const size = row.room < 0 ? known : Math.min(known, row.room);
     const room = Math.max(Math.min(known + fillingAfter(encoding, bytes, at + known), row.room), size);
     assertHasRoom(encoding, fresh, room);
@@ -179,8 +179,7 @@ async function fittedRow(image, row, encodings, fill) {
 }
 
 /**
- * The first encoding in which the old text of a row stands at a place of bytes, and how many bytes it has there. Throws a Fault if there is
- * none.
+ * The first encoding in which the old text of a row is at a place in bytes, and its size there. Throws a Fault if there is none.
  * @param {Encoding[]} encodings
  * @param {ListRow} row
  * @param {Uint8Array} bytes
@@ -195,7 +194,8 @@ function encodingAt(encodings, { text, fresh }, bytes, at) {
 }
 
 /**
- * Where a text stands at a place of bytes, in the first encoding in which it does; and why others have it not.
+ * The first encoding in which a text is at a place in bytes, with the size of the text there, or null; and the failures of the encodings
+ * that cannot express it.
  * @param {Encoding[]} encodings
  * @param {string} text
  * @param {Uint8Array} bytes

@@ -1,4 +1,4 @@
-// What a repair takes of other dumps in a range of sectors.
+// Selects the sectors of other dumps that repair a range of an image.
 
 import { joinedBytes, sameBytes } from '../bytes.js';
 import { RECORD, RECORD_SIZE, SECTOR_KIND, SECTOR_SIZE, sectorCount } from '../module/index.js';
@@ -10,24 +10,23 @@ import { sectorsAt } from '../sectors/index.js';
 /** @typedef {import('../sectors/runs.js').Run} Run */
 /** @typedef {Run & { other: number }} RunOf blocks of another image */
 /**
- * What is found in blocks: those whose sectors are taken, by runs that come of one other image each; of these the `doubtful` ones, whose
- * EDC and data are others in the damaged sector; those that are repaired by no image, `elsewhere` if one has a sound sector there with
- * the address of another block; of these the ones that are `alike`, the same bytes in all images that have the block; the taken ones in
- * which other images are sound too and differ; and of each other image
- * those in which it is sound and differs from a sound sector, how many these are, and how many are the `same` bytes; and the `others`,
- * which are Mode 1 in no image, with their kinds in the first one, those of them that one byte fills there, and those that are `unlike`:
- * other bytes in some image.
+ * The findings of a repair, as runs of blocks. `taken`: the sector is copied from another image, one for each run. `doubtful`: of these,
+ * both the EDC and the data of the damaged sector are different. `damaged`: no image repairs the block, `elsewhere` if one has a sound
+ * sector there with the address of a different block. `alike`: of these, all images that have the block have the same bytes. `disputed`:
+ * of the taken ones, other images are also sound, but different. For each other image, `differing`: it is sound and different from a sound
+ * sector; `different`: the number of these blocks; `same`: the number of blocks with the same bytes. `others`: the block is Mode 1 in no
+ * image, with its kind in the first one. Of these, `filled`: one byte fills it there; `unlike`: it has different bytes in some image.
  * @typedef {{ taken: RunOf[], doubtful: RunOf[], damaged: (Run & { elsewhere: boolean })[], alike: Run[], disputed: Run[],
  *     differing: Run[][], different: number[], same: number[], unlike: Run[] } & OtherSectors} Found
  */
-/** @typedef {Found & { sectors: Uint8Array, end: number }} Merged with the sectors that are taken, and the block after the range */
+/** @typedef {Found & { sectors: Uint8Array, end: number }} Merged with the copied sectors, and the block after the range */
 
 /**
- * What is taken of other images in a range of sectors. A job for a worker.
+ * Selects the sectors of other images that repair a range of sectors. A job for a worker.
  * @param {Calls} calls
- * @param {Uint8Array[]} pieces the range of the image, and that of each other one
+ * @param {Uint8Array[]} pieces the range of the image, and of each other image
  * @param {number} first
- * @param {{ shift: number }} args how many blocks later those are whose addresses the sectors have
+ * @param {{ shift: number }} args how many blocks later the sectors are by their addresses
  * @returns {Merged}
  */
 export function mergeRange(calls, [old, ...others], first, { shift }) {
@@ -37,7 +36,7 @@ export function mergeRange(calls, [old, ...others], first, { shift }) {
     const [numbers, words] = [others.map((_, other) => other), asWords(old)];
     const found = nothingFound(others.length);
     const [sectors, count] = [/** @type {Uint8Array[]} */ ([]), sectorCount(old.length)];
-    const unlike = new Uint8Array(count); // 1 where some image has other bytes
+    const unlike = new Uint8Array(count); // 1 where some image has different bytes
     places.forEach(some => some.forEach(i => { unlike[i] = 1; }));
     found.same = places.map(({ length }) => count - length);
     for (let i = 0; i < count; i++) {
@@ -82,7 +81,7 @@ function addDifferent({ differing, different }, block, other) {
 }
 
 /**
- * How well a sound sector fits a damaged one: 2 if it has the EDC that stands there, 1 if it has the data, else 0.
+ * How well a sound sector fits a damaged one: 2 if it has the same EDC, 1 if it has the same header and data, else 0.
  * @param {Uint8Array} damaged
  * @param {Uint8Array} sector
  */
@@ -92,7 +91,7 @@ function fitOf(damaged, sector) {
 }
 
 /**
- * Whether a damaged sector has nothing but one byte over and over after its header.
+ * Whether a damaged sector consists of one repeated byte after its header.
  * @param {Uint8Array} damaged
  */
 function hasFilledUser(damaged) {
@@ -110,7 +109,7 @@ function hasSame(a, b, from, end) {
 }
 
 /**
- * Whether a block has an address. A block without address has no other one.
+ * Whether an address is that of a block. False if the block has no address.
  * @param {Calls} calls
  * @param {Uint8Array} address
  * @param {number} block
@@ -132,7 +131,7 @@ export function nothingFound(others) {
 }
 
 /**
- * The records of the sectors of another image that differ, with those of a sector without sync field for the others.
+ * The records of another image, surveyed only where its sectors differ. The other records are those of a sector without a sync field.
  * @param {Calls} calls
  * @param {Uint8Array} other
  * @param {number[]} places of those that differ

@@ -1,4 +1,4 @@
-// A data track that was opened, with its files and the order in which they have its sectors.
+// An opened data track, with its files, and its sectors in the order of these files.
 
 import { dataTrack } from '../disc/index.js';
 import { failedBy } from '../faults.js';
@@ -13,13 +13,13 @@ import { fileOrder, filesOf, wholeFile } from '../iso/index.js';
 /** @typedef {import('../iso/files.js').VolumeFiles} VolumeFiles */
 /** @typedef {DiscTrack & { image: DiscImage, part: DiscImage }} DataTrack */
 /**
- * What a track contains: its volume, or the failure (`volume`) to list one; its files, none without a volume; and the image and the part,
+ * The contents of a track: its volume, or the failure (`volume`) to list one; its files, none without a volume; and the image and the part,
  * whose texts are read in the order of these files.
  * @typedef {{ volume: VolumeFiles | null, fault: Fault | null, files: FileEntry[], image: OrderedImage, part: OrderedImage }} TrackContents
  */
 
 /**
- * An image with another first block.
+ * An image with a different first block.
  * @param {DiscImage} image
  * @param {number} shift how many blocks later it begins
  * @returns {DiscImage}
@@ -42,7 +42,7 @@ export class OpenedTrack {
         /** The whole file in which the track lies. */
         this.image = image;
         this.part = part;
-        /** The track with the base that its addresses or its cue sheet say. It is this one unless the base was set by hand. */
+        /** The track with the base from its addresses or its cue sheet. It is this object unless the base was set by hand. */
         this.byAddresses = byAddresses || /** @type {OpenedTrack} */ (this);
         this.reading = /** @type {Promise<TrackContents> | null} */ (null);
     }
@@ -54,11 +54,11 @@ export class OpenedTrack {
         return new OpenedTrack(this.disc, track, this.byAddresses);
     }
 
-    /** What the track contains, which is read once. Throws what the reader throws. */
+    /** The contents of the track, which are read once. Throws what the reader throws. */
     contents() {
         if (this.reading === null) {
             const reading = contentsOf(this.image, this.part);
-            reading.catch(() => { this.reading = null; }); // a reader may fail once
+            reading.catch(() => { this.reading = null; }); // the next call tries again
             this.reading = reading;
         }
         return this.reading;
@@ -66,8 +66,8 @@ export class OpenedTrack {
 }
 
 /**
- * The data track of a number, or the first. The first block of its image is `base`, or what the addresses of its sectors say. Throws a
- * Fault, `disc`, if there is no such track.
+ * Opens the data track with a number, or the first one. The first block of its image is `base`, or else the one that the addresses of its
+ * sectors imply. Throws a Fault, `disc`, if there is no such track.
  * @param {Disc} disc
  * @param {{ track?: number | null, base?: number }} options
  */
@@ -77,7 +77,7 @@ export function openTrack(disc, { track = null, base } = {}) {
 }
 
 /**
- * Another track as a task counts its blocks. A base that was set by hand for the first track is that of all, whatever their addresses say.
+ * Another track, with the base that a task uses. A base that was set by hand for the first track is used for all, despite their addresses.
  * @param {OpenedTrack} first
  * @param {OpenedTrack} other
  */
@@ -86,7 +86,8 @@ export function trackBeside(first, other) {
 }
 
 /**
- * A file of a track, and what else its volume names. Throws a Fault: `volume` if there is no volume, or that the entries are not a file.
+ * A file of a track, and its volume (`names`). Throws a Fault: `volume` if there is no volume, or a different one if the entries are not a
+ * file.
  * @param {Pick<OpenedTrack, 'contents'>} opened
  * @param {FileEntry[]} entries all of one path
  */

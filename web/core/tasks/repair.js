@@ -1,4 +1,4 @@
-// Repairs the image of a track by other dumps of the same disc.
+// Repairs the image of a track with other dumps of the same disc.
 
 import { PieceCutter, sliceOf } from '../bytes.js';
 import { lostSectors, mode1Tracks } from '../disc/index.js';
@@ -24,14 +24,15 @@ import { trackBeside } from './opened.js';
 /** @typedef {import('./merge.js').Merged} Merged */
 /** @typedef {import('./opened.js').OpenedTrack} OpenedTrack */
 /**
- * Why a repair is refused, with the number of the other dump: it has no block in common with the image, and these are the blocks with which
- * both begin; or more than a hundredth of its sectors are sound and different, and the addresses say what is shifted, or nothing.
+ * The reason why a repair is refused, and the index of the dump. `apart`: it has no block in common with the image, and `first` lists the
+ * first blocks of both. `different`: more than a hundredth of its sectors are sound and different, and `shift` is the shift that the
+ * addresses show, or null.
  * @typedef {{ why: 'apart', other: number, first: number[] } | { why: 'different', other: number, shift: Shift | null }} Refusal
  */
 /**
- * What is found in all sectors of the image. If it is `refused` nothing of it is to be kept. Sectors that are Mode 1 in no dump are `lost`
- * or `untested`, and of these the `unlike` ones are different in some dump. Of each other dump: which blocks it has (`ranges`), and whether
- * the bytes after the last sector differ (`tails`), if that is the same sector.
+ * The findings of a repair. If it is `refused`, the repaired image must be discarded. Sectors that are Mode 1 in no dump are `lost` or
+ * `untested`, and the `unlike` ones among the latter are different in some dump. For each other dump, `ranges` lists its blocks, and
+ * `tails` tells whether the bytes after the last sector differ, if that is the same sector.
  * @typedef {Omit<Found, 'others' | 'filled'> & { refused: Refusal | null, sectors: number, lost: Run[], untested: KindRun[],
  *     ranges: Ranges[], tails: boolean[] }} Repair
  */
@@ -40,9 +41,9 @@ import { trackBeside } from './opened.js';
 const MOST_DIFFERENT = 100;
 
 /**
- * Repairs the image of a track by other dumps, in the blocks that both have: sectors that are not consistent in it and are in another one,
- * with the block's own address there, are taken whole. The tail stays as it is. The pieces of the repaired image are given to `take` as
- * they come, before it is known whether the repair is refused. Throws what the readers throw, and a Fault, `cancelled`.
+ * Repairs the image of a track with other dumps, in the blocks that both have. A sector that is not consistent is copied whole from a dump
+ * in which it is consistent and has the address of its block. The tail is not changed. The pieces of the repaired image are passed to
+ * `take` at once, before it is known whether the repair is refused. Throws what the readers throw, and a Fault, `cancelled`.
  * @param {Engine} engine
  * @param {OpenedTrack} opened
  * @param {OpenedTrack[]} dumps
@@ -75,7 +76,7 @@ export async function repairTrack({ calls, crew }, opened, dumps, take, watch = 
  * @param {Sharer} crew
  * @param {DiscImage} old
  * @param {DiscImage[]} others
- * @param {CommonPart[]} parts of the image that each has
+ * @param {CommonPart[]} parts of the image that each dump has
  * @param {(piece: Piece) => void | Promise<void>} take
  * @param {Sharing} how
  */
@@ -100,7 +101,7 @@ async function mergeImages(crew, old, others, parts, take, how) {
 }
 
 /**
- * Why a repair is refused by what was found, null if it is not. Of the dumps the one is named that differs most.
+ * The reason to refuse a repair after the comparison, or null. It names the dump that differs most.
  * @param {Calls} calls
  * @param {DiscImage} image
  * @param {DiscImage[]} others
@@ -115,7 +116,7 @@ async function tooDifferent(calls, image, others, parts, { different, differing 
 }
 
 /**
- * Of each other image whether the bytes after the last sector differ, if that is the same one.
+ * For each other image, whether the bytes after the last sector differ, if that is the same sector.
  * @param {DiscImage} image
  * @param {DiscImage[]} others
  * @param {CommonPart[]} parts
@@ -132,7 +133,7 @@ async function tailsOf(image, others, parts) {
  * @param {DiscImage} image
  * @param {number} from
  * @param {number} to
- * @param {number} later how many sectors later it begins than the image that these are counted in
+ * @param {number} later how many sectors later it begins than the image in which `from` and `to` count
  */
 function partReader({ reader }, from, to, later) {
     return sliceOf(reader, (from - later) * SECTOR_SIZE, (to - later) * SECTOR_SIZE);
@@ -141,7 +142,7 @@ function partReader({ reader }, from, to, later) {
 /**
  * @param {Found} found
  * @param {Merged} answer
- * @param {number[]} present the numbers of the other images that the range has
+ * @param {number[]} present the indices of the other images that have the range
  */
 function addAnswer(found, { taken, doubtful, differing, different, same, ...answer }, present) {
     for (const run of taken) addToRuns(found.taken, { ...run, other: present[run.other] });

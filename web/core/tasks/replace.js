@@ -1,4 +1,4 @@
-// A text replaced by another one at the places at which it stands.
+// Replaces a text by a new one at the places where it was found.
 
 import { Fault, remark } from '../faults.js';
 import { ScriptParts } from '../script/index.js';
@@ -16,7 +16,7 @@ import { fittingScript } from './script_for.js';
 /** @typedef {import('./opened.js').OpenedTrack} OpenedTrack */
 
 /**
- * Throws a Fault if a new text has more bytes than there are for it.
+ * Throws a Fault if a new text has more bytes than its room.
  * @param {Encoding} encoding
  * @param {Uint8Array} fresh
  * @param {number} room
@@ -26,13 +26,13 @@ export function assertHasRoom({ name }, fresh, room) {
 }
 
 /**
- * The lines that replace texts, in the order of their places, and the texts that are left, with why there are no lines for them.
+ * Collects the lines that replace texts, in the order of their places, and the texts that are left out, with the reasons.
  * @template {import('../sectors/sector.js').Place} T
  * @param {OrderedImage} image
  * @param {T[]} texts
  * @param {Watch} watch
- * @param {(text: T, met: T | null) => Promise<{ lines: Lines, size: number }>} replace gives the lines, and how many bytes they are of. It
- *     throws a Fault if there are none, as if the text meets one before it
+ * @param {(text: T, met: T | null) => Promise<{ lines: Lines, size: number }>} replace returns the lines, and how many bytes they replace.
+ *     It throws a Fault if there are none, for example if the text overlaps `met`, the one before it
  */
 export async function replacedEach(image, texts, { signal, progress }, replace) {
     const parts = new ScriptParts();
@@ -56,13 +56,13 @@ export async function replacedEach(image, texts, { signal, progress }, replace) 
 }
 
 /**
- * Makes the script that replaces the hits of a text, which fits the image; null if no hit can be replaced. Also gives the hits that are
+ * Creates the script that replaces the hits of a text, and fits the image; null if no hit can be replaced. Also returns the hits that are
  * left out, each with the reason: a hit may begin in the middle of a character, overlap the one before it, have no room for the text, or
  * lie in a sector that is damaged or not Mode 1.
  * @param {Pick<Engine, 'calls'>} engine
  * @param {Pick<OpenedTrack, 'image'>} opened
- * @param {Places & { freshFor: (size: number) => Uint8Array, inside?: boolean }} options the new bytes for a number of old ones, which
- *     throws a Fault if they do not fit; and whether hits are replaced that may begin in the middle of a character
+ * @param {Places & { freshFor: (size: number) => Uint8Array, inside?: boolean }} options `freshFor` returns the new bytes for a number of
+ *     old ones, or throws a Fault if they do not fit. `inside`: whether hits are replaced that may begin in the middle of a character
  * @param {Watch} [watch]
  */
 export async function replaceHits({ calls }, opened, { image, encoding, hits, freshFor, inside = false }, watch = {}) {

@@ -1,4 +1,4 @@
-// Scripts that replace bytes at a place, and the lines that replace the sectors of a file.
+// Generates the lines that replace bytes at a place, or the sectors of a file.
 
 import { joinedBytes, readBytes, sameBytes } from '../bytes.js';
 import { Fault, newBytes } from '../faults.js';
@@ -12,13 +12,13 @@ import { addToRuns, addressIn, isSound, joinedUser, runOf, sectorsAt, userOf } f
 /** @typedef {import('../script/sector_lines.js').Left} Left */
 /** @typedef {import('../script/sector_lines.js').Lines} Lines */
 /** @typedef {import('../sectors/sector.js').Place} Place */
-/** @typedef {{ place: Place, old: Uint8Array, fresh: Uint8Array }} Change bytes that others take the place of, as many */
+/** @typedef {{ place: Place, old: Uint8Array, fresh: Uint8Array }} Change old bytes, and as many new ones that replace them */
 
 /**
- * Bytes filled up to a size with others, over and over.
+ * Pads bytes to a size with a repeated filler. Throws a Fault if that is not possible.
  * @param {Uint8Array} bytes
  * @param {number} size
- * @param {Uint8Array | null} fill if there is none, the size has to be right
+ * @param {Uint8Array | null} fill null if the bytes must have the size already
  */
 export function filledUp(bytes, size, fill) {
     const missing = size - bytes.length;
@@ -32,14 +32,14 @@ export function filledUp(bytes, size, fill) {
 }
 
 /**
- * The lines that replace user bytes from a place on, of an image in which the old ones stand there. Throws a Fault if they do not,
- * or if a sector is not consistent.
+ * Generates the lines that replace user bytes from a place on. Throws a Fault if the old bytes are not there, or if a sector is not
+ * consistent.
  * @param {Calls} calls
  * @param {OrderedImage} image
  * @param {Place} place
  * @param {Uint8Array} old
- * @param {Uint8Array} fresh as many
- * @param {boolean} [isTriedLater] whether the lines are tried with others, and not here
+ * @param {Uint8Array} fresh as many bytes
+ * @param {boolean} [isTriedLater] whether the lines are tried later together with others, and not here
  * @returns {Promise<Lines>}
  */
 export async function replaceBytes(calls, image, place, old, fresh, isTriedLater = false) {
@@ -49,7 +49,7 @@ export async function replaceBytes(calls, image, place, old, fresh, isTriedLater
 }
 
 /**
- * The lines of a change, which nothing has tried.
+ * The lines of a change, which are not tried.
  * @param {OrderedImage} image
  * @param {Change} change
  */
@@ -60,7 +60,7 @@ export function untriedLines(image, change) {
 }
 
 /**
- * A change in parts, if what comes after one in the order of files lies elsewhere.
+ * Splits a change where the next sector in the order of files is not that of the next block.
  * @param {Pick<OrderedImage, 'order'>} image
  * @param {Change} change
  * @returns {Change[]}
@@ -78,7 +78,7 @@ function cutAtExtents({ order }, change) {
 }
 
 /**
- * Adds the lines of a change of neighbouring sectors.
+ * Adds the lines of a change of adjacent sectors.
  * @param {Calls} calls
  * @param {DiscImage} image
  * @param {LineList} lines
@@ -109,7 +109,7 @@ function placeAfter({ block, offset }, count) {
 }
 
 /**
- * The sectors in which a range of user bytes lies. Throws a Fault if the image has not all of them.
+ * Reads the sectors of a range of user bytes. Throws a Fault if the range is empty or invalid, or if the image does not have all of it.
  * @param {DiscImage} image
  * @param {Place} place
  * @param {number} size
@@ -125,7 +125,7 @@ export function sectorsOfRange({ reader, base }, { block, offset }, size) {
 }
 
 /**
- * The consistent sectors with the addresses of others, and with user data of their own.
+ * Encodes consistent sectors with the addresses of given sectors, and with new user data.
  * @param {Calls} calls
  * @param {Uint8Array} sectors
  * @param {Uint8Array} user
@@ -165,12 +165,13 @@ function setLines(lines, place, old, fresh) {
 }
 
 /**
- * The lines that give a range of a file's sectors other user data. A job for a worker. A sector that is not consistent is left.
+ * Generates the lines that change the user data of a range of a file's sectors. A job for a worker. A sector that is not consistent is left
+ * out.
  * @param {Calls} calls
  * @param {Uint8Array} sectors
- * @param {Uint8Array} wanted 2048 bytes for each
+ * @param {Uint8Array} wanted 2048 bytes for each sector
  * @param {number} first
- * @param {{ end: number }} args how many user bytes from block 0 to the file's end there would be
+ * @param {{ end: number }} args the end of the file, as a number of user bytes from block 0 on
  * @returns {Lines}
  */
 export function replaceRange(calls, sectors, wanted, first, { end }) {

@@ -1,4 +1,4 @@
-// The script that replaces a file of a disc.
+// Creates the script that replaces a file of a disc.
 
 import { firstAfter, sliceOf } from '../bytes.js';
 import { Fault } from '../faults.js';
@@ -21,14 +21,14 @@ import { replaceBytes } from './replace_bytes.js';
 /** @typedef {import('../script/script_writer.js').Script} Script */
 /** @typedef {import('./engine.js').Engine} Engine */
 /** @typedef {import('./opened.js').OpenedTrack} OpenedTrack */
-/** @typedef {Pick<VolumeFiles, 'entries' | 'udf' | 'own' | 'tables' | 'files'>} VolumeNames what a volume names, and its own blocks */
+/** @typedef {Pick<VolumeFiles, 'entries' | 'udf' | 'own' | 'tables' | 'files'>} VolumeNames the entries of a volume, and its own blocks */
 /**
- * The finished script, null if a sector is left, which is not consistent; the file that it replaces; and the paths of other files that have
- * some of the blocks, and change too.
+ * The finished script, null if a sector is left out because it is not consistent; the file that it replaces; and the paths of other files
+ * that have some of the blocks, and change too.
  * @typedef {{ script: Script | null, left: Left[], file: WholeFile, sharing: string[] }} Replacement
  */
 
-/** @param {{ size: number }} extent how many bytes its sectors have */
+/** @param {{ size: number }} extent the extent whose sectors' size in bytes is returned */
 function extentRoom({ size }) {
     return Math.ceil(size / USER_SIZE) * USER_SIZE;
 }
@@ -39,7 +39,7 @@ function extentKey({ block, size }) {
 }
 
 /**
- * Where the lines that replace a file write: in its sectors, and in the lengths that its records have.
+ * The ranges in which the lines that replace a file write: its sectors, and the lengths in its records.
  * @param {Pick<VolumeNames, 'entries'>} names
  * @param {FileEntry[]} extents of the file
  * @returns {UserRange[]}
@@ -51,7 +51,7 @@ export function placesOfFile(names, extents) {
 }
 
 /**
- * Says whether blocks are some of a file's.
+ * Returns a function that tells whether a range of blocks has some of a file's.
  * @param {FileEntry[]} extents of the file
  */
 function meetingOf(extents) {
@@ -64,11 +64,11 @@ function meetingOf(extents) {
 }
 
 /**
- * The other files that have some of a file's blocks. Throws a Fault if some are the volume's own, or if the file can have no other length
- * and gets one: something else names it, or has its blocks too.
+ * The other files that have some of a file's blocks. Throws a Fault if some are the volume's own. Also throws if the length changes but
+ * must not, because the disc also has UDF, or because a different extent has some of the blocks.
  * @param {WholeFile} file
  * @param {VolumeNames} names
- * @param {boolean} keeps its length
+ * @param {boolean} keeps whether the file keeps its length
  */
 function sharingWith({ path, extents }, { udf, own, tables, entries, files }, keeps) {
     const meets = meetingOf(extents);
@@ -83,7 +83,7 @@ function sharingWith({ path, extents }, { udf, own, tables, entries, files }, ke
 }
 
 /**
- * Adds the lines that give records another size, in both byte orders.
+ * Adds the lines that change the size in records, in both byte orders.
  * @param {Calls} calls
  * @param {DiscImage} image
  * @param {ScriptParts} parts
@@ -102,7 +102,7 @@ async function pushSize(calls, image, parts, records, size) {
 }
 
 /**
- * The entries of extents in all trees of names, by what extentKey says.
+ * The entries of extents in all trees of names, by extentKey.
  * @param {FileEntry[]} entries
  * @param {FileEntry[]} extents
  */
@@ -114,12 +114,12 @@ function recordsByKey(entries, extents) {
 }
 
 /**
- * The script that gives a file of a disc other bytes. Without `fill` these may be as many as its sectors have; the records of the file get
- * its new length, and the rest becomes 00. With it the length stays. Throws a Fault.
+ * Creates the script that replaces the bytes of a file. Without `fill` the new file may be as long as the sectors of the old one. Then its
+ * records get the new length, and the rest becomes 00. With `fill` the length does not change. Throws a Fault.
  * @param {Engine} engine
  * @param {Pick<OpenedTrack, 'image' | 'part' | 'contents'>} opened
- * @param {{ entries: FileEntry[], wanted: Reader, fill?: number }} options the entries of the file's path, the new file, and the byte that
- *     fills up
+ * @param {{ entries: FileEntry[], wanted: Reader, fill?: number }} options the entries of the file's path, the new file, and the byte of
+ *     the padding
  * @param {Sharing} [how]
  * @returns {Promise<Replacement>}
  */
@@ -152,7 +152,7 @@ export async function replaceFile({ calls, crew }, opened, { entries, wanted, fi
 }
 
 /**
- * A file followed by one byte over and over.
+ * A reader of a file that is padded to a size with one byte.
  * @param {Reader} reader
  * @param {number} size
  * @param {number} [fill]

@@ -1,4 +1,4 @@
-// A script for an image: one that is read, without faults and for no other base; and one that is made, which fits.
+// Checks that a script that is read has no faults and the right base, and that a generated script fits its image.
 
 import { Fault } from '../faults.js';
 import { Refusal, assertFits, readScript, scriptForBase } from '../script/index.js';
@@ -11,10 +11,10 @@ import { Refusal, assertFits, readScript, scriptForBase } from '../script/index.
 /** @typedef {import('../disc/disc.js').DiscImage} DiscImage */
 
 /**
- * A script without faults. Throws a Fault, `script/refused`, with the program's line, and what the script's reader throws.
+ * Reads a script. Throws a Fault, `script/refused`, with the program's line, if the script has a fault, and what its reader throws.
  * @param {Calls} calls
  * @param {Pieces} pieces
- * @param {boolean} [long] whether the script may have more bytes and patches than the program takes
+ * @param {boolean} [long] whether the script may have more bytes and patches than the program accepts
  * @returns {Promise<ReadScript>}
  */
 export async function validScript(calls, pieces, long) {
@@ -24,7 +24,7 @@ export async function validScript(calls, pieces, long) {
 }
 
 /**
- * Throws a Fault, `script/other-base`, if a script says another base than its image has.
+ * Throws a Fault, `script/other-base`, if a script names a base that is not its image's.
  * @param {ReadScript} script
  * @param {number} base
  */
@@ -34,7 +34,7 @@ export function assertBase({ bases }, base) {
 }
 
 /**
- * The finished script of some lines, which fits its image; null if there are no lines. Throws a Fault if its patches conflict.
+ * Finishes the script of some lines, and checks that it fits its image; null if there are no lines. Throws a Fault if its patches conflict.
  * @param {Calls} calls
  * @param {DiscImage} image
  * @param {ScriptParts} parts

@@ -1,4 +1,4 @@
-// The table of the texts of a track: exported for translators, and imported with their new texts.
+// Exports the texts of a track as a table for translators, and imports the table with their new texts.
 
 import { Fault } from '../faults.js';
 import { codesLeftOut, stretchesOf, tableOfTexts } from '../texts/index.js';
@@ -18,8 +18,8 @@ import { fittingScript } from './script_for.js';
 /** @typedef {import('./list.js').ListRow} ListRow */
 /** @typedef {import('./opened.js').OpenedTrack} OpenedTrack */
 /**
- * Where a table is in a file; the encodings that its texts may be in, which replace what a row names if they are asked for; the filler;
- * whether a script is made of the rows that fit if others do not; and which rows without a new text are read too.
+ * The file with the table; the encodings that its texts may have, which replace the names in rows if they were requested (`isAsked`); the
+ * filler; whether a script is created from the rows that fit if others do not; and which rows without a new text are read too.
  * @typedef {{ list: DiscFile, encodings: Encoding[], isAsked: boolean, fill?: Filler, partial: boolean,
  *     isAlso?: (row: ListRow) => boolean }} ImportOptions
  */
@@ -30,9 +30,9 @@ import { fittingScript } from './script_for.js';
  */
 
 /**
- * The stretches that are looked at. Throws a Fault, `no-file`, if a path names none.
+ * The stretches in some files or directories. Throws a Fault, `no-file`, if there are none for a path.
  * @param {Stretch[]} stretches
- * @param {string[]} paths of files or directories; without any all are
+ * @param {string[]} paths of files or directories; if there are none, all stretches are returned
  */
 function stretchesIn(stretches, paths) {
     const rooted = (/** @type {string} */ path) => `/${path}`.replace(/^\/+/, '/').replace(/\/+$/, '');
@@ -48,7 +48,7 @@ function stretchesIn(stretches, paths) {
  * @param {Pick<Engine, 'crew'>} engine
  * @param {OpenedTrack} opened
  * @param {AskedTexts & { paths?: string[], csv?: boolean, least?: number }} options `paths` of files or directories, all if there are none;
- *     whether the table has commas, and a byte order mark for spreadsheets; and the least number of characters of a text
+ *     whether the table has commas and a byte order mark, for spreadsheets; and the least number of characters of a text
  * @param {Watch} [watch]
  * @returns {AsyncGenerator<{ text: string, count: number }>}
  */
@@ -60,12 +60,12 @@ export async function* exportTable({ crew }, opened, { paths = [], csv = false, 
 }
 
 /**
- * Makes the script of a table with new texts, which fits the image. Throws a Fault if the table has no row with a new text or cannot be
+ * Creates the script of a table with new texts, which fits the image. Throws a Fault if the table has no row with a new text or cannot be
  * read, or `cancelled`.
  * @param {Pick<Engine, 'calls'>} engine
  * @param {OpenedTrack} opened
  * @param {ImportOptions} options
- * @param {Watch} [watch] is told the number of rows
+ * @param {Watch} [watch] receives the number of rows
  * @returns {Promise<ImportedTable>}
  */
 export async function importTable({ calls }, opened, { list, encodings, isAsked, fill = null, partial, isAlso }, watch = {}) {

@@ -23,32 +23,32 @@ import { watchedSectors } from './watched.js';
 /** @typedef {(pieces: Uint8Array[], blocks: number[]) => Promise<Lines>} Given */
 /**
  * The script that reverts another one; how many patches of that one the image refuses, which are not reverted; and the blocks whose damage
- * cannot come back: only their address and user data do.
+ * cannot be restored, but only their address and user data.
  * @typedef {{ script: Script, refused: number, left: Left[] }} Undo
  */
 /**
- * Why there is no such script: the image refuses patches of the other one, and those that it does not refuse change nothing; or the other
- * one changes nothing, as on an image that is patched already.
+ * The reason why there is no such script: the image refuses patches of the other script, and those that it does not refuse change nothing;
+ * or the other script changes nothing, for example because the image is patched already.
  * @typedef {{ script: null } & ({ why: 'refused', refused: number } | { why: 'unchanged' })} NoUndo
  */
 
-/** Sectors that are compared at a time, and how many times at once. */
+/** How many sectors a comparison has, and how many comparisons may run at the same time. */
 const COMPARE_SIZE = 256;
 const AT_ONCE = 16;
 
-/** The lines that take patched sectors back, of which many are compared at a time. */
+/** Collects the lines that revert patched sectors, of which many are compared at a time. */
 class TakenBack {
     /**
-     * @param {Reader} reader of the image before
+     * @param {Reader} reader of the image before the script is applied
      * @param {number} base
-     * @param {Given} given who compares
+     * @param {Given} given compares sectors
      */
     constructor(reader, base, given) {
         this.reader = reader;
         this.base = base;
         this.given = given;
         this.parts = new ScriptParts();
-        /** @type {number[]} the blocks of the sectors that are compared next, and what these are patched and before */
+        /** @type {number[]} the blocks of the sectors that are compared next; their bytes are in `patched` and `before` */
         this.blocks = [];
         this.patched = new ByteList();
         this.before = new ByteList();
@@ -71,12 +71,12 @@ class TakenBack {
     async compare() {
         const lines = this.given([this.patched.bytes().slice(), this.before.bytes().slice()], this.blocks);
         [this.blocks, this.patched.size, this.before.size] = [[], 0, 0];
-        lines.catch(() => {}); // it is thrown when its turn comes
+        lines.catch(() => {}); // the failure is thrown when these lines are awaited
         this.coming.push(lines);
         if (this.coming.length >= AT_ONCE) this.parts.push(await /** @type {typeof lines} */ (this.coming.shift()));
     }
 
-    /** All of them. */
+    /** Compares the remaining sectors, and returns all lines. */
     async end() {
         await this.compare();
         for (const lines of this.coming) this.parts.push(await lines);
@@ -85,8 +85,8 @@ class TakenBack {
 }
 
 /**
- * Reverts a script: gives the one that makes the image of the track again from what the script makes of it. Throws what the reader throws,
- * and a Fault: `script/refused`, `script/other-base`, or `cancelled`.
+ * Builds the script that restores the image of the track after another script was applied to it. Throws what the reader throws, and a
+ * Fault: `script/refused`, `script/other-base`, or `cancelled`.
  * @param {Pick<Engine, 'calls'> & { crew: Pick<Crew, 'given'> }} engine
  * @param {Pick<OpenedTrack, 'image'>} opened before the script is applied
  * @param {Pieces} script

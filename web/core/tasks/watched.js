@@ -1,4 +1,4 @@
-// A reader whose progress is watched, and which can be cancelled.
+// A reader that reports its progress and can be cancelled.
 
 import { watchedReader } from '../bytes.js';
 import { cancelled } from '../faults.js';
@@ -8,7 +8,8 @@ import { SECTOR_SIZE, sectorCount } from '../module/index.js';
 /** @typedef {import('./engine.js').Watch} Watch */
 
 /**
- * A reader that tells in which sector each reading begins, of how many, and ends with its signal.
+ * A reader that reports the sector in which each read begins, and the number of sectors. Its reads throw a Fault, `cancelled`, as soon as
+ * the signal is aborted.
  * @param {Reader} reader
  * @param {Watch} watch
  */
