@@ -20,8 +20,8 @@ export { Fault, ScriptError } from './errors.js';
 /** @typedef {SurveySettings & { carry?: boolean }} Settings `carry`: whether damaged sectors are patched */
 /** @typedef {{ status: 0 | 1 | 2, text: string }} Report the status of the command, and its output */
 /**
- * The outcome of a patch: its line; a RESULT, which is 0 if it was applied, or the reason why it is refused; and the block and the offset of
- * the user byte that refuses it.
+ * The outcome of a patch: its line; a RESULT, which is 0 if it was applied, or the reason why it is refused; and the block and the offset
+ * of the user byte that refuses it.
  * @typedef {{ number: number, result: number, block: number, offset: number }} Outcome
  */
 /** @typedef {Report & { outcomes: Outcome[] }} Patched */

@@ -32,7 +32,7 @@ import { SECTOR_SIZE } from '../module/index.js';
  *     signal?: { aborted: boolean }, own?: number }} Sharing
  */
 
-/** Sectors per range, unless the caller gives another number. */
+/** Sectors per range, unless the caller passes a different number. */
 const SHARED_STEP = 1024;
 
 /** The most ranges in flight per hand. */

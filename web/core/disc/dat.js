@@ -24,7 +24,7 @@ const ENTITIES = new Map([['amp', '&'], ['lt', '<'], ['gt', '>'], ['quot', '"'],
 const ATTRIBUTE = /\s+([\w:.-]+)\s*=\s*(?:"([^"]*)"|'([^']*)')/gy;
 
 /**
- * Copies a text, so that it does not keep the longer text in memory of which it is a slice.
+ * Copies a slice of a text, so that it does not keep the whole text in memory.
  * @param {string} text
  */
 function copied(text) {

@@ -19,7 +19,7 @@ const NERO_END = 12;
 /** The offset of the header of a sector, and the bytes that scrambling adds to it (XOR). */
 const HEADER = 12;
 const SCRAMBLER = [0x01, 0x80, 0x00, 0x60];
-/** If samples are at most NEAR bytes apart, SAMPLED_AT_ONCE bytes are read at a time, because each read takes time even if it is short. */
+/** If samples are on average at most NEAR bytes apart, SAMPLED_AT_ONCE bytes are read at a time, because even a short read takes time. */
 const NEAR = 1 << 16;
 const SAMPLED_AT_ONCE = 1 << 18;
 

@@ -10,12 +10,13 @@ import { sectorsAt } from '../sectors/index.js';
 /** @typedef {import('../sectors/runs.js').Run} Run */
 /** @typedef {Run & { other: number }} RunOf blocks of another image */
 /**
- * The findings of a repair, as runs of blocks. `taken`: the sector is copied from another image, one for each run. `doubtful`: of these,
- * both the EDC and the data of the damaged sector are different. `damaged`: no image repairs the block, `elsewhere` if one has a sound
- * sector there with the address of a different block. `alike`: of these, all images that have the block have the same bytes. `disputed`:
- * of the taken ones, other images are also sound, but different. For each other image, `differing`: it is sound and different from a sound
- * sector; `different`: the number of these blocks; `same`: the number of blocks with the same bytes. `others`: the block is Mode 1 in no
- * image, with its kind in the first one. Of these, `filled`: one byte fills it there; `unlike`: it has different bytes in some image.
+ * The findings of a repair, as runs of blocks. `taken`: blocks copied from one other image for each run. `doubtful`: those of them whose
+ * damaged sector has a different EDC and different data. `damaged`: blocks that no image repairs, `elsewhere` if an image has a sound
+ * sector there with the address of a different block. `alike`: those of them with the same bytes in all images that have the block.
+ * `disputed`: taken blocks in which other images are also sound, but different. `differing`, for each other image: blocks in which both are
+ * sound, but different. `different` is their number, and `same` the number of blocks with the same bytes. `others`: blocks that are Mode 1
+ * in no image, with their kinds in the first one. `filled`: those of them that one byte fills there. `unlike`: those of them with different
+ * bytes in some image.
  * @typedef {{ taken: RunOf[], doubtful: RunOf[], damaged: (Run & { elsewhere: boolean })[], alike: Run[], disputed: Run[],
  *     differing: Run[][], different: number[], same: number[], unlike: Run[] } & OtherSectors} Found
  */
