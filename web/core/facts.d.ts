@@ -151,7 +151,7 @@ export interface Facts {
     'list/column-twice': { row: number; column: string };
     'list/no-new-text': {};
     'list/no-place': {};
-    /** The row in which a quoted cell ends that begins in an earlier row. */
+    /** The first separate row into which a quoted cell of an earlier row extends. */
     'list/cell-runs-on': { row: number };
     'list/overlaps': { row: number };
     'list/long-text': { most: number };

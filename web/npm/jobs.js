@@ -52,7 +52,7 @@ export async function surveyed(calls, image, { base = 0, signal, progress }) {
 }
 
 /**
- * Throws a RangeError if an image cannot begin with a block.
+ * Throws a RangeError if a block cannot be the first one of an image.
  * @param {number} base
  */
 function assertBase(base) {

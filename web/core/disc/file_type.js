@@ -73,7 +73,7 @@ async function kindBySectors(calls, reader) {
 }
 
 /**
- * Bytes of a file, one character each. They are fewer if the file ends before.
+ * Bytes of a file, one character each. There are fewer if the file ends earlier.
  * @param {Reader} reader
  * @param {number} at
  * @param {number} length

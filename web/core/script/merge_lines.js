@@ -28,7 +28,7 @@ function givesWay(line, range, isMade) {
 const scriptOf = texts => [headLine(), ...texts].join('\n');
 
 /**
- * The lines that set bytes in a model of a scriptOf text.
+ * The lines that set bytes, read from the text that scriptOf returns.
  * @param {ScriptModel} model
  */
 function linesRead({ lines }) {
@@ -36,7 +36,7 @@ function linesRead({ lines }) {
 }
 
 /**
- * The lines of a script that a new line replaces which sets a range.
+ * The lines of a script that are replaced by a new line which sets a range.
  * @param {ScriptModel} script
  * @param {UserRange} range
  * @param {(line: ScriptLine) => boolean} isMade

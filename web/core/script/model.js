@@ -45,7 +45,7 @@ export function byNumber(a, b) {
 }
 
 /**
- * Looks up the last line before each of several lines that writes a byte of one block, or 0.
+ * For each of several lines that ask for a byte of one block, finds the last line before it that writes the byte, or 0.
  * @param {number} block
  * @param {ScriptLine[]} lines those that write in the block, in order
  * @param {Asked[]} asked the lines, in order, with their bytes
