@@ -1,5 +1,5 @@
-// Times the core's jobs in node: `node bench/core.mjs THREADS JOB IMAGE [IMAGE..]`, THREADS 0 for this thread. Prints seconds and the
-// most memory of the process.
+// Times the core's jobs in node: `node bench/core.mjs THREADS JOB IMAGE [IMAGE..]`, with THREADS 0 for the main thread. Prints the seconds
+// and the maximum memory of the process.
 
 import { fstatSync, openSync, readFileSync, readSync, writeSync } from 'node:fs';
 import { Worker } from 'node:worker_threads';
@@ -30,7 +30,7 @@ function readerOf(path) {
     };
 }
 
-/** A worker of node as a hand. */
+/** A crew member that runs jobs in a thread of node. */
 function threadHand() {
     const worker = new Worker(new URL('core_worker.mjs', import.meta.url), { workerData: module });
     const hand = { post: (message, transfer) => worker.postMessage(message, transfer), onreply: () => {}, onfault: () => {} };

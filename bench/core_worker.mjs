@@ -1,4 +1,4 @@
-// A worker of bench/core.mjs.
+// The thread of bench/core.mjs that runs jobs.
 
 import { parentPort, workerData } from 'node:worker_threads';
 import { serving, transfersOf } from '../web/core/crew/index.js';

@@ -31,7 +31,7 @@ WORKS = {
 
 
 def memory_of(process):
-    """The kilobytes of a process that are no file's."""
+    """The memory of a process in kB, without mapped files."""
     try:
         with open(f'/proc/{process.pid}/status') as status:
             return next((int(line.split()[1]) for line in status if line.startswith('RssAnon')), 0)
@@ -40,7 +40,7 @@ def memory_of(process):
 
 
 def measured(image, code):
-    """The seconds of the processor, and the most kilobytes."""
+    """The CPU seconds and the maximum memory in kB of a process."""
     before, most = resource.getrusage(resource.RUSAGE_CHILDREN), 0
     process = subprocess.Popen([sys.executable, '-c', BEGIN + code, image])
     while process.poll() is None:

@@ -9,7 +9,7 @@ sys.path.insert(0, str(Path(__file__).resolve().parent.parent / 'tests' / 'page'
 import chromium  # noqa: E402
 import common  # noqa: E402
 
-# A chosen file is one of the origin's own, and the longest task is noted.
+# The chosen file is in the origin's private files, and the longest task is recorded.
 BEFORE = '''
 globalThis.showSaveFilePicker = async ({ suggestedName }) =>
     (await navigator.storage.getDirectory()).getFileHandle(suggestedName, { create: true });
@@ -18,7 +18,7 @@ new PerformanceObserver(list => {
     for (const { duration } of list.getEntries()) globalThis.longest = Math.max(globalThis.longest, duration);
 }).observe({ type: 'longtask', buffered: true });'''
 
-# From the press of a button until it is said that all is well.
+# Measures the time from the press of a button to the message that the work has succeeded.
 TIMED = '''const [buttons] = arguments, began = performance.now();
 globalThis.longest = 0;
 const found = [...document.querySelectorAll('button')].find(it =>
@@ -33,7 +33,7 @@ while (!parts().some(it => !before.has(it))) {
 }
 return [(performance.now() - began) / 1000, globalThis.longest];'''
 
-# The panel of each work, and how its button begins.
+# For each work its panel, and the beginning of its button's label.
 WORKS = {
     'check': ('script', ['Check']),
     'undo': ('script', ['Save a script that takes it back', 'Make the undo script']),
@@ -43,7 +43,7 @@ WORKS = {
 
 
 def opened(page: chromium.Chromium, name: str, shown: str, text: str, file: Path) -> None:
-    """Gives the page a file, and prints how long it takes until something is shown."""
+    """Gives the page a file, and prints the time until the result is shown."""
     page.run('globalThis.longest = 0')
     began = time.monotonic()
     page.give('#files', [file])
@@ -53,7 +53,7 @@ def opened(page: chromium.Chromium, name: str, shown: str, text: str, file: Path
 
 def main(where: str, image: str, script: str, *works: str) -> None:
     path = Path(where).resolve()
-    chromium.LOCAL_STATE.clear()  # as many frames as users see
+    chromium.LOCAL_STATE.clear()  # draws as many frames as for a user
     server, page = common.Server(path.parent), chromium.Chromium()
     page.before_pages(BEFORE)
     page.open(f'{server.url}/{path.name}')

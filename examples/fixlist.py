@@ -13,11 +13,11 @@ AT_ONCE = 1000  # sectors
 
 
 def print_fixes(name: str, base: int) -> bool:
-    """Prints the script for a file whose first sector is block `base`, and returns whether there is a finding."""
+    """Prints the script for an image whose first sector is block `base`, and returns whether there is a finding."""
     block, mode1, damaged, tail, found = base, 0, 0, 0, False
     print('cdpatch 1')
     with open(name, 'rb') as image:
-        # What is opened so gives fewer bytes than it is asked for only at its end.
+        # Buffered reads return fewer bytes than requested only at the end of the file.
         while data := image.read(AT_ONCE * cdpatch.SECTOR_SIZE):
             tail = len(data) % cdpatch.SECTOR_SIZE
             for record in cdpatch.survey(data, block):
@@ -44,7 +44,7 @@ def main() -> int:
         return int(found)
     except (OSError, ValueError, MemoryError) as why:
         print('fixlist.py:', str(why) or 'no memory', file=sys.stderr, flush=True)
-        os._exit(2)  # An exit would flush a full standard output once more.
+        os._exit(2)  # A normal exit would flush a full standard output again.
 
 
 if __name__ == '__main__':

@@ -14,7 +14,7 @@ GHOST = re.compile(r'^ +ghost (?:view|invariant|seen|hosting|[a-z]+_gives) ?[=:]
 OWNER = re.compile(r'^(?:pub )?(impl|trait)\b(?:<[^>]*>+)? *(.*)')
 WORD = re.compile(r'[A-Za-z_]+')
 
-# Where a definition stands: its crate, its module and its name.
+# The place of a definition: its crate, its module, and its name.
 Key = tuple[str, str, str]
 
 
@@ -35,7 +35,8 @@ class Definition:
 
 @dataclass
 class Call:
-    """A public function: its name with that of its type, its rustdoc, the names and texts of its clauses, and the texts of its conditions."""
+    """A public function: its name with that of its type, its rustdoc, the names and texts of its clauses, and the texts of its
+    conditions."""
     name: str
     doc: str
     clauses: list[tuple[str, str]]
@@ -45,20 +46,20 @@ class Call:
 
 @dataclass
 class Type:
-    """What a public type or trait is in contracts: a text of its own, such as that of its view."""
+    """The meaning of a public type or trait in contracts: a text, such as that of its view."""
     name: str
     text: str
     file: Path
 
 
 def crates() -> list[str]:
-    """The crates of crates.txt, in its order."""
+    """The crates of crates.txt, in order."""
     return re.findall(r'(?m)^([a-z_]+)(?: staticlib)?:', (TOP / 'crates.txt').read_text())
 
 
 @cache
 def static_crates() -> frozenset[str]:
-    """The libraries for C, which pass nothing on: all their public functions are calls."""
+    """The static libraries for C. They re-export nothing: all their public functions are calls."""
     return frozenset(re.findall(r'(?m)^([a-z_]+) staticlib:', (TOP / 'crates.txt').read_text()))
 
 
@@ -75,7 +76,7 @@ def first_paragraph(file: Path) -> str:
 
 
 def comment_above(lines: list[str], place: int, mark: str) -> str:
-    """The comment that stands right above a line, without its marks."""
+    """The comment directly above a line, without its marks."""
     begin = place
     while begin > 0 and re.match(mark, lines[begin - 1]):
         begin -= 1
@@ -91,7 +92,7 @@ def definitions_of(crate: str) -> Iterator[Definition]:
 
 
 def names_in(text: str) -> dict[str, Key]:
-    """What the definitions that a file imports are called in it."""
+    """The definitions that a file imports, by their names in the file."""
     found: dict[str, Key] = {}
     for crate, module, names in re.findall(r'(?m)^ *(?:ghost )?use Rattle\.(cd_[a-z_]+)\.specs\.([A-Za-z_]+)\.\{([^}]*)\}', text):
         for name in WORD.findall(names):
@@ -112,14 +113,14 @@ def signature(lines: list[str], place: int, indent: str) -> list[str]:
 
 
 def clauses_in(taken: list[str], wanted: str) -> list[tuple[str, str]]:
-    """The names and texts of what a function requires, or ensures."""
+    """The names and texts of a function's `requires` or `ensures` clauses."""
     text = '\n'.join(line for line in taken if not line.lstrip().startswith('//'))
     parts = re.split(r'(?m)^ +(requires|ensures) (?:([a-z_0-9]+) )?(?=\{)', text)
     return [(name or '', body) for kind, name, body in zip(parts[1::3], parts[2::3], parts[3::3]) if kind == wanted]
 
 
 def owners(lines: list[str]) -> Iterator[tuple[int, str, str]]:
-    """The number of each line, the type or trait in whose block it stands, and the public trait that this block is of or for."""
+    """For each line its number, the type or trait whose block contains it, and the public trait that the block defines or implements."""
     owner, trait = '', ''
     for place, line in enumerate(lines):
         if found := OWNER.match(line):
@@ -133,14 +134,14 @@ def owners(lines: list[str]) -> Iterator[tuple[int, str, str]]:
 
 
 def passed_on(crate: str) -> set[str]:
-    """The names that a crate's first file passes on to its users."""
+    """The names that a crate's first file re-exports."""
     head = TOP / 'crates' / crate / 'src/lib.rt'
     uses = re.findall(r'(?m)^pub use ([^;]*);', head.read_text(encoding='utf-8')) if head.exists() else []
     return {name for use in uses for name in re.findall(r'[A-Za-z_0-9]+', re.sub(r'[a-z_0-9]+::', '', use))}
 
 
 def calls_of(crate: str) -> Iterator[Call]:
-    """The functions that a crate passes on, its exports and laws, and those of its types and traits, in the order of its files."""
+    """The re-exported functions of a crate, its exports and laws, and the functions of its types and traits, in the order of its files."""
     known = passed_on(crate)
     for file in code_of(crate):
         lines = file.read_text(encoding='utf-8').splitlines()
@@ -158,7 +159,7 @@ def calls_of(crate: str) -> Iterator[Call]:
 
 
 def types_of(crate: str) -> Iterator[Type]:
-    """What the types and traits that a crate passes on are in contracts."""
+    """The meanings in contracts of the types and traits that a crate re-exports."""
     known = passed_on(crate)
     for file in code_of(crate):
         lines = file.read_text(encoding='utf-8').splitlines()
@@ -170,7 +171,7 @@ def types_of(crate: str) -> Iterator[Type]:
 
 @dataclass
 class Book:
-    """All definitions, the public calls whose contracts cite each, and those on which these stand."""
+    """All definitions, the public calls whose contracts cite each, and the definitions on which public contracts depend."""
     all: dict[Key, Definition] = field(default_factory=dict)
     cited_by: dict[Key, list[str]] = field(default_factory=dict)
     promised: set[Key] = field(default_factory=set)
@@ -188,7 +189,7 @@ class Book:
             self.add(key)
 
     def cite(self, name: str, text: str, file: Path) -> None:
-        """Notes that a call or a type cites what a text in its file names."""
+        """Records that a call or a type cites the definitions that a text in its file names."""
         for key in self.named(text, names_in(file.read_text(encoding='utf-8'))):
             if name not in self.cited_by.setdefault(key, []):
                 self.cited_by[key].append(name)
@@ -198,7 +199,7 @@ class Book:
         return {names[word] for word in WORD.findall(text) if word in names and names[word] in self.all}
 
     def add(self, key: Key) -> None:
-        """Takes a definition for promised, with all that it stands on."""
+        """Marks a definition as promised, with all definitions on which it depends."""
         if key in self.promised:
             return
         self.promised.add(key)

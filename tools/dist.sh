@@ -1,9 +1,10 @@
 #!/usr/bin/env bash
-# `tools/dist.sh DIRECTORY [KEY]` makes what a release has, of what `make` left in this tree: in DIRECTORY the tarball, in which `make
-# install` works without a toolchain, cdscript as cdscript.js, which node runs on any system, the page, packages for Debian, pip, and npm,
-# and the source packages of the first two; each with its checksum, and, with a KEY of ssh, its signature. What `make windows` and `make arm64`
-# left is packed too: an archive for Windows, a tarball, and packages for Debian and pip. What needs a missing command, or was not built, is not
-# made, and said. The bytes follow from those of the files and from the tools, wherever, whenever, and by whom it is run.
+# Builds the files of a release from the files that `make` built in this tree: `tools/dist.sh DIRECTORY [KEY]`. DIRECTORY gets the tarball,
+# in which `make install` works without a toolchain; cdscript as cdscript.js, which node runs on any system; the page; packages for Debian,
+# pip, and npm; and the source packages of the first two. Each has its checksum and, with an ssh KEY, its signature. If `make windows` and
+# `make arm64` were run, there are also an archive for Windows, and a tarball and packages for Debian and pip. It reports what it cannot
+# build because a command or a built file is missing. The bytes depend only on those of the files and on the tools, not on the place, the
+# time, or the user.
 set -euo pipefail
 umask 022
 mkdir -p "$1"
@@ -17,7 +18,7 @@ trap 'rm -rf "$scratch"' EXIT
 tree=$scratch/cdpatch-$version-x86_64-linux
 made=()
 
-# has WHAT COMMAND PACKAGE..: whether there are these commands. Else it says what is not made.
+# has WHAT COMMAND PACKAGE..: whether these commands are installed. If not, reports what is not built.
 has() {
     local what=$1
     shift
@@ -27,7 +28,7 @@ has() {
     done
 }
 
-# archive DIRECTORY FILE: a tar file of a directory, in which nobody's name and no time stands.
+# archive DIRECTORY FILE: writes a tar file of a directory, without names of users or times.
 archive() {
     tar -C "$(dirname "$1")" --format=ustar --sort=name --mtime="@$SOURCE_DATE_EPOCH" --owner=0 --group=0 --numeric-owner --mode=u=rwX,go=rX \
         -cf - "$(basename "$1")" | gzip -9n > "$2"
@@ -41,7 +42,7 @@ release_tree() {
     { printf '%s\n' 'all:' "	@echo 'Everything is built: make install installs it.'" ''; cat install.mk; } > "$tree/Makefile"
 }
 
-# debian_packages TREE WORD..: those of a tree, by dpkg-buildpackage with these words.
+# debian_packages TREE WORD..: builds the packages of a tree by dpkg-buildpackage with these arguments.
 debian_packages() {
     local room
     room=$(mktemp -d -p "$scratch")
@@ -55,7 +56,7 @@ debian_packages() {
 
 fill_in_address() { sed -i "s/ <>/ <$(bash tools/owner.sh address)>/" "$1/debian/control" "$1/debian/changelog"; }
 
-# Of the sources as git knows them.
+# debian_sources: builds the source package from the sources in git.
 debian_sources() {
     local sources=$scratch/cdpatch-$version
     mkdir "$sources"
@@ -71,7 +72,7 @@ debian_sources() {
     take "$scratch"/cdpatch_*.{dsc,orig.tar.gz,debian.tar.xz}
 }
 
-# python_packages LIBRARY WHAT..: the wheel with a library, and, with `sdist`, the archive of the sources.
+# python_packages LIBRARY WHAT..: builds the wheel with a library and, with `sdist`, the source archive.
 python_packages() {
     local room
     room=$(mktemp -d -p "$scratch")
@@ -83,7 +84,7 @@ python_packages() {
     take "$room"/pip/*
 }
 
-# The tree of the tarball, with the program and the library for aarch64.
+# arm64_tree: creates the tree of the tarball with the program and the library for aarch64.
 arm64_tree() {
     cp -r "$tree" "$arm64"
     rm -r "$arm64/library/x86-64-v3"
@@ -91,7 +92,7 @@ arm64_tree() {
     cp arm64/libcdpatch.* "$arm64/library"
 }
 
-# For people who have never used a shell. The lines of its README end as Windows ends them.
+# windows_archive: builds the archive for people who have never used a shell. Its README has the line ends of Windows.
 windows_archive() {
     local room=$scratch/cdpatch-$version-windows-x86_64
     mkdir "$room"
@@ -110,7 +111,7 @@ EOF_ZIP
     take "$room.zip"
 }
 
-# take FILE..: puts what was made into the directory.
+# take FILE..: moves built files to DIRECTORY.
 take() {
     install -m 644 "$@" "$directory"
     made+=("${@##*/}")

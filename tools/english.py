@@ -34,12 +34,12 @@ WORDS = r'Ql|Ar|Cm|Fl|Pa|Fa|Fn|Ic|Xr|Va|Vt|Dv|Li|Em|Sy|Op|Nm|Sx|Pq'
 
 
 def blank(found: re.Match[str]) -> str:
-    """Spaces and line feeds in place of a text, so that places stay."""
+    """Spaces and line feeds in place of a text, so that places do not change."""
     return re.sub(r'[^\n]', ' ', found.group())
 
 
 def prose(path: Path) -> str:
-    """The prose of a file at its own places, with each paragraph in one line."""
+    """The prose of a file at its original places, with each paragraph in one line."""
     text = path.read_text(encoding='utf-8')
     if path.suffix in ('.js', '.rt'):
         text = re.sub(r'(?m)^\s*(?://|/?\*).*', blank, text)
@@ -53,7 +53,7 @@ def prose(path: Path) -> str:
 
 
 def places(path: Path) -> Iterator[tuple[int, str, str]]:
-    """The line, the pattern, and the words around each place that a pattern finds."""
+    """For each place that a pattern finds: its line, the pattern, and the words around it."""
     text, original = prose(path), path.read_text(encoding='utf-8')
     for pattern, form in PATTERNS.items():
         for found in re.finditer(form, text):

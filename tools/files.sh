@@ -7,7 +7,7 @@ umask 022
 room=$(mktemp -d)
 trap 'rm -rf "$room"' EXIT
 
-# each COMMAND: calls it with the source, the target, and the mode of each file, without patterns.
+# each COMMAND: calls a command with the source, the target, and the mode of each file, with patterns expanded.
 each() {
     while read -r source place mode package needed; do
         case $source in '' | '#'*) continue ;; esac
@@ -24,7 +24,7 @@ each() {
     done < dist.list
 }
 
-# The calls of the library, each of which has the man page by its name too.
+# The calls of the library, for each of which there is a man page of that name.
 calls() { sed -n '/^\.Sh SYNOPSIS/,/^\.Sh DESCRIPTION/s/^\.Fn \([a-z0-9_]*\) .*/\1/p' man/libcdpatch.3; }
 
 assert_made() {
@@ -32,7 +32,7 @@ assert_made() {
     [ -e "$1" ] || { echo "There is no $1: run make first." >&2; exit 1; }
 }
 
-# page FILE: a page without the parts that are left out.
+# page FILE: prints a page without the parts that are left out.
 page() {
     for part in $LEAVE_OUT; do
         echo "/^<!-- $part -->\$/,/^<!-- end of $part -->\$/d"
@@ -40,8 +40,8 @@ page() {
     sed -f "$room/parts" "$1"
 }
 
-# text FILE: a page with the places of this installation, in which it has those of /usr/local, or a file for other programs, in which they
-# stand as @libdir@.
+# text FILE: prints a page, which names /usr/local, with the directories of this installation; or a file for other programs, in which they
+# are written @libdir@.
 text() {
     page "$1" | sed -e 's|/usr/local/share/cdpatch/python|@pythondir@|g; s|/usr/local/share/cdpatch|@pagedir@|g' \
         -e 's|/usr/local/share/doc/cdpatch|@docdir@|g' | sed -e "s|@pythondir@|$pythondir|g; s|@pagedir@|$pagedir|g; s|@docdir@|$docdir|g" \
@@ -50,7 +50,7 @@ text() {
         -e "s|@includes@|$(realpath -ms --relative-to="$cmakedir" "$includedir")|" -e "/^[a-z]*dir=/s|=$prefix/|=\${prefix}/|"
 }
 
-# A text is installed from a file of its own: a redirection would follow a link at the target.
+# place: installs a text from a temporary file: a redirection would follow a link at the target.
 place() {
     target=$DESTDIR$2
     case $3 in
@@ -75,13 +75,13 @@ copy() {
     esac
 }
 
-# What Python compiled of the files, whatever release they were of.
+# remove_compiled: removes the files that Python compiled, whatever release they are from.
 remove_compiled() {
     rm -rf "$DESTDIR$pythondir/cdpatch/__pycache__"
     rm -f "$DESTDIR$pythondir"/__pycache__/backend.*.pyc
 }
 
-# The directories that only cdpatch has. Others may own the rest, even if it is empty.
+# remove_directories: removes the directories that only cdpatch has. Others may belong to someone else, even if empty.
 remove_directories() {
     for directory in "$docdir/docs" "$docdir/examples" "$docdir" "$pythondir/cdpatch" "$pagedir/python/__pycache__" "$pagedir/python" \
         "$pagedir" "$cmakedir"; do

@@ -20,7 +20,7 @@ has_version() {
     [ "$(./cdpatch --help | tail -n 1)" = "cdpatch $version" ] && grep -m 1 '^## ' CHANGELOG.md | grep -q "^## $version (20[0-9-]*)$"
 }
 has_tools() { { python3 -B tools/pack.py --versions && cat library/cdpatch.wasm.txt; } | cmp -s tools/versions.txt -; }
-# made FILE COMMAND..: whether a command makes a file like this one in the scratch directory.
+# made FILE COMMAND..: whether a command creates a file identical to this one in the scratch directory.
 made() { "${@:2}" && cmp -s "$1" "$scratch/$(basename "$1")"; }
 
 fit 'the sources have changes that are not committed, or no commit' committed

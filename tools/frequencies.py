@@ -1,4 +1,4 @@
-"""Generates web/core/texts/frequencies.js, which says how often characters occur in Japanese man pages: `frequencies.py DIRECTORY..`.
+"""Generates web/core/texts/frequencies.js, the frequencies of characters in Japanese man pages: `frequencies.py DIRECTORY..`.
 
 It was made of those of Debian 12, of the packages manpages-ja, dpkg, apt, man-db, passwd, login and vim-common, whose licences are free. It has counts,
 and none of their words: of each character log2(65536 * its share), from 0 bits up; and of kinds of characters, in quarter bits,
@@ -17,13 +17,14 @@ KINDS = 6
 LEAST = 4
 MOST_QUARTERS = 16
 
-# What is not counted: to ASCII, line ends, control codes and half-width kana from anything else, and from half-width kana.
+# Scores for pairs that are not counted: to ASCII, line ends, control codes, and half-width kana from anything else, and from half-width
+# kana.
 NARROW = [-12, 0, 0, -18]
 HALF_WIDTH = [*[-8] * KINDS, -12, -8, -8, 0]
 
 
 def kind(character: str) -> int:
-    """1 hiragana, 2 katakana, 3 kanji, 4 signs, 5 wide letters and digits, 0 what is none of these."""
+    """The kind of a character: 1 hiragana, 2 katakana, 3 kanji, 4 signs, 5 wide letters and digits, 0 anything else."""
     if '\u3041' <= character <= '\u309F':
         return 1
     if '\u30A0' <= character <= '\u30FF':
@@ -36,7 +37,7 @@ def kind(character: str) -> int:
 
 
 def lines_of(page: Path) -> list[str]:
-    """The lines of a page, without macros and escapes."""
+    """The lines of a page without macros and escapes."""
     text = gzip.decompress(page.read_bytes()).decode('utf-8', 'ignore')
     return [re.sub(r'\\f.|\\\(..|\\.', '', line) for line in text.splitlines() if not line.startswith(('.', "'"))]
 

@@ -20,7 +20,7 @@ LONGEST_LINE = 140
 class Field(NamedTuple):
     name: str
     kind: str
-    items: int  # 0 if it is no array
+    items: int  # 0 if it is not an array
     at: int
 
 
@@ -38,7 +38,7 @@ def enumerators(body: str) -> dict[str, int]:
 
 
 def laid_out(body: str, numbers: dict[str, int]) -> tuple[list[Field], int]:
-    """The fields of a struct, each at a multiple of its size, and the size of the whole, a multiple of the largest of them."""
+    """The fields of a struct, each at a multiple of its size, and the size of the struct, a multiple of its largest field."""
     fields, end, largest = [], 0, 1
     for kind, name, count in re.findall(r'(\w+) (\w+)(?:\[(\w+)\])?;', body):
         size = SIZES[kind]
@@ -60,7 +60,7 @@ def read(header: str) -> Header:
 
 
 def wrapped(begin: str, items: list[str], end: str) -> str:
-    """Items with commas between them after a beginning, on lines of at most LONGEST_LINE characters."""
+    """Items separated by commas after a beginning, in lines of at most LONGEST_LINE characters."""
     indent = ' ' * (len(begin) - len(begin.lstrip()) + 4)
     lines = [begin + items[0]]
     for item in items[1:]:
@@ -112,7 +112,7 @@ def python(header: Header) -> str:
 
 
 def write(path: Path, text: str) -> None:
-    """Writes a file, in one step, if it would change: others may read it meanwhile."""
+    """Writes a file in one step, and only if it changes: others may be reading it."""
     if path.exists() and path.read_text() == text:
         return
     path.parent.mkdir(parents=True, exist_ok=True)

@@ -19,14 +19,14 @@ LONGEST_LINE = 76
 
 def declarations(code: str) -> str:
     found = re.findall(r'^(?:#define CDPATCH_(?!H$|AT_LEAST|NODISCARD).*?$|(?:enum|struct) [^;{]*\{.*?\};)', code, re.S | re.M)
-    # A line ends only between two enumerators or two fields.
+    # A line may break only between two enumerators or two fields.
     whole = [re.sub('(?<![,;{]) ', '\0', ' '.join(each.split())) for each in found]
     lines = [line for each in whole for line in textwrap.wrap(each, LONGEST_LINE, subsequent_indent='    ')]
     return '\n'.join(lines).replace('\0', ' ') + '\n'
 
 
 def prototypes(code: str) -> str:
-    """The calls. What points to one thing has no size there."""
+    """The prototypes of the calls. A pointer to a single object has no size here."""
     code = re.sub(r'(\w+)\[CDPATCH_AT_LEAST 1\]', r'*\1', code).replace('CDPATCH_AT_LEAST ', '')
     found = re.findall(r'^([a-z][\w ]*) (cdpatch_\w+)\(([^;]*)\);', code, re.M)
     words = [(answer, name, ' '.join(f'"{" ".join(each.split())}"' for each in given.split(','))) for answer, name, given in found]
@@ -34,7 +34,7 @@ def prototypes(code: str) -> str:
 
 
 def marked(word: str) -> str:
-    """A word of a comment as a line of mdoc, if it is a name; '' if it is plain text."""
+    """A word of a comment as a line of mdoc if it is a name; '' if it is plain text."""
     found = re.fullmatch(r'(\(?)(?:(cdpatch_\w+)|(\w+)\((\d)\)|`([^`]+)`)([.,:;)]*)', word)
     if not found:
         return ''
@@ -51,7 +51,7 @@ def marked(word: str) -> str:
 
 
 def prose(text: str) -> str:
-    """A paragraph of a comment in mdoc: a name on a line of its own, and each sentence on new lines."""
+    """A paragraph of a comment in mdoc: each name on its own line, and each sentence on a new line."""
     lines, plain = [], ''
     for word in re.findall(r'\(?`[^`]+`\S*|\S+', text):
         name = marked(word)
@@ -79,7 +79,7 @@ def comment_text(comment: str) -> str:
 
 
 def calls(header: str) -> str:
-    """The calls with their comments, by the header's groups."""
+    """The calls with their comments, grouped as in the header."""
     pages: list[str] = []
     for group in re.split(r'(?m)^ \* @name |^/\*\* @name ', header[header.index('/** Returns the version of the library'):]):
         title, _, rest = ('Version and results', '', group) if not pages else group.partition('\n')
@@ -91,12 +91,12 @@ def calls(header: str) -> str:
 
 
 def rules(header: str) -> str:
-    """What holds for all calls."""
+    """The header's rules for all calls."""
     return comment_text(header[header.index('\n *\n') + 4:header.index('\n *\n * @file')])
 
 
 def remade(page: str, header: str) -> str:
-    """A page with its parts made anew; those of other tools stay."""
+    """A page with its parts regenerated; parts of other tools do not change."""
     numbers = header_numbers.read(header).numbers
     code = re.sub(r'/\*.*?\*/', '', header, flags=re.S)
     parts = {'declarations': declarations(code), 'prototypes': prototypes(code), 'calls': calls(header),

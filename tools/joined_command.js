@@ -1,4 +1,4 @@
-// The object JOINED that esbuild gives the command. tools/pack.py puts the files where these imports find them.
+// Exports the object JOINED that esbuild injects into the command. tools/pack.py provides the files at these paths.
 
 import module from '../module.gz';
 import notices from '../notices.gz';

@@ -1,5 +1,5 @@
-// The object JOINED that esbuild gives the page. tools/pack.py puts the files where these imports find them. In a worker `script` is empty,
-// since it starts no others.
+// Exports the object JOINED that esbuild injects into the page. tools/pack.py provides the files at these paths. In a worker `script` is
+// empty, since a worker starts no others.
 
 import module from '../module.gz';
 import notices from '../notices.gz';

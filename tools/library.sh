@@ -12,9 +12,9 @@ kit=$(dirname "$kit")
 scratch=$(mktemp -d)
 trap 'rm -rf "$scratch"' EXIT
 
-# objects SUFFIX DIRECTORY: makes a directory with the objects of the crates as they were built with this suffix, and the toolchain's three
-# functions for memory, over malloc. Every library of this toolchain has these three by the same names. Here they get others, of the same length, so that
-# a program can use another such library too, and by sed, so that make wants no objcopy.
+# objects SUFFIX DIRECTORY: creates a directory with the objects of the crates built with this suffix, and with the toolchain's three
+# functions for memory, over malloc. Every library of this toolchain has these three under the same names. They are renamed here, to names
+# of the same length, so that a program can also use a different such library. sed does this, so that make does not need objcopy.
 objects() {
     local name
     mkdir "$2"
@@ -25,11 +25,11 @@ objects() {
     find "$2" -type f -exec env LC_ALL=C sed -i -z -E 's/^rattle_(alloc|dealloc|realloc)$/cdpatch\1/' {} +
 }
 
-# calls_of FILE..: the calls of source files of cd_c, as the linker keeps them.
+# calls_of FILE..: prints the options by which the linker keeps the calls of these source files of cd_c.
 calls_of() { (cd crates/cd_c/src && sed -n 's/^pub extern "C" fn \([a-z0-9_]*\).*/--undefined=\1/p' "$@"); }
 
-# part OBJECTS: makes of the object of cd_c one for each source file with calls, with what they call. A program that is linked statically takes
-# no more of them than it needs. Files whose calls have most of their code in common are one.
+# part OBJECTS: splits the object of cd_c into one for each source file with calls, together with the code that they call. A statically
+# linked program gets only those that it needs. Files whose calls share most of their code remain together.
 part() {
     local pair files calls alone
     mapfile -t alone < <(cd crates/cd_c/src && grep -l '^pub extern "C" fn' -- *.rt | grep -vxE '(changes|sectors|broken|surveying)\.rt')
@@ -41,21 +41,21 @@ part() {
     rm "$1/cd_c.o"
 }
 
-# archive OBJECTS FILE
+# archive OBJECTS FILE: creates the static library.
 archive() {
     rm -f "$2"
     "$kit/toolchain/bin/llvm-ar" rc "$2" "$1"/*.o
     chmod 644 "$2"
 }
 
-# note LEVELS FILE: an object with the note by which the loader (glibc 2.33 or later) refuses a library that needs more than the
-# processor has: a bit for each of the levels from x86-64 on. The linker drops the note from a section of the usual name.
+# note LEVELS FILE: creates an object with the note by which the loader (glibc 2.33 or later) refuses a library that needs more than the
+# processor has: a bit for each level from x86-64 on. The linker would drop the note from a section with the usual name.
 note() {
     printf '%s\n' '.section .note.processor, "a", @note' '.balign 8' '.long 4, 16, 5' '.asciz "GNU"' '.long 0xc0008002, 4' \
         ".long $1" '.long 0' | "$kit/toolchain/bin/clang" -c -x assembler - -o "$2"
 }
 
-# link OBJECTS LEVELS FILE: a shared library that shows only the calls.
+# link OBJECTS LEVELS FILE: links a shared library that exports only the calls.
 link() {
     note "$2" "$scratch/note.o"
     "$kit/toolchain/bin/ld.lld" -shared -soname libcdpatch.so.1 --version-script=tools/libcdpatch.map -z now -z noexecstack \

@@ -5,7 +5,7 @@ set -euo pipefail
 crates=$(dirname "$(rt doc)")/rattle
 cd "$(dirname "$0")/.."
 
-# The crates that crates.txt names and does not define.
+# ported_crates: prints the crates that crates.txt names and does not define.
 ported_crates() {
     local name words word own=' ' named=''
     while IFS=: read -r name words; do
@@ -17,7 +17,7 @@ ported_crates() {
     done | sort -u
 }
 
-# The licence of a crate: MIT, if it may be chosen, and what else has to go along.
+# licence_of CRATE: prints its licence, MIT if there is a choice, and the texts that must accompany it.
 licence_of() {
     local file found=''
     for file in "$crates/$1"/LICENSE-MIT "$crates/$1"/LICENSE "$crates/$1"/LICENSE-UNICODE; do

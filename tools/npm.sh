@@ -12,7 +12,7 @@ cd "$(dirname "$0")/.."
 scratch=$(mktemp -d)
 trap 'rm -rf "$scratch"' EXIT
 mkdir "$scratch/package"
-# joined OUT WORD..: the interface and the core in one file.
+# joined OUT WORD..: bundles the interface and the core into one file.
 joined() {
     esbuild web/npm/cdpatch.js --bundle --format=esm --platform=neutral --target=es2022 --charset=utf8 --legal-comments=none \
         --log-level=warning --outfile="$scratch/package/$1" "$2"
@@ -27,7 +27,7 @@ for file in npm/{cdpatch,errors} core/module/{arena,calls,index,numbers,records,
 done
 cp web/npm/README.md web/npm/example.html "$library"/{cdpatch.wasm,NOTICES} "$scratch/package"
 [ ! -f LICENSE ] || cp LICENSE "$scratch/package"
-# npm starts a command by the first line, on all systems.
+# npm starts a command by its first line on all systems.
 { echo '#!/usr/bin/env node'; sed "1,/^\*\/;$/d" "$cdscript"; } > "$scratch/package/cdscript.cjs"
 chmod +x "$scratch/package/cdscript.cjs"
 cat > "$scratch/package/package.json" << END

@@ -16,7 +16,7 @@ from pathlib import Path
 
 TOP = Path(__file__).resolve().parent.parent
 
-# What names and values stand for, if they are no files: names of what is made, texts and numbers, and, of single commands, paths and texts.
+# Placeholders that are not existing file names: created files, texts and numbers, and paths and texts of single commands.
 NEW_FILES = {'OUT'}
 WORDS = {'TEXT', 'BLOCK', 'OFFSET', 'N', 'HEX', 'NAME'}
 WORDS_OF = {'extract': {'PATH'}, 'replace-file': {'PATH'}, 'replace': {'OLD', 'NEW'}, 'texts': {'PATH'}}
@@ -24,7 +24,7 @@ WORDS_OF = {'extract': {'PATH'}, 'replace-file': {'PATH'}, 'replace': {'OLD', 'N
 
 @dataclass
 class Option:
-    """An option as help has it: `short` or `long` may be ''; `value` is '' if it takes none."""
+    """An option in help. `short` or `long` may be ''; `value` is '' if it has none."""
     short: str
     long: str
     value: str
@@ -40,14 +40,14 @@ class Option:
 
     @property
     def values(self) -> list[str]:
-        """The values that help lists, as `how texts are written: hex, CP932`."""
+        """The values that help lists, such as `how texts are written: hex, CP932`."""
         listed = re.search(r': ((?:[\w-]+, )+[\w-]+)$', self.does) if self.value == 'NAME' else None
         return listed.group(1).split(', ') if listed else []
 
 
 @dataclass
 class Command:
-    """A command: what it does, the names that it takes, in each of its forms, its options, and what status 1 means."""
+    """A command: its description, the arguments of each of its forms, its options, and the meaning of status 1."""
     name: str
     says: str
     forms: list[list[str]]
@@ -75,7 +75,7 @@ def printed(*words: str) -> str:
 
 
 def options_in(text: str) -> list[Option]:
-    """The options of a help text; what an option does may go on in the next lines."""
+    """The options of a help text. A description may continue in the next lines."""
     row = r'(?m)^  (?:(-\w)(?:, )?|    )?(--[a-z-]+)? *(<?[A-Z]+>?)?(?: {2,}|$)(.*(?:\n {12,}\S.*)*)'
     rows = re.findall(row, text.partition('\nOptions:\n')[2])
     return [Option(short, long, value.strip('<>'), re.sub(r' \[default: .*\]$', '', ' '.join(does.split())))
@@ -83,7 +83,7 @@ def options_in(text: str) -> list[Option]:
 
 
 def forms_in(text: str, name: str) -> list[list[str]]:
-    """What a command takes, form by form: `IMAGE`, `OTHER..`, and what may be missing in brackets."""
+    """The arguments of each form of a command: `IMAGE`, `OTHER..`, and optional ones in brackets."""
     usages = re.findall(rf'(?m)^(?:Usage:|      ) \w+ {name} \[OPTIONS\] (.*)$', text)
     return [re.findall(r'\[[^]]*\]|--?\S+|[A-Z]+(?:\.\.)?', usage.replace('<', '').replace('>', '')) for usage in usages]
 
@@ -103,7 +103,7 @@ def program_of(path: Path) -> Program:
 # ---- completions
 
 def offered(command: str, name: str) -> str:
-    """What a name of a command is: `files`, `directories`, in which a new file is to stand, or '' for what no shell knows."""
+    """The kind of an argument: `files`; `directories` for the place of a new file; or '' if no shell can complete it."""
     bare = re.sub(r'\.\.$', '', name)
     if bare in NEW_FILES:
         return 'directories'
@@ -117,7 +117,7 @@ def offered_value(option: Option) -> str:
 
 
 def places(command: Command) -> list[tuple[str, str]]:
-    """What each name of a command is, by its number, which has a `+` if more names may follow. The last one may be one more OTHER."""
+    """The kind of each argument by its number, which has a `+` if more may follow. The last one may be repeated."""
     found: list[tuple[str, str]] = []
     for number, name in enumerate(command.forms[0]):
         if name.endswith('..'):
@@ -127,7 +127,7 @@ def places(command: Command) -> list[tuple[str, str]]:
 
 
 def grouped(rows: Iterable[tuple[str, str]]) -> dict[str, list[str]]:
-    """The first of each pair, by the second."""
+    """The first elements of pairs, grouped by the second."""
     found: dict[str, list[str]] = {}
     for one, other in rows:
         found.setdefault(other, []).append(one)
@@ -161,7 +161,7 @@ def zsh_text(text: str) -> str:
 
 
 def zsh_option(option: Option) -> str:
-    """The specification of an option for _arguments."""
+    """The specification of an option for zsh's _arguments."""
     kinds = {'files': '_files', 'directories': '_path_files -/', '': ' '}
     both = f'{{{option.short},{option.long}}}' if option.short and option.long else ''
     if not option.value:
@@ -199,7 +199,7 @@ def fish_option(program: Program, option: Option) -> str:
     elif option in program.own:
         condition = f' -n __{program.name}_begins'
     else:
-        # While a value of its own is completed, an option stands there already.
+        # While its own value is being completed, an option is on the line already.
         word = option.long[2:] or f'-s {option.short[1:]}'
         used = '' if option.repeated or option.values or offered_value(option) else f'; and not __fish_contains_opt {word}'
         condition = f" -n '__{program.name}_is {' '.join(takers)}{used}'"
@@ -247,7 +247,7 @@ def mdoc_option(option: Option) -> str:
 
 
 def mdoc_names(form: Sequence[str]) -> str:
-    """What a command takes, as macros of mdoc in one line."""
+    """The arguments of a form as macros of mdoc in one line."""
     text = ''
     for name in form:
         if name.startswith('['):
@@ -255,7 +255,7 @@ def mdoc_names(form: Sequence[str]) -> str:
         elif name.startswith('-'):
             text += f' Fl Fl {name.lstrip("-")}'
         else:
-            # One macro takes all names up to the next one.
+            # One macro applies to all names up to the next macro.
             text += ('' if re.search(r'Ar [a-z .]+$', text) else ' Ar') + f' {name.lower().replace("..", " ...")}'
     return text.strip()
 
@@ -263,7 +263,7 @@ def mdoc_names(form: Sequence[str]) -> str:
 def synopsis(program: Program) -> list[str]:
     lines = []
     for command in program.commands:
-        # An option of one form is none of the others.
+        # An option that is a form's own is not an option of other forms.
         single = {'--help'}.union(*command.forms)
         for form in command.forms:
             lines += ['.Nm', f'.Cm {command.name}']
@@ -273,7 +273,7 @@ def synopsis(program: Program) -> list[str]:
 
 
 def heads_of_commands(program: Program) -> dict[str, tuple[str, str]]:
-    """For each command its head in a list of mdoc, and what help says of it."""
+    """For each command its head in a list of mdoc, and its description in help."""
     return {it.name: (f'.It Cm {it.name} {mdoc_names(it.forms[0])}', it.says) for it in program.commands}
 
 
@@ -286,7 +286,7 @@ def heads_of_options(program: Program) -> dict[str, tuple[str, str]]:
 
 
 def items_of(lines: Sequence[str]) -> dict[str, list[str]]:
-    """The prose below each head of a list, by the command or option of the head. Lists within it are its own."""
+    """The prose below each head of a list, by the command or option of the head. Nested lists belong to it."""
     items: dict[str, list[str]] = {}
     depth, key = 0, ''
     for line in lines:
@@ -303,13 +303,13 @@ def items_of(lines: Sequence[str]) -> dict[str, list[str]]:
 
 
 def made_list(lines: Sequence[str], heads: dict[str, tuple[str, str]]) -> list[str]:
-    """A list with the heads that it is to have, each with its prose, or if it has none yet with what help says."""
+    """A list with the given heads, each with its existing prose, or with its description in help if it is new."""
     items = items_of(lines)
     return [line for key, (head, says) in heads.items() for line in [head, *items.get(key, [f'{says[0].upper()}{says[1:].rstrip(".")}.'])]]
 
 
 def statuses_list(program: Program) -> list[str]:
-    """What status 1 means, for the commands that may return it. Those for which it means the same are together."""
+    """The meanings of status 1 for the commands that may return it. Commands with the same meaning are together."""
     meanings = grouped((command.name, command.found) for command in program.commands if command.found)
     return [line for found, names in meanings.items()
             for line in [f'.It Cm {" , ".join(names)}', *textwrap.wrap(f'{found[0].upper()}{found[1:]}.', 78)]]
@@ -321,7 +321,7 @@ def commands_table(program: Program) -> list[str]:
 
 
 def part(program: Program, name: str, lines: Sequence[str]) -> list[str]:
-    """A made part of a page, of the lines that it has."""
+    """A generated part of a page, based on its current lines."""
     if name == 'synopsis':
         return synopsis(program)
     made = {'table': commands_table, 'statuses': statuses_list}
@@ -331,7 +331,7 @@ def part(program: Program, name: str, lines: Sequence[str]) -> list[str]:
 
 
 def remade(text: str, program: Program) -> str:
-    """A page with its parts made anew."""
+    """A page with its parts regenerated."""
     def make(found: re.Match[str]) -> str:
         begin, name, lines, end = found.group(1), found.group(2), found.group(3).splitlines(), found.group(4)
         return begin + ''.join(f'{line}\n' for line in part(program, name, lines)) + end

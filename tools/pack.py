@@ -29,15 +29,15 @@ from pathlib import Path
 TOOLS = Path(__file__).resolve().parent
 LARGEST_PAGE = 520_000
 NEEDS = 'cdscript needs node 18 or later'
-# The paths of modules can get into what is made. So esbuild finds all under the same names. It would follow web/tsconfig.json too.
+# The paths of modules can occur in the output, so esbuild finds all of them under fixed names. It would also use web/tsconfig.json.
 EVERY = ['--bundle', '--charset=utf8', '--legal-comments=none', '--log-level=warning', '--log-limit=0', '--loader:.gz=base64',
          '--tsconfig=none.json', '--preserve-symlinks', '--minify-whitespace']
 COMMAND = ['--platform=node', '--target=node18', '--format=cjs', '--inject:tools/joined_command.js',
            '--footer:js=if (require.main === module) module.exports.start();']
-# esbuild does not say by itself that modules are strict. Of a text it writes the line ends as they are: a text with the mark before a
-# patcher's data is refused below, and has to be joined of two.
+# esbuild does not know that modules are strict. It keeps line ends in texts: a text with the mark before a patcher's data is refused below,
+# and has to be joined from two.
 PAGE = ['--target=es2022', '--format=iife', '--minify-identifiers', '--minify-syntax', "--banner:js='use strict';"]
-# A shell runs the lines to `exec`, which are a comment for node. Node would take a closed stream for an empty one.
+# A shell runs the lines up to `exec`, which are a comment for node. Node would treat a closed stream as an empty one.
 SHELL = f"""\
 #!/bin/sh
 ':' /*
@@ -57,7 +57,7 @@ ICON = '<link rel="icon" href="icon.svg">'
 STYLE = '<link rel="stylesheet" href="style.css">'
 DATA = '<plaintext hidden id="data">\n'
 END = f'<script type="module" src="main.js"></script>\n{DATA}'
-# The text of a key in english.js, which may go on in lines that are set in.
+# The text of a key in english.js, which may continue in indented lines.
 TEXT = r'''^export const {} = (['"].*(?:\n    .*)*);$'''
 POLICY_TAG = '<meta http-equiv="Content-Security-Policy" content="'
 POLICY = ("default-src 'none'; script-src '{script}' 'wasm-unsafe-eval'; style-src '{style}'; worker-src blob:; img-src data: blob:; "
@@ -65,7 +65,7 @@ POLICY = ("default-src 'none'; script-src '{script}' 'wasm-unsafe-eval'; style-s
 
 
 def esbuild(*words: str, at: Path = TOOLS) -> str:
-    """What esbuild prints. What it only warns of is a failure too."""
+    """Runs esbuild and returns its output. A warning is an error."""
     try:
         ran = subprocess.run(['esbuild', *words], stdout=subprocess.PIPE, stderr=subprocess.PIPE, check=False, cwd=at)
     except FileNotFoundError:
@@ -101,7 +101,7 @@ def cut(text: str, line: str) -> list[str]:
 
 
 def with_texts(web: Path) -> str:
-    """page.html with its texts. Those that `+` joins over the end of a line are joined for Python as they stand."""
+    """page.html with its texts inserted. Python joins adjacent strings, so a `+` at the end of a line is dropped."""
     english = read(web / 'page' / 'texts' / 'english.js').decode()
 
     def text_of(found: re.Match[str]) -> str:
@@ -114,7 +114,7 @@ def with_texts(web: Path) -> str:
 
 
 def page_pieces(web: Path) -> list[str]:
-    """What stands before the policy, between it and the style, between that and the script, and after it."""
+    """The parts of the page before the policy, between policy and style, between style and script, and after the script."""
     icon = base64.b64encode(read(web / 'page' / 'icon.svg')).decode()
     text = f'<link rel="icon" href="data:image/svg+xml;base64,{icon}">'.join(cut(with_texts(web), ICON))
     before, rest = cut(text, CHARSET)
@@ -133,7 +133,7 @@ def page(parts: Path, made: list[str]) -> str:
     pieces = page_pieces(parts / 'web')
     style = esbuild('web/page/style.css', *EVERY, at=parts)
     policy = POLICY.format(script='{script}', style=hash_of(style))
-    # By this the page makes its own text again. The hash of its script can't stand in the script.
+    # The page reproduces its own text from this. The hash of its script cannot be part of the script.
     own = {'html': pieces, 'policy': policy.split('{script}'), 'made': made, 'licensed': (TOOLS.parent / 'LICENSE').is_file(),
            'style': {'size': len(style.encode()), 'sha1': hashlib.sha1(style.encode()).hexdigest()}}
     (parts / 'own.gz').write_bytes(packed(json.dumps(own, ensure_ascii=False).encode()))
@@ -148,7 +148,7 @@ def page(parts: Path, made: list[str]) -> str:
 
 
 def packed_door(door: str, web: Path, module: Path, notices: Path) -> str:
-    """The file of a door, made in a directory where all that goes in has a name that is always the same."""
+    """Packs a door in a temporary directory in which all input files have fixed names."""
     with tempfile.TemporaryDirectory() as name:
         parts = Path(name)
         (parts / 'web').symlink_to(web.resolve())

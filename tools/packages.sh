@@ -3,7 +3,7 @@
 # by default those of the first two parts.
 set -u
 
-# is_here NAME: whether there is a command of this name, or Python can do this import.
+# is_here NAME: whether there is a command of this name, or Python can import this module.
 is_here() {
     case $1 in
         'import '*) /usr/bin/python3 -c "$1" 2> /dev/null ;;

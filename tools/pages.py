@@ -15,52 +15,52 @@ from pathlib import Path
 import contracts as sources
 from contracts import TOP, crates, code_of
 
-# What the headline of `apply` rests on is what its contract names, and those of the streams that it is given; the whole theorem is
-# the contract of the program over files in memory.
+# The headline of `apply` depends on the definitions in its contract, and on those of the streams that it uses. The whole theorem is the
+# contract of the program over files in memory.
 HEADLINE = ('crates/cd_image/src/applying.rt', 'crates/cd_stream/src/source.rt', 'crates/cd_stream/src/sink.rt')
 THEOREM = ('crates/cd_memory/src/run.rt',)
 
-# How the first comment of a file is marked, line by line or at its ends. Other files have no row.
+# The marks of a file's first comment: at each line, or at both ends. Files of other types have no row.
 LINES = {'.rt': '//[/!]', '.antt': '--', '.js': '//', '.mjs': '//', '.rs': '//!', '.sh': '#', '': '#'}
 C_COMMENT = r'/\*', r'\*/'
 ENDS = {'.py': ('"""', '"""'), '.c': C_COMMENT, '.h': C_COMMENT, '.css': C_COMMENT, '.map': C_COMMENT}
 
-# What does not say what it is, until its crate is changed anyway: a comment costs a proof of the crates above.
+# Files and definitions without a description until their crate is changed for another reason: a comment costs a proof of the crates above.
 UNSAID = {'crates/cd_c/specs/State.antt', 'crates/cd_c_scripts/specs/NumberLaws.antt: FaultsHaveNumbers'}
 
-# Directories without a table of files: what is built, what is data, and the crates, whose files have tables of their own.
+# Directories without a table of files: built files, data, and the crates, whose files have their own tables.
 NO_TABLE = {'crates', 'docs', 'man', 'completions', 'library', 'node_modules', 'out', 'wrong', 'wrong_programs', '__pycache__'}
 
 
 def sentence(text: str) -> str:
-    """The first sentence of a text's first paragraph, in one line, as the cell of a table."""
+    """The first sentence of a text's first paragraph as a table cell, in one line."""
     text = ' '.join(re.split(r'\n *\n', text.strip())[0].split())
     end = re.search(r'[.?!](?= +[A-Za-z`([]|$)', text)
     return cell(text[:end.start()] if end else text)
 
 
 def cell(text: str) -> str:
-    """A text as the cell of a table: in one line, without links of rustdoc."""
+    """A text as a table cell: in one line, without rustdoc links."""
     text = re.sub(r'\[(`[^`\]]*`)\]', r'\1', ' '.join(text.split()))
     return text.replace('|', r'\|')
 
 
 def said(what: str, words: str) -> str:
-    """The words of something, which has to have some; the more, if it stands in UNSAID."""
+    """A description, which must exist, unless it is listed in UNSAID, where it must not."""
     if bool(words) == (what in UNSAID):
         sys.exit(f'{what} says what it is, and stands in UNSAID' if words else f'{what} does not say what it is')
     return words
 
 
 def about(path: Path) -> str:
-    """What a file has, by its first comment."""
+    """The subject of a file according to its first comment."""
     text = path.read_text(encoding='utf-8')
     if path.suffix in ENDS:
         begin, end = ENDS[path.suffix]
         found = re.search(f'{begin}(.*?){end}', text, re.DOTALL)
         words = re.sub(r'(?m)^ *\*', '', found.group(1)) if found else ''
     elif path.suffix == '.antt':
-        # A comment right above a definition is that definition's.
+        # A comment directly above a definition belongs to the definition.
         found = re.match(r'(?:--.*\n)+(?=use |$|\n)', text)
         words = re.sub(r'(?m)^--', '', found.group()) if found else ''
     else:
@@ -92,7 +92,7 @@ def head_of(crate: str) -> Path:
 # ---- the map
 
 def uses() -> list[str]:
-    """Which crates the code of each crate uses."""
+    """The crates that the code of each crate uses."""
     rows = []
     for crate in crates():
         code = ''.join(file.read_text(encoding='utf-8') for file in code_of(crate))
@@ -109,7 +109,7 @@ def files_of_crate(crate: str) -> list[str]:
 
 
 def directories() -> Iterator[Path]:
-    """The directories of the sources besides the crates, each with the files that say what they have."""
+    """The directories of the sources other than the crates."""
     for folder in sorted(path for path in TOP.rglob('*') if path.is_dir()):
         parts = folder.relative_to(TOP).parts
         if not NO_TABLE.intersection(parts) and not any(part.startswith('.') for part in parts):
@@ -117,7 +117,7 @@ def directories() -> Iterator[Path]:
 
 
 def map_page() -> list[str]:
-    """Each file of the sources that has a place of its own, with what it has."""
+    """The subject of each file of the sources."""
     lines = ['# What each file has', *uses()]
     for crate in crates():
         lines += ['', f'## {crate}', '', about(head_of(crate)), *files_of_crate(crate)]
@@ -142,7 +142,7 @@ def calls_table(crate: str) -> list[str]:
 
 
 def definitions_table(crate: str, book: sources.Book) -> list[str]:
-    """The definitions of a crate on which public contracts stand, with the calls that cite them, and the names of all others."""
+    """The definitions of a crate on which public contracts depend, with the calls that cite them, and the names of all others."""
     promised, steps = [], []
     for definition in book.of_crate(crate):
         comment = said(f'crates/{crate}/specs/{definition.module}.antt: {definition.name}', definition.comment)
@@ -156,7 +156,7 @@ def definitions_table(crate: str, book: sources.Book) -> list[str]:
 
 
 def contracts_page() -> list[str]:
-    """What each crate promises: its calls with their clauses, and the definitions that these cite."""
+    """The promises of each crate: its calls with their clauses, and the definitions that these cite."""
     book = sources.Book()
     lines = ['# What each crate promises']
     for crate in crates():
@@ -169,7 +169,7 @@ def contracts_page() -> list[str]:
 # ---- what to read
 
 def visit(path: Path, seen: set[Path], order: list[Path], types: set[str]) -> None:
-    """Appends the files of definitions that a file names, each after those that it names itself."""
+    """Appends the definition files that a file uses, each after those that it uses itself."""
     if path in seen:
         return
     seen.add(path)
@@ -185,7 +185,7 @@ def visit(path: Path, seen: set[Path], order: list[Path], types: set[str]) -> No
 
 
 def reading() -> tuple[list[list[Path]], list[str]]:
-    """The files to read for the headline, those that the whole theorem adds, and the files of types that they name."""
+    """The files to read for the headline, the additional ones for the whole theorem, and the files of types that they name."""
     seen: set[Path] = set()
     types: set[str] = set()
     parts = []
@@ -203,7 +203,7 @@ def reading_table(order: Sequence[Path]) -> list[str]:
 
 
 def blocks(pattern: str) -> int:
-    """How many blocks, each of which begins with a line `[NAME]`, these tables have."""
+    """The number of blocks in these tables; each begins with a line `[NAME]`."""
     return sum(line.startswith('[') for table in TOP.glob(pattern) for line in table.read_text(encoding='utf-8').splitlines())
 
 
@@ -220,7 +220,7 @@ def figures() -> list[str]:
 
 
 def audit_page() -> list[str]:
-    """What to read to know what is promised, each file after those that it names."""
+    """The files to read in order to know what is promised, each after those that it uses."""
     (headline, rest), types = reading()
     return ['# What to read', '', 'docs/TRUST.md says what the theorem is. `make contracts` prints what each crate promises.', *figures(),
             '', '## For the headline of `apply`', '', f'Its contract stands in `{HEADLINE[0]}`.', *reading_table(headline),
@@ -236,7 +236,7 @@ PAGES: dict[str, Callable[[], list[str]]] = {'map': map_page, 'contracts': contr
 def main() -> int:
     if len(sys.argv) != 2 or sys.argv[1] not in PAGES:
         sys.exit(f'usage: python3 tools/pages.py {"|".join(PAGES)}')
-    # What reads a page may end before it, as `head` does.
+    # A reader of the output may end early, as `head` does.
     signal.signal(signal.SIGPIPE, signal.SIG_DFL)
     print('\n'.join(PAGES[sys.argv[1]]()))
     return 0

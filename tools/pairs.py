@@ -53,7 +53,7 @@ def is_character(text: str) -> bool:
 
 
 def runs(codes: list[int], wanted: set[int], barred: set[int]) -> Iterable[tuple[int, int]]:
-    """Stretches of codes in order that have what is wanted, and nothing that is barred."""
+    """Maximal runs of consecutive codes that begin and end with wanted codes and contain no barred ones."""
     first = last = None
     for code in codes:
         if code in barred and first is not None and last is not None:
@@ -79,7 +79,7 @@ def wrapped(parts: list[str]) -> str:
 
 
 def table(codes: list[int], python: list[str], node: list[str], standard: list[str]) -> str:
-    """A set's part of the module."""
+    """The part of the module for one encoding."""
     texts = dict(zip(codes, standard))
     agreed = {code for code, *all_texts in zip(codes, python, node, standard) if len(set(all_texts)) == 1}
     same = {code for code in agreed if is_character(texts[code])}

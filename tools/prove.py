@@ -33,14 +33,15 @@ ROOM = TOP / 'crates/cd_words/out/wasm64'
 
 
 def crates_for_modules():
-    """The crates that are proved once more for the modules, by names of their own, that of exports by MODULES: tools/wasm.sh says why."""
+    """The crates that are proved again for the modules, under separate names; the crate of exports is named MODULES. tools/wasm.sh explains
+    why."""
     subprocess.run(['bash', TOP / 'tools/wasm.sh', ROOM], check=True)
     own = [crate for crate in rtlib.crates_below(str(ROOM)) if not os.path.islink(f'{crate.folder}/out')]
     return {MODULES if crate.is_static else f'{crate.name} over words': crate for crate in own}
 
 
 def crates_of(goals):
-    """Each crate, and of those that the goals need the names of those that it stands on."""
+    """All crates by name, and for those that the goals need the names of the crates that they use."""
     crates = {crate.name: crate for crate in rtlib.crates_below(str(TOP))}
     crates |= crates_for_modules() if MODULES in goals else {}
     names = {crate.folder: name for name, crate in crates.items()}
@@ -54,13 +55,13 @@ def crates_of(goals):
 
 
 def size(crate):
-    """The bytes of a crate's text: roughly how long its proof takes."""
+    """The bytes of a crate's sources: roughly proportional to the time of its proof."""
     parts = (Path(crate.folder, part) for part in ('src', 'specs', 'proofs'))
     return 1 + sum(file.stat().st_size for part in parts for end in ('rt', 'antt') for file in part.rglob(f'*.{end}'))
 
 
 def ways(crates, graph):
-    """The bytes of the crates on the longest way from each up to a goal."""
+    """For each crate the bytes of the crates on the longest path from it up to a goal."""
     longest = {}
     for name in reversed(list(TopologicalSorter(graph).static_order())):
         longest[name] = size(crates[name]) + max((longest[above] for above in longest if name in graph[above]), default=0)
@@ -68,12 +69,12 @@ def ways(crates, graph):
 
 
 def stamp(crate):
-    """Notes that a library is up to date, as rt does of those that hold their proofs too."""
+    """Records that a library is up to date, as rt does for libraries that contain their proofs."""
     Path(crate.rlib).with_name('stamp').write_text(crate.stamp(), encoding='utf-8')
 
 
 def prove_library(crate, jobs):
-    """What `rt check` has kept of its work is not proved again."""
+    """Proves a crate and builds its library. Results that `rt check` has kept are not proved again."""
     status = 0 if crate.is_built() else crate.build_rlib(jobs, anew=not crate.has_kept())
     if status == 0:
         stamp(crate)
@@ -81,7 +82,7 @@ def prove_library(crate, jobs):
 
 
 def prove_static(crate, jobs, cpu):
-    """The second build takes what the first has proved."""
+    """Proves and builds a static library twice. The second build uses the proofs of the first."""
     made = f'{crate.folder}/out/lib{crate.name}'
     status = crate.build_static([*jobs, '--cpu', 'x86-64-v3'])
     if status == 0:
@@ -90,7 +91,7 @@ def prove_static(crate, jobs, cpu):
 
 
 def prove_modules(crate, jobs):
-    """Leaves the modules in library/, and the verdict, if they are not there or are of something else."""
+    """Writes the modules to library/ with the verdict, unless they are up to date."""
     made, kept = 'library/cdpatch', Path(crate.folder, 'out/made_of')
     made_of = crate.stamp() + Path('tools/lower.sh').read_text(encoding='utf-8')
     files = [Path(f'{made}{end}') for end in ('-wasm64.wasm', '-wasm64.txt', '.wasm', '.wasm.txt')]
@@ -111,10 +112,10 @@ def prove_modules(crate, jobs):
 
 
 def prove(name, crate, jobs, cpu):
-    """The status of a crate's proof, and what it printed: nothing if nothing has changed."""
+    """Proves a crate. Returns the status and the output, which is empty if nothing has changed."""
     with tempfile.TemporaryFile('w+', errors='replace') as out:
         if crate.is_program:
-            # One short function is left to prove: copies of rattle that share the work would make it longer.
+            # Only one short function is left to prove. Several copies of rattle would take longer.
             words = [*rtlib.guarded(), 'rt', 'run', '--jobs', '1', *cpu]
             status = subprocess.run(words, cwd=crate.folder, stdin=subprocess.DEVNULL, stdout=subprocess.DEVNULL, stderr=out).returncode
         else:
@@ -130,15 +131,15 @@ def prove(name, crate, jobs, cpu):
 
 
 def share(name, others, at_once, longest):
-    """The processors for a crate beside others, and what is left over for the one on the longest way: several at one proof take more of them
-    in all, so only what nothing else wants."""
+    """The number of processors for a crate beside others. Spare ones go to the crate on the longest path: several processors at one proof
+    use more CPU time in total, so it gets only those that are idle."""
     side_by_side = min(1 + len(others), at_once)
     over = rtlib.cores() % side_by_side if all(longest[name] >= longest[other] for other in others) else 0
     return rtlib.share(side_by_side) + over
 
 
 def prove_all(crates, graph, at_once, cpu):
-    """Whether all crates are proved. After one that is not, none begins."""
+    """Proves all crates, and returns whether this succeeded. After a failure, no further crate begins."""
     sorter, longest, ready, running, proved = TopologicalSorter(graph), ways(crates, graph), [], {}, 0
     sorter.prepare()
     with ThreadPoolExecutor(at_once) as pool:
@@ -163,7 +164,7 @@ def prove_all(crates, graph, at_once, cpu):
 
 def main(goals, at_once='', cpu=''):
     begun = time.monotonic()
-    rtlib.guarded()  # all that runs from here on ends with this
+    rtlib.guarded()  # all processes from here on end with this one
     rtlib.Crate.cuts_libraries = True
     os.chdir(TOP)
     crates, graph = crates_of(set(goals.split()))

@@ -28,20 +28,20 @@ LINKS = {'windows': [*SMALL, '-static-libgcc', '-Wl,--no-insert-timestamp', '-ls
 
 
 def run(*words: str | Path, **how: Any) -> None:
-    """Runs a command, and ends if it fails, after what it printed."""
+    """Runs a command. If it fails, exits with an error."""
     if subprocess.run(words, check=False, **how).returncode:
         sys.exit(f'targets.py: {Path(words[0]).name} failed')
 
 
 def by_clang(name: str, *words: str | Path) -> None:
-    """Calls one of the tools that the toolchain's clang is by other names."""
+    """Calls one of the tools that the toolchain's clang provides under other names."""
     run(name, *words, executable=KIT / 'bin/clang')
 
 
 # ---- the compilers
 
 def has_compiler(system: str) -> bool:
-    """Whether the system's compiler is there, and finds its C library."""
+    """Whether the system's compiler is installed, and finds its C library."""
     try:
         words = [COMPILERS[system], '-E', '-x', 'c', '-include', 'stdlib.h', '/dev/null']
         return subprocess.run(words, check=False, stdout=subprocess.DEVNULL, stderr=subprocess.DEVNULL).returncode == 0
@@ -50,13 +50,13 @@ def has_compiler(system: str) -> bool:
 
 
 def packages(system: str) -> str:
-    """The Debian packages of the compiler."""
+    """The Debian packages of a system's compiler."""
     text = (TOP / 'tools/packages.txt').read_text(encoding='utf-8')
     return re.findall(rf'(?m)^{COMPILERS[system]}: (.*)$', text)[0].replace(' ', ' and ')
 
 
 def toolchain_for_windows(room: Path, crate: str) -> Path:
-    """A directory with the toolchain, in which tools/retarget.py is clang."""
+    """Creates a directory with the toolchain in which tools/retarget.py is clang."""
     made = room / crate
     (made / 'bin').mkdir(parents=True)
     (made / 'lib').symlink_to(KIT / 'lib')
@@ -76,7 +76,7 @@ def object_of(system: str, crate: str) -> Path:
 
 
 def built(system: str, crate: Any, room: Path) -> tuple[int, str]:
-    """Proves and compiles a crate for a system, if it has changed: the status, and what was printed."""
+    """Proves and compiles a crate for a system, if it has changed. Returns the status and the output."""
     made, kept = object_of(system, crate.name), object_of(system, crate.name).with_suffix('.made_of')
     made_of = crate.stamp() + (TOP / 'tools/retarget.py').read_text(encoding='utf-8')
     if made.exists() and kept.exists() and kept.read_text(encoding='utf-8') == made_of:
@@ -89,7 +89,7 @@ def built(system: str, crate: Any, room: Path) -> tuple[int, str]:
         words = [*crate.words(['--jobs', '1', *flags]), '--toolchain', str(toolchain), '--backend', 'llvm', *prove.rtlib.KEPT]
         status = crate.call(prove.rtlib.RATTLE, 'build', *words, '-o', str(archive if crate.is_static else made))
         if status == 0 and crate.is_static:
-            # Rattle's archive has one object, by the name of the crate.
+            # Rattle's archive contains one object, named after the crate.
             by_clang('llvm-ar', 'x', '--output', room, archive)
             os.replace(room / f'{crate.name}.o', made)
         os.close(*held)
@@ -122,7 +122,7 @@ def compiled(system: str, source: Path, room: Path) -> Path:
 
 
 def linked_objects(system: str, crates: list[str], room: Path) -> list[Path]:
-    """The objects of crates, with the functions for memory by the names that targets/memory.c gives them; and those."""
+    """The objects of crates, with the functions for memory renamed as in targets/memory.c, and the object of those functions."""
     objects = [object_of(system, crate) for crate in crates]
     if system == 'arm64':
         names = [f'--redefine-sym=rattle_{name}=cdpatch{name}' for name in ('alloc', 'realloc', 'dealloc')]
@@ -161,7 +161,7 @@ def main(system: str, shim: str = '', program: str = '') -> int:
         if shim:
             link_program(system, Path(shim), Path(program), room)
             return 0
-        prove.rtlib.guarded()  # all that runs from here on ends with this
+        prove.rtlib.guarded()  # all processes from here on end with this one
         prove.rtlib.Crate.cuts_libraries = True
         build_objects(system, room)
         directory = TOP / system

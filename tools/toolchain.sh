@@ -1,7 +1,7 @@
 #!/usr/bin/env bash
-# Compares the toolchain (`rt version`) with those that a page names: `bash tools/toolchain.sh [PAGE]`, the README if no page is
-# given. It prints a line and has status 1 if the toolchain's logic is another, and prints one if only its release is: proofs that one
-# release accepts are accepted by another with the same logic.
+# Compares the toolchain (`rt version`) with the versions that a page names: `bash tools/toolchain.sh [PAGE]`, by default the README. If the
+# toolchain's logic is different, it prints a line and has status 1. If only the release is different, it prints a line: releases with the
+# same logic accept the same proofs.
 set -u
 page=${1:-$(dirname "$0")/../README.md}
 read -r release _ logic < <(rt version < /dev/null 2> /dev/null)

@@ -13,10 +13,10 @@ cd "$(dirname "$0")/.."
 top=$PWD
 crate=cdpatch_wasm64
 
-# The names in the rows of crates in crates.txt.
+# named_by CRATES: prints the names in the rows of crates in crates.txt.
 named_by() { sed -n -E "s/^($(paste -sd '|' <<< "$1"))( staticlib)?: *//p" crates.txt | tr -s ' ' '\n' | sort -u; }
 
-# The crates of exports whose calls take no memory, the crates that they name, and the repository's crates below these.
+# The crates of exports whose calls allocate no memory, the crates that they name, and the repository's crates below these.
 exporting=$(bash tools/library_crates.sh | tr ' ' '\n' | grep -vx cd_c_images)
 named=$(named_by "$exporting")
 below=$(printf '%s\n' "$named" cd_words)
@@ -24,14 +24,14 @@ while more=$(printf '%s\n' "$below" "$(named_by "$below")" | grep . | sort -u) &
     below=$more
 done
 
-# cd_lanes and those above it, which are proved over words here.
+# cd_lanes and the crates above it, which are proved over words here.
 above=cd_lanes
 while more=$(sed -n -E "s/^([a-z_]+):(.* )?($(paste -sd '|' <<< "$above"))( .*)?$/\\1/p" crates.txt | cat - <(echo "$above") | sort -u) &&
     [ "$more" != "$above" ]; do
     above=$more
 done
 
-# join_part PART HEAD: a part of all crates, without the files HEAD that declare their modules. No two may have the same name.
+# join_part PART HEAD: joins a part of all crates, without the files HEAD that declare their modules. No two files may have the same name.
 join_part() {
     local name file
     for name in $exporting; do
@@ -47,7 +47,7 @@ join_part() {
     done
 }
 
-# link_part NAME PART: a link to a part of a crate, which has it or will have it.
+# link_part NAME PART: links a part of a crate, which may not exist yet.
 link_part() {
     mkdir -p "$room/crates/$1"
     ln -sfnT "$top/crates/$1/$2" "$room/crates/$1/$2"

@@ -1,4 +1,4 @@
-"""The model and the clients that answer worked and random cases, each behind the same interface, called a coat."""
+"""The model and the clients that answer worked and random cases, all with the same interface."""
 
 import ctypes
 import importlib
@@ -23,13 +23,13 @@ sys.path.append(str(TESTS / 'library'))
 import by_lines  # noqa: E402
 import commands  # noqa: E402
 
-TIME = 300  # seconds, which no command takes
-# Files stand in memory if they can: a command that makes one waits until it is on the disk.
+TIME = 300  # seconds, more than any command needs
+# Files are in memory if possible: a command that creates one waits until it is on the disk.
 ROOM = '/dev/shm' if os.access('/dev/shm', os.W_OK) else None
 
 
 class Model:
-    """The model of tests/model, which answers all."""
+    """The model in tests/model. It answers every question."""
     name = 'the model'
 
     def answer(self, call, given):
@@ -42,7 +42,7 @@ class Model:
 
 
 def value(call, given):
-    """A value of the codes, as a case writes it."""
+    """A value computed by the model, in the notation of the cases."""
     if call == 'changes':
         return ' '.join(f'{place}:{amount:02X}' for place, amount in parity_changes(*given))
     if call == 'times':
@@ -57,7 +57,7 @@ def value(call, given):
 
 
 def parity_changes(place, amount):
-    """Where the parity of the sector with this one byte of 12 to 2075 differs from the sector of zeros."""
+    """The places where the parity changes if the sector of zeros gets this byte at a place from 12 to 2075."""
     made = bytearray(SIZE)
     made[int(place)] = int(amount, 16)
     for word in COLUMNS + DIAGONALS:
@@ -66,21 +66,21 @@ def parity_changes(place, amount):
 
 
 class Commands:
-    """Runs the commands by a method `run` of its class, and so answers what a command can show."""
+    """Answers what a command can show, by the method `run` of its class."""
 
     def answer(self, call, given):
         if call in COMMANDS:
             return self.run(call, *given)
         if call == 'order':
-            # No patch finds a block in an empty image, and each has its line in the log.
+            # In an empty image each patch finds no block, and has its line in the log.
             printed = self.run('check', *given).text
             return ' '.join(re.findall(r'^line (\d+): ', printed, re.MULTILINE)) or '-'
         return None
 
 
 class Coat(Commands):
-    """A client of the calls. A class below has `made`: a command's status, text and new image, or None for that; and methods for the
-    values that it can show."""
+    """A client of the calls. A subclass has `made`, which returns a command's status, text, and new image, or None for the image, and
+    methods for the values that it can show."""
     name = ''
     values = ()
     options = OPTIONS_OF_CALLS
@@ -98,12 +98,12 @@ class Coat(Commands):
         return Answer(status, printed.decode('utf-8', 'replace'), out)
 
     def said(self, case):
-        """The status, the text and the new image of a random case."""
+        """The status, the text, and the new image of a random case."""
         return self.made(case.command, case.image, case.base, case.carry, case.script)
 
 
 class Library(Coat):
-    """A shared library with the calls of cdpatch.h on images, and for the values that it can show."""
+    """A shared library: the calls of cdpatch.h on images, and those for values."""
     name = 'the library'
     values = ('edc', 'address', 'changes')
     commands = commands
@@ -128,8 +128,8 @@ class Library(Coat):
 
 
 class ByParts(Coat):
-    """A client that makes the commands of calls on lines, patches and sectors: `check` of the same ones as `apply`, so that the second of
-    these that is asked is not made again."""
+    """A client that builds the commands from calls on lines, patches, and sectors. `check` uses the result of the same `apply`, which is
+    kept, so that the second of them costs nothing."""
 
     @lru_cache(1)
     def applied(self, *given):
@@ -143,13 +143,13 @@ class ByParts(Coat):
 
 
 class ByLines(ByParts, Library):
-    """A client that makes the commands of a shared library's calls on lines, patches and sectors."""
+    """A client that builds the commands from a shared library's calls on lines, patches, and sectors."""
     name = 'the library line by line'
     commands = by_lines
 
 
 class Python(Coat):
-    """The package for Python in a directory, in memory and, for `apply`, by streams too."""
+    """The package for Python in a directory: in memory, and for `apply` through streams too."""
     name = 'the package for Python'
     values = ('edc', 'address', 'changes')
 
@@ -196,7 +196,7 @@ class Python(Coat):
 
 
 class Served(Coat):
-    """A client in node, which a process serves: `server` is its file, and `path` what that is given."""
+    """A client in node, served by a process: `server` is the served file, and `path` its argument."""
     server = ''
 
     @property
@@ -204,7 +204,7 @@ class Served(Coat):
         return served(str(TESTS / self.server), self.path)
 
     def ask(self, call, *parts, base=0, carry=False):
-        """The status that a call answers, and its pieces of bytes. Raises if the client complains."""
+        """Asks the process, and returns the status and the pieces of bytes. Raises ValueError if the client reports an error."""
         process = self.process
         question = {'call': call, 'base': base, 'carry': carry, 'sizes': [len(part) for part in parts]}
         process.stdin.write(json.dumps(question).encode() + b'\n' + b''.join(parts))
@@ -232,28 +232,28 @@ class Served(Coat):
 
 
 class Module(ByParts, Served):
-    """A WebAssembly module with the calls of cdpatch.h that take no memory, by its calls on lines, patches and sectors, and by runs."""
+    """A WebAssembly module with the calls of cdpatch.h that need no allocation: its calls on lines, patches, and sectors, and runs."""
     name = 'the module'
     server = 'modules/serve.mjs'
     values = ('edc', 'address', 'changes')
 
 
 class Core(Served):
-    """The core of the page and of cdscript in a directory, over library/cdpatch.wasm."""
+    """The core of the page and cdscript in a directory, over library/cdpatch.wasm."""
     name = 'the core'
     server = 'core/serve.mjs'
     values = ('edc', 'address', 'changes')
 
 
 class Command(Served):
-    """cdscript, called in one process by `main`."""
+    """cdscript, whose `main` is called in one process."""
     name = 'cdscript'
     server = 'cdscript/serve.mjs'
 
 
 @lru_cache
 def served(server, path):
-    """The process that serves, one for each process of the tests, which waits for it at its own end: so its time is counted."""
+    """Starts the node process, once for each process of the tests, which waits for it when it ends, so that its CPU time is counted."""
     environment = {**os.environ, **({'TMPDIR': ROOM} if ROOM else {})}
     process = subprocess.Popen(['node', server, path], stdin=subprocess.PIPE, stdout=subprocess.PIPE, env=environment)
     Finalize(process, process.communicate, exitpriority=0)
@@ -261,7 +261,7 @@ def served(server, path):
 
 
 def parity_of(sector):
-    """The places of a sector's parity that are not 00, as a case writes them."""
+    """The parity bytes of a sector that are not 00, in the notation of the cases."""
     return ' '.join(f'{i}:{sector[i]:02X}' for i in range(2076, SIZE) if sector[i])
 
 
@@ -275,7 +275,7 @@ class Program(Commands):
         self.path = str(Path(path).resolve())
 
     def base_words(self, base):
-        """The option that says the base."""
+        """The option for the base; none for base 0."""
         return ['--base', str(base)] * (base > 0)
 
     def run(self, command, image, base, options, text):
@@ -284,11 +284,11 @@ class Program(Commands):
         return Answer(status, printed.decode('utf-8', 'replace'), out)
 
     def said(self, case):
-        """The status, the text and the new image of a random case."""
+        """The status, the text, and the new image of a random case."""
         return self.ended(case.words, case.image, case.script, case.image if case.piped else b'')
 
     def ended(self, words, image, script, given=b''):
-        """The same of a run in a directory with these files."""
+        """Runs the program in a directory with these files. Returns its status, its text, and the new image."""
         with tempfile.TemporaryDirectory(dir=ROOM) as name:
             directory = Path(name)
             (directory / 'image').write_bytes(image)
@@ -300,7 +300,7 @@ class Program(Commands):
 
 
 class CommandProcess(Program):
-    """cdscript as a process. It is told each base, since it would rather believe the addresses than 0."""
+    """cdscript as a process. It always gets the base, since without one it uses the addresses rather than 0."""
     name = 'cdscript as a process'
     before = ('node',)
 
@@ -314,13 +314,13 @@ class CommandProcess(Program):
 
 
 class ForWindows(Program):
-    """cdpatch.exe, under wine."""
+    """cdpatch.exe under wine."""
     name = 'the program for Windows'
     before = ('/usr/lib/wine/wine64',)
 
 
 class ForArm(Program):
-    """The program for aarch64, under qemu."""
+    """The program for aarch64 under qemu."""
     name = 'the program for aarch64'
     before = ('qemu-aarch64', '-L', '/usr/aarch64-linux-gnu')
 
@@ -330,12 +330,12 @@ CLIENTS = {'program': Program, 'windows': ForWindows, 'arm64': ForArm, 'library'
 
 
 def add_clients(words):
-    """The arguments that name clients, of a parser."""
+    """Adds the arguments that name clients to a parser."""
     for name, made in CLIENTS.items():
         words.add_argument(f'--{name}', metavar='PATH', help=f'ask {made.name} there')
 
 
 def clients_of(given):
-    """The clients that arguments name."""
+    """The clients that the arguments name."""
     named = [(made, getattr(given, name.replace('-', '_'))) for name, made in CLIENTS.items()]
     return [made(path) for made, path in named if path]

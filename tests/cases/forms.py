@@ -1,4 +1,4 @@
-"""Reads lines of worked cases; README.md says how they are written."""
+"""Parses lines of worked cases; README.md describes their notation."""
 
 import re
 import sys
@@ -16,35 +16,36 @@ COMMANDS = ('list', 'audit', 'check', 'apply')
 
 
 class Answer(NamedTuple):
-    """What a command gives: its status, what it prints, and the bytes of OUT, None if it makes none."""
+    """The answer of a command: its status, its output, and the bytes of OUT, or None if it creates none."""
     status: int
     text: str
     out: Optional[bytes]
 
 
 class Question(NamedTuple):
-    """A call, what it is given, and what must come: of a command an image, a base, other options and a script, and an Answer."""
+    """A call, its arguments, and the expected result. A command's arguments are an image, a base, options, and a script; its result is an
+    Answer."""
     call: str
     given: tuple
     due: Any
 
 
 class Line(NamedTuple):
-    """A line, the place where it stands, and what it asks."""
+    """A line of the cases, its place, and its questions."""
     place: str
     text: str
     questions: list
 
 
 def listed(text):
-    """Bytes: `-` for none, or hexadecimal pieces joined by commas, each with `*COUNT` if it is repeated."""
+    """Parses bytes: `-` for none, or hexadecimal pieces joined by commas, each with `*COUNT` if it is repeated."""
     pieces = (piece.partition('*') for piece in text.split(',') if piece != '-')
     return b''.join(bytes.fromhex(piece) * int(count or 1) for piece, _, count in pieces)
 
 
 @lru_cache
 def consistent(letter, digits, changes):
-    """The consistent sector with changed user data. That of the other encoder is as it came, if its user data are not changed."""
+    """The consistent sector with changed user data. A sector of the other encoder is left as it is if its user data are unchanged."""
     header, user = bytes.fromhex(digits) if letter == 'A' else address_of(int(digits)), bytearray(2048)
     if letter == 'V':
         sector = SECTORS[SIZE * int(digits):SIZE * int(digits) + SIZE]
@@ -55,7 +56,7 @@ def consistent(letter, digits, changes):
 
 
 def changed(made, changes):
-    """Bytes with the changes of `@PLACE=BYTES`, `^PLACE` and `^PLACE=BYTE`, one after the other."""
+    """Applies the changes `@PLACE=BYTES`, `^PLACE`, and `^PLACE=BYTE` one after the other."""
     for sign, place, value in re.findall(r'([@^])(\d+)(?:=([0-9A-F*]+))?', changes):
         place = int(place)
         if sign == '@':
@@ -66,7 +67,7 @@ def changed(made, changes):
 
 
 def piece_of_image(text):
-    """A sector, or bytes, cut by `<COUNT`."""
+    """Parses a sector, or bytes, truncated by `<COUNT`."""
     letter, digits, changes, size = re.fullmatch(r'([EAVMBZ])([0-9A-F*]+)([:@^=*0-9A-F]*)(?:<(\d+))?', text).groups()
     if letter == 'Z':
         made = bytearray(int(digits))
@@ -81,7 +82,7 @@ def piece_of_image(text):
 
 
 def image_of(text):
-    """An image: `-` for an empty one, or pieces joined by commas, each with a count before it if it is repeated."""
+    """Parses an image: `-` for an empty one, or pieces joined by commas, each with a count before it if it is repeated."""
     made = b''
     for piece in text.split(','):
         count, _, rest = piece.rpartition('x')
@@ -97,12 +98,12 @@ def script_of(text):
 
 
 def text_of(due):
-    """The lines that a command prints, which a case joins by semicolons."""
+    """The lines that a command prints; a case joins them by semicolons."""
     return ''.join(line + '\n' for line in due.split('; '))
 
 
 def patched(form, rest):
-    """`apply` and `check` on an image."""
+    """The questions about `apply` and `check` on an image."""
     options, rest = re.fullmatch(r'((?:--\S+ )*)(.*)', rest).groups()
     options = options.split()
     base, image, out, status, more = rest.split(' ', 4)
@@ -117,7 +118,7 @@ def patched(form, rest):
 
 
 def asked(line):
-    """What a line asks."""
+    """The questions of a line."""
     form, _, rest = line.partition(' ')
     if form in ('list', 'audit'):
         base, image, status, due = rest.split(' ', 3)
@@ -135,7 +136,7 @@ def asked(line):
 
 
 def alternatives(line):
-    """The lines that `each A|B|.. : LINE` stands for, with A, B and so on for `??`; `00-1F` is each byte of a range."""
+    """Expands `each A|B|.. : LINE` to lines with A, B, and so on in place of `??`; `00-1F` is each byte of a range."""
     if not line.startswith('each '):
         return [line]
     items, rest = line.removeprefix('each ').split(' : ', 1)
@@ -147,7 +148,7 @@ def alternatives(line):
 
 
 def worked_lines(files=None):
-    """All lines of the files of this directory. The first alternative asks all that its form does, the others one question."""
+    """All lines of the files of this directory. The first alternative asks all questions of its form, each other one asks one."""
     for file in sorted(HERE.glob('*.txt')) if files is None else files:
         for number, line in enumerate(Path(file).read_text().splitlines(), 1):
             if line and not line.startswith('#'):

@@ -1,4 +1,4 @@
-"""Judges each line of worked cases by the model, and by the clients that are named: `run PROGRAM [FILE..]`, `run model [FILE..]`."""
+"""Judges worked cases by the model and by the named clients: `run PROGRAM [FILE..]`, `run model [FILE..]`."""
 
 import argparse
 import os
@@ -9,18 +9,18 @@ from functools import partial
 from clients import Model, Program, add_clients, clients_of
 from forms import SIZE, Answer, worked_lines
 
-SHOWN = 300  # so many characters of a text
-SOME = 16  # about so many questions of a line with --some
+SHOWN = 300  # characters of a text, at most
+SOME = 16  # questions of a line with --some, approximately
 
 
 def short(text):
-    """A text in one line, cut if it is long."""
+    """A text in one line, truncated if it is long."""
     text = str(text).rstrip('\n').replace('\n', '; ')
     return text if len(text) <= SHOWN else f'{text[:SHOWN]}.. ({len(text)} characters)'
 
 
 def difference(came, due):
-    """How two images differ."""
+    """A description of how two images differ."""
     if came is None or due is None or len(came) != len(due):
         sizes = ['no file' if out is None else f'{len(out)} bytes' for out in (came, due)]
         return f'OUT came with {sizes[0]}, due {sizes[1]}'
@@ -31,7 +31,7 @@ def difference(came, due):
 
 
 def complaint(call, came, due):
-    """What is wrong with an answer, in lines."""
+    """The errors of an answer, in lines."""
     if not isinstance(due, Answer):
         return [f'{call} came: {short(came)}', f'{call} due:  {short(due)}']
     made = []
@@ -41,7 +41,7 @@ def complaint(call, came, due):
 
 
 def judged(judge, line):
-    """Whether a judge can answer a line, and what is wrong with its first wrong answer."""
+    """Asks a judge all questions of a line. Returns whether it can answer any of them, and the errors of its first wrong answer."""
     asked = False
     for call, given, due in line.questions:
         try:
@@ -55,7 +55,7 @@ def judged(judge, line):
 
 
 def failures(judge, lines, only_first=False):
-    """How many lines a judge was asked and can answer, and those that it answers wrong, with what is wrong."""
+    """The number of lines that a judge can answer, and the lines that it answers wrong with the errors."""
     count, wrong = 0, []
     with ProcessPoolExecutor(len(os.sched_getaffinity(0))) as pool:
         for line, asked, reasons in pool.map(partial(judged, judge), lines):
@@ -73,12 +73,12 @@ def some(line):
 
 
 def size(line):
-    """How much a line gives to those whom it asks, about: 10,000 bytes for each call."""
+    """The approximate cost of a line: the bytes of its arguments, and 10,000 for each call."""
     return sum(10_000 + sum(len(given) for given in question.given if isinstance(given, bytes)) for question in line.questions)
 
 
 def judges_named():
-    """The judges, and the arguments of the call."""
+    """The judges and the arguments of the command line."""
     words = argparse.ArgumentParser(prog='tests/cases/run', description='Judges worked cases by the model and by clients.')
     words.add_argument('asked', help="the program, or 'model' for only the model and the clients that options name")
     words.add_argument('files', nargs='*', help='files of cases; all if there are none')
@@ -93,7 +93,7 @@ def judges_named():
 
 
 def main():
-    """The judges one after the other, and the counts."""
+    """Runs one judge after the other, and prints the counts."""
     judges, given = judges_named()
     lines = [some(line) if given.some else line for line in worked_lines(given.files or None)]
     if given.first:

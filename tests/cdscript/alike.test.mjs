@@ -1,12 +1,12 @@
-// Texts that are one in several spellings: composed or not, a yen sign or a backslash, and with --loose half-width and full-width, and both
-// cases; and encodings that can't say a text.
+// Texts with several spellings: composed or not, yen sign or backslash, and with --loose also half-width, full-width, and either case; and
+// encodings that cannot represent a text.
 
 import assert from 'node:assert/strict';
 import { test } from 'node:test';
 import { imageOf, inDirectory, program, run, tool, write } from './common.mjs';
 
 
-/** Writes `image`, whose blocks 2 to 5 are zeros but for bytes at places. */
+/** Writes `image`: blocks 2 to 5 are zeros except for these bytes at these places. */
 function writeImage(room, ...places) {
     write(room, { plain: imageOf(room, 8), edit: ['cdpatch 1', ...[2, 3, 4, 5].map(block => `fill ${block} 0 2048 00`),
         ...places.map(([block, offset, bytes]) => `set ${block} ${offset} ${bytes}`), ''].join('\n') });
@@ -15,7 +15,7 @@ function writeImage(room, ...places) {
 
 const hex = (text, coding) => Buffer.from(text, coding).toString('hex').toUpperCase();
 
-/** The places of the hits of a text, the status, and what is said. */
+/** The places of a text's hits, the status, and the messages. */
 async function found(room, ...words) {
     const { status, out, errors } = await run(['find', 'image', ...words], { cwd: room });
     const places = out.split('\n').slice(0, -1).map(line => line.split('\t').slice(0, 3).join(' '));
@@ -42,7 +42,7 @@ test('composed and apart are one text, and so are a yen sign and a backslash', (
 }));
 
 test('with --loose half-width and full-width are one, and both cases', () => inDirectory(async room => {
-    // ﾊﾟｰﾃｨ, パーティ; Start, START, ｓｔａｒｔ with a space of either width after it.
+    // ﾊﾟｰﾃｨ, パーティ; Start, START, ｓｔａｒｔ followed by a space of either width.
     writeImage(room, [2, 100, 'CADFB0C3A8'], [2, 200, '8370815B83658342'], [3, 7, hex('Start 1')], [3, 100, hex('START 1')],
         [4, 0, '82938294828182928294' + '8140' + '8250']);
     const loose = ['--encoding', 'CP932', '--loose'];

@@ -1,11 +1,11 @@
-// The block of an image's first sector: what a script that cdscript wrote says of it, and what the addresses say.
+// The base, which is the block of an image's first sector: as recorded in a script by cdscript, and as given by the addresses.
 
 import assert from 'node:assert/strict';
 import { test } from 'node:test';
 import { damaged, imageOf, inDirectory, program, read, run, sameFile, tool, write } from './common.mjs';
 
 
-/** A later track of 40 sectors from block 150 on, whole and with two damaged sectors. */
+/** Writes a later track of 40 sectors from block 150, once undamaged and once with two damaged sectors. */
 function writeLater(room) {
     const later = imageOf(room, 40, 150);
     const hurt = damaged(later, 150, [158, 100], [170, 2000]);
@@ -69,18 +69,18 @@ test('what most addresses say is not passed over without --base', () => inDirect
         const { status, out, errors } = await run(words, { cwd: room });
         assert.deepEqual([status, out, errors, read(room, 'out')], [2, '', `cdscript: ${WAYS}\n`, null], words.join(' '));
     }
-    // With --base all is as the program does it.
+    // With --base the result is that of the program.
     for (const base of ['0', '150']) {
         const due = tool('sh', ['-c', `"${program}" audit --base ${base} hurt.bin; echo $?`], { cwd: room }).toString();
         const { status, out, errors } = await run(['audit', 'hurt.bin', '--base', base], { cwd: room });
         assert.deepEqual([`${out}${status}\n`, errors], [due, '']);
     }
-    // Most addresses agree, though some do not.
+    // Most addresses agree, but some do not.
     const some = Buffer.concat([read(room, 'later.bin'), imageOf(room, 30, 900)]);
     write(room, { some, half: Buffer.concat([some, imageOf(room, 20, 500)]) });
     assert.match((await run(['list', 'some'], { cwd: room })).errors, /^cdscript: most addresses in some say that it begins with block 150: /);
     assert.equal((await run(['list', 'half'], { cwd: room })).status, 0);
-    // A few addresses decide nothing.
+    // A few addresses are not enough.
     const few = await run(['audit', 'few.bin'], { cwd: room });
     assert.deepEqual([few.status, few.errors], [1, 'cdscript: this image begins with block 150: --base 150\n']);
 }));

@@ -1,4 +1,4 @@
-// Characters of several bytes: hits in the middle of one, and rows of `show` that cut one.
+// Characters of several bytes: hits in the middle of one, and rows of `show` that split one.
 
 import assert from 'node:assert/strict';
 import { test } from 'node:test';
@@ -6,7 +6,7 @@ import { ENCODINGS_KNOWN, imageOf, inDirectory, program, run, tool, write } from
 
 const INSIDE = 'perhaps in the middle of a character (byte before: 8A)';
 
-/** Writes `image`, whose blocks 2 to 5 are zeros but for bytes at places. */
+/** Writes `image`: blocks 2 to 5 are zeros except for these bytes at these places. */
 function writeImage(room, ...places) {
     write(room, { plain: imageOf(room, 8), edit: ['cdpatch 1', ...[2, 3, 4, 5].map(block => `fill ${block} 0 2048 00`),
         ...places.map(([block, offset, bytes]) => `set ${block} ${offset} ${bytes}`), ''].join('\n') });
@@ -71,7 +71,7 @@ test('the encoding is the first one in which the text is not only in the middle 
 }));
 
 test('show keeps characters whole over rows, and goes on in the next block', () => inDirectory(async room => {
-    // スター is 8358 835E 815B: over the border of two rows, and over that of two blocks.
+    // スター is 8358 835E 815B: across the border of two rows, and across that of two blocks.
     writeImage(room, [2, 15, '8358835E815B41'], [2, 2047, '83'], [3, 0, '5842'], [5, 30, 'F09F98']);
     const shown = await run(['show', 'image', '2', '5'], { cwd: room });
     const rows = text => text.split('\n').slice(2, -1);

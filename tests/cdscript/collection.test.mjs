@@ -1,4 +1,4 @@
-// Which files of a collection are looked at: names in bytes, links, and the files that cue sheets name.
+// The files of a collection that are examined: names as bytes, links, and the files named by cue sheets.
 
 import assert from 'node:assert/strict';
 import { spawnSync } from 'node:child_process';
@@ -10,7 +10,7 @@ import { command, imageOf, inDirectory, read, run, write } from './common.mjs';
 const sheet = name => `FILE "${name}" BINARY\n TRACK 01 MODE1/2352\n INDEX 01 00:00:00\n`;
 const namesIn = text => text.split('\n').filter(Boolean).map(line => line.split('\t')[0]).sort();
 
-/** What a scan has printed: its status, the names in its lines, and what it said. */
+/** The result of a scan: its status, the names in its rows, and its messages. */
 async function scanned(room, ...words) {
     const { status, out, errors } = await run(['scan', ...words], { cwd: room });
     return [status, namesIn(out), errors];
@@ -26,7 +26,7 @@ test('names that are not UTF-8 are read, and no two are alike in a list', () => 
     const due = ['set/d\\xf6dd/a\\\\xe9.bin', 'set/d\\xf6dd/caf\\xe8.bin', 'set/d\\xf6dd/caf\\xe9.bin', 'set/d\\xf6dd/gut é.bin', 'set/d\\xf6dd/two \\xc3.bin'];
     assert.deepEqual(await scanned(room, 'set', '--resume', 'list'), [0, [], '']);
     assert.deepEqual(namesIn(read(room, 'list').toString()), due.sort());
-    // They are found by the names of the list.
+    // The list's names are found again.
     assert.deepEqual(await scanned(room, 'set', '--resume', 'list'), [0, [], '']);
     assert.equal(read(room, 'list').toString().split('\n').length, 6);
 }));
@@ -53,7 +53,7 @@ test('links to directories are followed once, but not round', () => inDirectory(
     for (const [name, target] of Object.entries(links)) symlinkSync(target, join(room, name));
     const due = ['shelf/again/far/deep/d.bin', 'shelf/again/far/f.bin', 'shelf/again/r.bin', 'shelf/own/a.bin'];
     assert.deepEqual(await scanned(room, 'shelf'), [0, due, '']);
-    // What is in the collection itself has its own name there.
+    // A file in the collection itself is listed by its own name.
     assert.deepEqual((await scanned(room, 'shelf', 'real'))[1], ['real/far/deep/d.bin', 'real/far/f.bin', 'real/r.bin', 'shelf/own/a.bin']);
 }));
 

@@ -1,4 +1,4 @@
-// What the tests of cdscript share: the joined command, which COMMAND names, as a process and in this one; directories; and images.
+// Shared by the tests of cdscript: the packed command (COMMAND) as a process and in this one, directories, and images.
 
 import assert from 'node:assert/strict';
 import { spawnSync } from 'node:child_process';
@@ -14,10 +14,10 @@ export const program = process.env.PROGRAM ?? join(top, 'cdpatch');
 export const vectors = readFileSync(join(top, 'crates/cd_low_tests/data/cdrkit-8.bin'));
 const { main } = createRequire(import.meta.url)(command);
 
-/** What is known of each encoding from elsewhere, in the order in which they are listed; tests/core/common.mjs says what that is. */
+/** The table of encodings, in the order of their list; tests/core/common.mjs explains it. */
 export const ENCODINGS_KNOWN = JSON.parse(readFileSync(join(top, 'tests/encodings.json'), 'utf8'));
 
-/** What a process or a call has left: its status, and the bytes of its standard streams. */
+/** The result of a process or a call: its status, and its standard streams as text and as bytes. */
 const ended = (status, out, errors) => ({ status, out: out.toString(), errors: errors.toString(), bytes: out });
 
 /** Runs cdscript as a process. */
@@ -26,7 +26,7 @@ export function runProcess(words, { cwd = '.', input } = {}) {
     return ended(done.signal ?? done.status, done.stdout, done.stderr);
 }
 
-/** Runs what another command does, which has to be done with status 0. Null if there is no such command. */
+/** Runs another command, which must succeed. Null if it is not installed. */
 export function tool(name, words, { cwd = '.', input } = {}) {
     const done = spawnSync(name, words, { cwd, input, maxBuffer: 1 << 28, env: { ...process.env, LC_ALL: 'C.UTF-8' } });
     if (done.error) return null;
@@ -34,20 +34,20 @@ export function tool(name, words, { cwd = '.', input } = {}) {
     return done.stdout;
 }
 
-/** Calls `main` in this process, with files of a directory as its standard streams, and something before and after it. */
+/** Calls `main` in this process, with files of a directory as its standard streams. Calls `before` first and `after` last. */
 export async function call(directory, words, before = () => {}, after = () => {}) {
     const names = ['stdout', 'stderr'].map(name => join(directory, name));
     const streams = { input: openSync('/dev/null', 'r'), output: openSync(names[0], 'w'), errors: openSync(names[1], 'w') };
     before();
     const status = await main(words, streams);
     after();
-    // What still reads files that are closed now ends before others are opened.
+    // Pending reads of the closed files end before other files are opened.
     for (let i = 0; i < 3; i++) await new Promise(resolve => setImmediate(resolve));
     Object.values(streams).forEach(closeSync);
     return ended(status, ...names.map(name => readFileSync(name)));
 }
 
-/** What cdscript does in a directory, by a call in this process. */
+/** Runs cdscript in a directory by a call in this process. */
 export async function run(words, { cwd = '.' } = {}) {
     const home = process.cwd();
     process.chdir(cwd);
@@ -58,7 +58,7 @@ export async function run(words, { cwd = '.' } = {}) {
     }
 }
 
-/** Uses a directory that is gone afterwards. */
+/** Creates a directory, and deletes it after use. */
 export async function inDirectory(use) {
     const directory = mkdtempSync(join(tmpdir(), 'cdscript-'));
     try {
@@ -73,7 +73,7 @@ export function write(directory, files) {
     for (const [name, bytes] of Object.entries(files)) writeFileSync(join(directory, name), bytes);
 }
 
-/** The bytes of a file, or null if there is none. */
+/** The bytes of a file, or null if it does not exist. */
 export function read(directory, name) {
     try {
         return readFileSync(join(directory, name));
@@ -82,14 +82,14 @@ export function read(directory, name) {
     }
 }
 
-/** Whether two files have the same bytes; if not, where they differ. */
+/** Asserts that two files have the same bytes, or reports where they differ. */
 export function sameFile(came, due, name) {
     assert.ok(came !== null && due !== null, `${name}: came ${came && came.length}, due ${due && due.length}`);
     assert.equal(came.length, due.length, `${name}: sizes`);
     assert.equal(Buffer.compare(came, due), 0, `${name}: bytes`);
 }
 
-/** The image of the eight sectors of other software, over and over, with the addresses of the blocks from a base on by the program. */
+/** An image that repeats the eight sectors of other software. The program sets the addresses of the blocks from `base` on. */
 export function imageOf(directory, count, base = 0) {
     const image = Buffer.concat(Array.from({ length: count }, (_, i) => vectors.subarray(2352 * (i % 8), 2352 * (i % 8 + 1))));
     const digits = number => String(number).padStart(2, '0');
@@ -103,7 +103,7 @@ export function imageOf(directory, count, base = 0) {
     return read(directory, 'made.out');
 }
 
-/** A copy of an image in which some bytes are others: `[block, byte of the sector]`. */
+/** A copy of an image with changed bytes: `[block, byte of the sector]`. */
 export function damaged(image, base, ...places) {
     const copy = Buffer.from(image);
     for (const [block, at] of places) copy[2352 * (block - base) + at] ^= 0xA5;

@@ -1,4 +1,4 @@
-// Images that end before their volume does: what `info` and `scan` say of them, and when that is a finding.
+// Images that end before their volume does: what `info` and `scan` report, and when that is a finding.
 
 import assert from 'node:assert/strict';
 import { test } from 'node:test';
@@ -7,7 +7,7 @@ import { makeDisc } from './discs.mjs';
 
 const skip = tool('genisoimage', ['--version']) === null && 'no genisoimage';
 
-/** What `info` says of missing blocks, and its status; and the kinds and the numbers that `scan` prints, and its status. */
+/** The missing blocks by `info`, and its status; and the kinds and the numbers that `scan` prints, and its status. */
 async function said(room, name) {
     const info = await run(['info', name], { cwd: room });
     const scan = await run(['scan', name], { cwd: room });
@@ -15,7 +15,7 @@ async function said(room, name) {
     return { info: info.out.split('\n').filter(line => line.includes('not in the image')), status: info.status, columns, scanned: scan.status };
 }
 
-/** Makes a disc, and a function that cuts it to so many sectors; how many it has; and the blocks and sizes of its files. */
+/** Creates a disc. Returns a function that cuts it to a number of sectors, its number of sectors, and the blocks and sizes of its files. */
 async function disc(room, how = {}) {
     await makeDisc(room, how);
     const image = read(room, 'disc.bin');
@@ -30,13 +30,13 @@ const UNSURE = ': it is cut, or counts other tracks or a pause';
 test('an image that is cut by whole sectors is no sound one', { skip }, () => inDirectory(async room => {
     const { cut, sectors, big } = await disc(room);
     assert.deepEqual(await said(room, 'disc.bin'), { info: [], status: 0, columns: [`mode1 ${sectors} 0 0 0`], scanned: 0 });
-    // Only the pause is gone, or a part of it.
+    // Only the pause is missing, or a part of it.
     for (const less of [1, 100, 150]) {
         cut(sectors - less);
         const line = `${sectors - less}-${sectors - 1} not in the image, though the volume says ${sectors} blocks${UNSURE}`;
         assert.deepEqual(await said(room, 'cut.bin'), { info: [line], status: 0, columns: [`mode1 ${sectors - less},short ${less} 0 0 0`], scanned: 0 });
     }
-    // A file goes on after the end.
+    // A file continues beyond the end.
     const half = big.block + 10;
     const missing = `${half}-${sectors - 1} not in the image: /BIG.BIN goes on there`;
     cut(half);
@@ -60,7 +60,7 @@ test('what may be a track of several is cut only for sure if a file or the cue s
     assert.deepEqual(await said(room, 'two.cue'), { info: [unsure], status: 0, columns: [`${columns} 0 0`, 'audio - - -'], scanned: 0 });
     cut(sectors - 150);
     assert.deepEqual((await said(room, 'one.cue')).status, 0);
-    // Tracks in one file: nothing is cut off before the file ends.
+    // Tracks in one file: nothing is missing before the end of the file.
     write(room, { 'all.bin': Buffer.concat([read(room, 'cut.bin'), read(room, 'audio.bin')]),
         'all.cue': 'FILE "all.bin" BINARY\n TRACK 01 MODE1/2352\n INDEX 01 00:00:00\n' });
     tool('sh', ['-c', `printf ' TRACK 02 AUDIO\\n INDEX 01 %02d:%02d:%02d\\n' $(( ${sectors - 150} / 4500 )) $(( ${sectors - 150} / 75 % 60 )) ` +
@@ -75,7 +75,7 @@ test('a volume with another base, by itself or counted from the start of the dis
         cut(half - first);
         const line = `${half}-${first + sectors - 1} not in the image: /BIG.BIN goes on there`;
         assert.deepEqual((await said(room, 'cut.bin')).info, [line], `${first} ${options}`);
-        // Perhaps the blocks before the track are among those that the volume says.
+        // The blocks before the track may belong to the volume's number of blocks.
         cut(sectors - 100);
         const isLess = first === 225 && options.length > 0;
         const said2 = `${first + sectors - 100}-${first + sectors - 1} not in the image, though the volume says ${sectors} blocks${UNSURE}`;
@@ -95,7 +95,7 @@ test('numbers of a volume that cannot be believed are no finding', { skip }, () 
     };
     await made('odd', copy => copy.writeUInt32BE(7, 16 * 2048 + 84));
     assert.deepEqual((await said(room, 'odd.cut.bin')).info, []);
-    // Some discs name files that are longer than they are, against copying.
+    // Some discs list files as longer than they are, as copy protection.
     await made('long', copy => {
         for (let at = copy.indexOf('BIG.BIN'); at >= 0; at = copy.indexOf('BIG.BIN', at + 1)) {
             if (copy.readUInt32LE(at - 33 + 2) !== big.block) continue;
@@ -109,7 +109,7 @@ test('numbers of a volume that cannot be believed are no finding', { skip }, () 
     assert.deepEqual((await said(room, 'long.bin')).info, []);
     const line = `${big.block + 10}-${sectors - 1} not in the image, though the volume says ${sectors} blocks${UNSURE}`;
     assert.deepEqual(await said(room, 'long.cut.bin').then(it => [it.info, it.status]), [[line], 0]);
-    // One that names a thousand times what a disc has.
+    // A file listed as a thousand times longer than the disc.
     await made('huge', copy => {
         copy.writeUInt32LE(4e9, 16 * 2048 + 80);
         copy.writeUInt32BE(4e9, 16 * 2048 + 84);
@@ -119,7 +119,7 @@ test('numbers of a volume that cannot be believed are no finding', { skip }, () 
         const { info, status, columns, scanned } = await said(room, name);
         assert.deepEqual([info.length, status, columns, scanned], [1, 0, [`mode1 ${sectors},short ${4e9 - sectors} 0 0 0`], 0]);
     }
-    // The root directory is gone too.
+    // The root directory is missing too.
     write(room, { 'few.bin': read(room, 'disc.bin').subarray(0, 2352 * 20) });
     assert.deepEqual((await said(room, 'few.bin')).info, [`20-${sectors - 1} not in the image, though the volume says ${sectors} blocks${UNSURE}`]);
 }));

@@ -1,4 +1,4 @@
-// A disc of files with texts, by genisoimage: its ISO image and its raw image.
+// A disc of files with texts, created by genisoimage: its ISO image and its raw image.
 
 import { mkdirSync, writeFileSync } from 'node:fs';
 import { join } from 'node:path';
@@ -7,10 +7,10 @@ import { read, run, tool } from './common.mjs';
 /** The texts of the disc, by their encodings as iconv names them. */
 export const TEXTS = { CP932: '勇者は旅に出た', 'EUC-JP': '魔王の城', 'UTF-16LE': '王様', 'UTF-8': '村人' };
 
-/** A text in an encoding of iconv. */
+/** A text in an encoding, converted by iconv. */
 export const encoded = (text, encoding) => tool('iconv', ['-t', encoding], { input: text });
 
-/** Bytes that have no text of the disc in them, the same for the same seed. */
+/** Bytes without any text of the disc, the same for the same seed. */
 export function noise(size, seed) {
     let state = seed;
     return Buffer.from(Uint8Array.from({ length: size }, () => {
@@ -19,7 +19,7 @@ export function noise(size, seed) {
     }));
 }
 
-/** The files of the disc. One text stands over the border of two blocks, one twice. */
+/** The files of the disc. One text crosses the border of two blocks, one occurs twice. */
 export function files() {
     const border = noise(3 * 2048, 2);
     encoded(TEXTS.CP932, 'CP932').copy(border, 2048 - 5);
@@ -31,7 +31,7 @@ export function files() {
     };
 }
 
-/** Makes `disc.iso` and, with its first sector as a block, `disc.bin`; false if there is no genisoimage. */
+/** Creates `disc.iso` and `disc.bin`, whose first sector is block `first`. False if genisoimage is not installed. */
 export async function makeDisc(directory, { first = 0, options = [] } = {}) {
     for (const [path, bytes] of Object.entries(files())) {
         mkdirSync(join(directory, 'tree', path, '..'), { recursive: true });

@@ -1,4 +1,4 @@
-// What stands at the edge of the jobs: a terminal, a cue sheet from a pipe, texts that a table or a disc writes in another way.
+// Borderline input and output of the jobs: a terminal, a cue sheet from a pipe, and texts that a table or a disc spells differently.
 
 import assert from 'node:assert/strict';
 import { spawn, spawnSync } from 'node:child_process';
@@ -12,7 +12,7 @@ const hasDisc = tool('genisoimage', ['--version']) !== null;
 const hasPython = tool('python3', ['--version']) !== null;
 const hasTerminal = tool('script', ['--version']) !== null;
 
-/** What a job shows on a terminal, in which a line that is taken back is gone. */
+/** The output of a job on a terminal, without the lines that it has erased again. */
 function shownOnTerminal(room, words) {
     const shown = tool('script', ['-qec', `"${process.execPath}" "${command}" ${words.join(' ')}`, '/dev/null'], { cwd: room });
     return shown.toString().replaceAll('\r\n', '\n').replace(/\r[^\r\n]*\r\x1b\[K/g, '');
@@ -63,7 +63,7 @@ test('a signal ends what waits for its reader', () => inDirectory(async room => 
     const child = spawn(process.execPath, [command, ...words], { cwd: room, stdio: ['ignore', 'pipe', 'ignore'] });
     const ended = new Promise(resolve => child.on('exit', (_, by) => resolve(by)));
     await new Promise(resolve => child.stdout.once('readable', resolve));
-    // Nothing is read any more, so the pipe is full soon.
+    // Nobody reads any more, so the pipe is full soon.
     await new Promise(resolve => setTimeout(resolve, 1500));
     child.kill('SIGTERM');
     const late = setTimeout(() => child.kill('SIGKILL'), 30000);
@@ -72,7 +72,7 @@ test('a signal ends what waits for its reader', () => inDirectory(async room => 
 }));
 
 test('a text is replaced in the spelling that the disc has, at its place and at all', () => inDirectory(async room => {
-    // Row 13 of NEC and IBM's rows have kanji twice: ED40 and FA5C are both 纊.
+    // Row 13 of NEC and the rows of IBM contain some kanji twice: ED40 and FA5C are both 纊.
     write(room, { plain: imageOf(room, 8), edit: 'cdpatch 1\nset 2 10 ED408261\nset 3 2047 FA5C8261\n' });
     tool(program, ['apply', 'plain', 'edit', 'image'], { cwd: room });
     const [one, two] = ['set 2 10 889F8261 was ED408261', 'set 3 2047 889F8261 was FA5C8261'];
@@ -144,7 +144,7 @@ test('an image of more sectors than the program takes is refused at once', () =>
 }));
 
 test('what fails at the very end is no finding', () => inDirectory(room => {
-    // Only the image can't be closed: node 18 closes by the same call what it loads.
+    // Only closing the image fails: node 18 closes the modules that it loads by the same call.
     const preload = `const fs = require('node:fs');
         const [open, closeSync] = [fs.open, fs.closeSync];
         let image = -1;

@@ -1,5 +1,5 @@
-// Fault by fault: each read, write and other call fails once, is short, or finds an image that has shrunk; full disks, closed streams, and
-// signals. Whatever fails, the status is 2 with a message, no file is left, and nothing that was printed is wrong.
+// Fault injection: each read, write, and other call fails once, is short, or finds a truncated image; full disks, closed streams, and
+// signals. Whatever fails, the status is 2 with a message, no file is left behind, and no printed result is wrong.
 
 import assert from 'node:assert/strict';
 import { spawn, spawnSync } from 'node:child_process';
@@ -10,7 +10,7 @@ import { test } from 'node:test';
 import { fileURLToPath } from 'node:url';
 import { MESSAGES } from '../lib/messages.mjs';
 
-// Before cdscript is loaded, which takes the calls as they are then.
+// Must run before cdscript is loaded, which binds the calls.
 const faults = createRequire(import.meta.url)('./faulty.cjs');
 const { call, command, damaged, imageOf, inDirectory, program, read, run, sameFile, tool, write } = await import('./common.mjs');
 const { makeDisc } = await import('./discs.mjs');
@@ -18,7 +18,7 @@ const { makeDisc } = await import('./discs.mjs');
 const preload = fileURLToPath(new URL('./faulty.cjs', import.meta.url));
 const hasDisc = tool('genisoimage', ['--version']) !== null;
 
-/** The jobs, with their files in a room; those that write a file have OUT for its name. */
+/** The jobs, with their files in a room. OUT stands for the name of a file to be written. */
 const JOBS = [
     ['info', 'disc.cue'], ['list', 'disc.bin'], ['audit', 'hurt.bin'], ['check', 'disc.bin', 'script'], ['apply', 'disc.bin', 'script', 'OUT'],
     ['files', 'disc.bin'], ['find', 'disc.bin', 'HELLO', '-o', 'OUT'], ['show', 'disc.bin', '16', '0'],
@@ -35,7 +35,7 @@ async function makeRoom(room) {
     tool('sh', ['-c', `"${program}" apply disc.bin script other.bin > log || true; rm log`], { cwd: room });
 }
 
-/** Calls main with what is named in a room, while `hit` says which calls fail. */
+/** Calls `main` with the files of a room. `hit` decides which calls fail. */
 async function faultyCall(room, streams, words, hit) {
     const named = words.map(word => existsSync(join(room, word)) && word !== '' ? join(room, word) : word === 'OUT' ? join(room, 'out') : word);
     const there = new Set(readdirSync(room));
@@ -46,14 +46,15 @@ async function faultyCall(room, streams, words, hit) {
     return { ...came, left, file };
 }
 
-/** The calls that a job makes on files, in their order; not those on its own streams. */
+/** A job's calls on files, in order, without those on its own streams. */
 async function callsOf(room, streams, words) {
     const made = [];
     const right = await faultyCall(room, streams, words, (name, given) => { made.push([name, given[0]]); return null; });
     return { made, right };
 }
 
-/** All jobs begin with the reads by which an image is known. Only of the first each of them fails, of the others one in so many. */
+/** All jobs begin with the reads that identify an image. For the first job each of these reads fails, for the others every `SPARSELY`-th.
+ * */
 const SPARSELY = process.env.WRONG_VERSIONS ? 12 : 24;
 
 test('each call that fails once is a message and status 2', { skip: !hasDisc && 'no genisoimage' }, () => inDirectory(room =>
@@ -68,7 +69,8 @@ test('each call that fails once is a message and status 2', { skip: !hasDisc && 
                 let number = 0;
                 const came = await faultyCall(room, streams, words, () => number++ === at ? faults.errorOf('EIO') : null);
                 const what = `${words.join(' ')}: call ${at} (${made[at].join()})`;
-                // Where a message itself can't be written, there is only the status. A file system without links makes files by their names.
+                // If the message cannot be written either, there is only the status. A file system without links creates files by their
+                // names.
                 const silent = made[at][0] === 'writeSync' || (made[at][0] === 'linkSync' && made.findIndex(([it]) => it === 'linkSync') === at);
                 if (silent && came.status === right.status) continue;
                 assert.equal(came.status, 2, `${what}: ${came.out}${came.errors}`);
@@ -117,7 +119,7 @@ test('an image that shrinks is no shorter answer', { skip: !hasDisc && 'no genis
         }
     })));
 
-/** Runs a shell with COMMAND and the words. */
+/** Runs a shell command with COMMAND and its arguments. */
 const shell = (text, cwd, env = {}) => spawnSync('sh', ['-c', text], { cwd, env: { ...process.env, ...env }, encoding: 'utf8' });
 
 test('a full or closed output is a message and status 2', () => inDirectory(room => {
@@ -181,7 +183,7 @@ test('a limited address space is enough', { skip: !canBeLimited && 'no such proc
     const ended = new Promise(resolve => child.on('exit', (_, by) => resolve(by)));
     const isBegun = await begun(room, there, 0);
     child.kill('SIGTERM');
-    const late = setTimeout(() => process.kill(-child.pid, 'SIGKILL'), 30000); // with what it has started itself
+    const late = setTimeout(() => process.kill(-child.pid, 'SIGKILL'), 30000); // with the processes that it has started
     assert.deepEqual([isBegun, await ended], [true, 'SIGTERM']);
     clearTimeout(late);
     assert.deepEqual(readdirSync(room), there);
@@ -226,7 +228,7 @@ test('a full disk leaves no file', t => inDirectory(room => {
     }
 }));
 
-/** Waits until a file is begun in a room, which has so many bytes at least. */
+/** Waits until a file in a room has at least this many bytes. */
 async function begun(room, there, size) {
     for (let i = 0; i < 3000; i++) {
         if (readdirSync(room).some(name => !there.includes(name) && read(room, name)?.length >= size)) return true;
@@ -245,7 +247,7 @@ test('a signal leaves no half file', () => inDirectory(async room => {
         const ended = new Promise(resolve => child.on('exit', (_, by) => resolve(by)));
         const isBegun = await begun(room, there, 1);
         child.kill(signal);
-        const late = setTimeout(() => child.kill('SIGKILL'), 6000); // All that is left to write takes longer.
+        const late = setTimeout(() => child.kill('SIGKILL'), 6000); // Writing the rest would take longer.
         assert.deepEqual([isBegun, await ended], [true, signal]);
         clearTimeout(late);
         assert.deepEqual(readdirSync(room), there, signal);

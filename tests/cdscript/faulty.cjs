@@ -1,5 +1,5 @@
-// Makes calls of node's `fs` fail: `hit` is asked before each, by its name and what it is given, and may return an error, or 'short' for a
-// read or a write of only half of the bytes.
+// Makes calls of node's `fs` fail. `hit` is called before each with its name and arguments, and may return an error, or 'short' for a read
+// or a write of only half of the bytes.
 
 const fs = require('node:fs');
 
@@ -20,10 +20,10 @@ for (const name of ['open', 'openSync', 'fstatSync', 'read', 'readSync', 'writeS
     };
 }
 
-/** An error of the system with a code. */
+/** A system error with this code. */
 faults.errorOf = code => Object.assign(new Error(code), { code });
 
-// As a preload of a process: each write to a file takes that many milliseconds, or the memory of a thread does not grow.
+// As a preload: each write to a file takes SLOW milliseconds, or the memory of a thread does not grow.
 if (process.env.SLOW !== undefined) {
     const pausing = new Int32Array(new SharedArrayBuffer(4));
     faults.hit = (name, [descriptor]) => {
@@ -36,7 +36,8 @@ if (process.env.NO_MEMORY !== undefined && !require('node:worker_threads').isMai
     WebAssembly.Memory.prototype.grow = () => { throw new RangeError('WebAssembly.Memory.grow(): Maximum memory size exceeded'); };
 }
 
-// As a preload: the threads read nothing, or a file is cut before they read. Node 18 loads the program itself by `readSync`, without a place.
+// As a preload: the threads read nothing, or a file is truncated before they read. Node 18 loads the program by `readSync` without a
+// position.
 const { isMainThread } = require('node:worker_threads');
 const readsPlace = (name, given) => name === 'readSync' && typeof given[4] === 'number';
 if (!isMainThread && process.env.NO_READS !== undefined) faults.hit = (...call) => readsPlace(...call) ? faults.errorOf('EIO') : null;

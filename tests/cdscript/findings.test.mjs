@@ -1,5 +1,5 @@
-// What must not be passed over: holes in a track, files that only one tree of a volume names, records that are not what they seem, files
-// that only seem to be empty; and what must not end a job: one sector that no script makes, a system without threads.
+// Findings that must not be missed: holes in a track, files in only one tree of a volume, misleading records, and files that only seem
+// empty; and conditions that must not end a job: a sector that no script can write, and a system without threads.
 
 import assert from 'node:assert/strict';
 import { spawnSync } from 'node:child_process';
@@ -11,7 +11,7 @@ import { command, damaged, imageOf, inDirectory, program, read, run, runProcess,
 
 const hasDisc = tool('genisoimage', ['--version']) !== null;
 
-/** A copy of an image with blocks that a dumper has filled. */
+/** A copy of an image with blocks that a dumper has filled with one byte. */
 function filled(image, blocks, byte) {
     const copy = Buffer.from(image);
     for (const block of blocks) copy.fill(byte, 2352 * block, 2352 * (block + 1));
@@ -26,7 +26,7 @@ test('a hole between Mode 1 sectors is a finding of merge and info', () => inDir
     const info = await run(['info', 'zeros'], { cwd: room });
     assert.equal(info.status, 1);
     assert.match(info.out, /\nmode1 298 damaged 0 address 0\n100-101 not mode1 in a track of mode1\n$/);
-    // What stands after the last Mode 1 sector may be audio, if no sheet says anything else.
+    // Sectors after the last Mode 1 sector may be audio, unless a sheet says otherwise.
     assert.equal((await run(['info', 'end'], { cwd: room })).status, 0);
     write(room, { 'end.cue': 'FILE "end" BINARY\n TRACK 01 MODE1/2352\n INDEX 01 00:00:00\n' });
     const sheet = await run(['info', 'end.cue'], { cwd: room });
@@ -75,7 +75,7 @@ test('diff --partial leaves out what no script can make', () => inDirectory(asyn
     assert.equal((await run(['diff', 'whole', 'same', '--partial'], { cwd: room })).status, 0);
 }));
 
-/** Lists an ISO image that was made raw. */
+/** Lists an ISO image that was converted to a raw one. */
 async function listed(room, user) {
     write(room, { 'made.iso': user });
     tool('rm', ['-f', 'made.raw'], { cwd: room });
@@ -125,7 +125,7 @@ test('a file that only seems to be empty is read', () => inDirectory(async room 
     assert.equal((await run(['audit', 'empty'], { cwd: room })).out, 'sectors 0 mode1 0 damaged 0 tail 0\n');
 }));
 
-/** What a job does with another class in place of node's threads. */
+/** Runs a job with this class in place of node's threads. */
 function withThreads(room, name, maker, words, input) {
     write(room, { [name]: `require('node:worker_threads').Worker = ${maker};` });
     const { status, stdout, stderr } = spawnSync(process.execPath, ['-r', `./${name}`, command, ...words], { cwd: room, encoding: 'utf8', timeout: 90000, input });

@@ -1,4 +1,4 @@
-// The jobs that write images, `info` and cue sheets, against other software.
+// The jobs that write images, `info`, and cue sheets, compared with other software.
 
 import assert from 'node:assert/strict';
 import { createHash } from 'node:crypto';
@@ -12,7 +12,7 @@ import { files, makeDisc } from './discs.mjs';
 const skip = tool('genisoimage', ['--version']) === null && 'no genisoimage';
 const sheet = (name, type = 'MODE1/2352') => `FILE "${name}" BINARY\n  TRACK 01 ${type}\n    INDEX 01 00:00:00\n`;
 
-/** That a run has failed with just this message, and has made no file. */
+/** Asserts that a run fails with exactly this message and creates no file. */
 async function fails(words, message, cwd, out = 'out') {
     const { status, out: printed, errors } = await run(words, { cwd });
     assert.deepEqual([status, printed, errors], [2, '', `cdscript: ${message}\n`], words.join(' '));
@@ -280,7 +280,7 @@ test('a file that exists stays', () => inDirectory(async room => {
         [`${MESSAGES.no_output}\n`, 'kept']);
 }));
 
-/** Wrong command lines, and what is said of each. */
+/** Wrong command lines and their messages. */
 const WRONG_WORDS = {
     '': 'a job is missing; see cdscript --help',
     'frob': "there is no job 'frob'; see cdscript --help",

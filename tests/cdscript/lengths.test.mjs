@@ -1,4 +1,4 @@
-// Files of a disc that get another length, and files of several extents: `replace-file`, `extract`, and texts that go over extents.
+// Files of a disc that change their length, and files of several extents: `replace-file`, `extract`, and texts that cross extents.
 
 import assert from 'node:assert/strict';
 import { mkdirSync, writeFileSync } from 'node:fs';
@@ -11,7 +11,7 @@ import { damaged, inDirectory, program, read, run, sameFile, tool, write } from 
 const USER = 2048;
 const skip = tool('genisoimage', ['--version']) === null && 'no genisoimage';
 
-/** Makes `disc.bin` of files by genisoimage. */
+/** Creates `disc.bin` from files with genisoimage. */
 async function makeDisc(room, files, ...options) {
     for (const [path, bytes] of Object.entries(files)) {
         mkdirSync(join(room, 'tree', path, '..'), { recursive: true });
@@ -21,13 +21,13 @@ async function makeDisc(room, files, ...options) {
     assert.equal((await run(['raw', 'disc.iso', 'disc.bin'], { cwd: room })).status, 0);
 }
 
-/** Makes `disc.bin` of user data. */
+/** Creates `disc.bin` from user data. */
 async function makeRaw(room, user) {
     write(room, { 'disc.iso': user });
     assert.equal((await run(['raw', 'disc.iso', 'disc.bin'], { cwd: room })).status, 0);
 }
 
-/** The user data after a script, by the program. */
+/** The user data after the program has applied a script. */
 async function patched(room, script) {
     tool('rm', ['-f', 'new.bin', 'new.iso'], { cwd: room });
     write(room, { script });
@@ -37,13 +37,13 @@ async function patched(room, script) {
     return read(room, 'new.iso');
 }
 
-/** What `replace-file` does with new bytes. */
+/** Runs `replace-file` with new bytes. */
 function replaced(room, path, fresh, ...words) {
     write(room, { fresh });
     return run(['replace-file', 'disc.bin', path, 'fresh', ...words], { cwd: room });
 }
 
-/** A file by isoinfo, with the names of an option. */
+/** Extracts a file with isoinfo, using the names that an option selects. */
 const isoFile = (room, path, ...options) => tool('isoinfo', [...options, '-x', path, '-i', 'new.iso'], { cwd: room });
 
 test('a file of another length gets it in each record that names it, and zeros after it', { skip }, () => inDirectory(async room => {
@@ -155,7 +155,7 @@ test('a directory in a damaged sector is named, and no script is written', () =>
     assert.deepEqual([status, out, errors], [2, '', `cdscript: block ${ROOT} is damaged: repair it first\n`]);
 }));
 
-/** A disc whose file /BIG has three extents, the second one before the first, and whose user data are noise and a text over each border. */
+/** A disc whose file /BIG has three extents, the second before the first. Its user data are noise, with a text across each border. */
 async function makeParts(room) {
     const user = volumeOf(40, sector => sector === ROOT ? [file('BIG', 30, 4096, 128), file('BIG', 20, 2048, 128), file('BIG', 25, 1000),
         file('NEXT', 32, 2048), file('SOON', 21, 2048)] : []);

@@ -1,4 +1,4 @@
-// Whole translations: `replace --list`.
+// Complete translations: `replace --list`.
 
 import assert from 'node:assert/strict';
 import { spawn, spawnSync } from 'node:child_process';
@@ -8,14 +8,14 @@ import { test } from 'node:test';
 import { command, imageOf, inDirectory, program, read, run, tool, write } from './common.mjs';
 
 
-/** Writes `image`, whose blocks 2 to 5 are zeros but for bytes at places. */
+/** Writes `image`: blocks 2 to 5 are zeros except for these bytes at these places. */
 function writeImage(room, ...places) {
     write(room, { plain: imageOf(room, 8), edit: ['cdpatch 1', ...[2, 3, 4, 5].map(block => `fill ${block} 0 2048 00`),
         ...places.map(([block, offset, bytes]) => `set ${block} ${offset} ${bytes}`), ''].join('\n') });
     tool(program, ['apply', 'plain', 'edit', 'image'], { cwd: room });
 }
 
-/** What `replace --list` makes of rows below the head. */
+/** Runs `replace --list` with these rows below the head. */
 const listed = (room, head, rows, ...more) => {
     write(room, { list: [head, ...rows, ''].join('\n') });
     return run(['replace', 'image', '--list', 'list', ...more], { cwd: room });

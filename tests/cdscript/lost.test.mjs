@@ -1,4 +1,4 @@
-// Lost sectors, and sectors that no test is made of: what `info`, `scan` and `merge` say of them, and when they are findings.
+// Lost and untested sectors: what `info`, `scan`, and `merge` report, and when they are findings.
 
 import assert from 'node:assert/strict';
 import { test } from 'node:test';
@@ -11,7 +11,7 @@ const sheet = (...tracks) => `FILE "disc.bin" BINARY\n${tracks.map(([type, time]
 const TRACK_AT_400 = '00:05:25';
 const TRACK_AT_710 = '00:09:35';
 
-/** A raw image of a volume with files, each with its name, its first block and how many it has. */
+/** A raw image of a volume with files, each with its name, its first block, and its number of blocks. */
 async function discOf(room, sectors, files) {
     const user = Buffer.from(volumeOf(sectors, sector => sector !== 18 ? [] :
         files.map(([name, block, count]) => recordOf(name, block, 2048 * count, { flags: 0 }))));
@@ -24,7 +24,7 @@ async function discOf(room, sectors, files) {
     return read(room, `raw ${sectors}`);
 }
 
-/** A copy of an image in which other bytes are in the place of sectors from a block on: one over and over, or these. */
+/** A copy of an image in which sectors from a block on have other bytes: one byte repeated, or these bytes. */
 function changed(image, first, count, bytes) {
     const copy = Buffer.from(image);
     if (typeof bytes === 'number') copy.fill(bytes, RAW * first, RAW * (first + count));
@@ -32,14 +32,14 @@ function changed(image, first, count, bytes) {
     return copy;
 }
 
-/** A copy of an image whose sectors from one on have the mode byte of Mode 2. */
+/** A copy of an image in which all sectors from a block on have the mode byte of Mode 2. */
 function mode2From(image, first) {
     const copy = Buffer.from(image);
     for (let at = RAW * first + 15; at < copy.length; at += RAW) copy[at] = 2;
     return copy;
 }
 
-/** What `info`, and `scan` if it is no cue sheet, say of an image: their statuses; the lines of info after the counts; the findings. */
+/** The statuses of `info` and, unless the image is a cue sheet, of `scan`; the lines of `info` after the counts; and the findings. */
 async function said(room, name) {
     const info = await run(['info', name], { cwd: room });
     const scan = await run(['scan', name], { cwd: room });
@@ -65,7 +65,7 @@ test('blocks that the volume uses and that are not Mode 1 are lost, at an edge a
         const last = name === 'noise' ? 499 : first + count - 1;
         assert.deepEqual([status, out], [1, `${first}-${last} not mode1 in any\n${COUNTS}\n`], name);
     }
-    // Filled by two dumpers in two ways; and a volume that only another dump has.
+    // Filled by two dumpers in different ways; and a volume that only one dump has.
     assert.deepEqual((await run(['merge', 'end.bin', 'end55.bin', 'both'], { cwd: room })).out, `995-999 not mode1 in any\n${COUNTS}\n`);
     write(room, { 'blind.bin': changed(disc, 0, 30, 0), 'blind.2.bin': changed(changed(disc, 0, 16, 0), 995, 5, 0) });
     assert.deepEqual((await said(room, 'blind.bin')).status, [0, 0]);

@@ -1,4 +1,4 @@
-// How cdscript speaks: what a mistyped word may have been meant to be, help, versions, what goes to standard output, and progress.
+// The interface of cdscript: suggestions for mistyped words, help, versions, standard output, and progress.
 
 import assert from 'node:assert/strict';
 import { spawnSync } from 'node:child_process';
@@ -50,7 +50,8 @@ test('help, version and -V are taken as words', async () => {
     }
 });
 
-/** Options stand one below the other, long ones without a letter below the long ones with one, and what they do from one column on. */
+/** Asserts the layout of a help: long options without a letter are aligned with those that have one, and all descriptions start in one
+ * column. */
 function assertAligned(help) {
     assert.ok(help.split('\n').every(line => line.length <= 79), help);
     const rows = help.split('\nOptions:\n')[1].split('\n\n')[0].trimEnd().split('\n');

@@ -1,4 +1,4 @@
-// As a preload of a process: at its end MEASURED has the seconds of a processor that it took, and its memory in MB.
+// As a preload of a process: writes its CPU seconds and its memory in MB to the file MEASURED when it ends.
 
 const { writeFileSync } = require('node:fs');
 

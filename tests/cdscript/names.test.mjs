@@ -1,4 +1,4 @@
-// Names that come from a disc or a cue sheet: none of them moves the cursor of a terminal, or begins a line.
+// Names from a disc or a cue sheet: none of them moves the cursor of a terminal or begins a line.
 
 import assert from 'node:assert/strict';
 import { test } from 'node:test';

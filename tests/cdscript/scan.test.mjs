@@ -1,4 +1,4 @@
-// Collections and known dumps: what `scan`, `info` and `merge` say with a list of dumps, and what is left of a scan that was interrupted.
+// Collections and known dumps: `scan`, `info`, and `merge` with a list of dumps, and the list that an interrupted scan leaves.
 
 import assert from 'node:assert/strict';
 import { spawn, spawnSync } from 'node:child_process';
@@ -10,7 +10,7 @@ import { test } from 'node:test';
 import { fileURLToPath } from 'node:url';
 import { gzipSync } from 'node:zlib';
 
-// Before cdscript is loaded, which takes the calls as they are then.
+// Must run before cdscript is loaded, which binds the calls.
 const faults = createRequire(import.meta.url)('./faulty.cjs');
 const { call, command, damaged, imageOf, inDirectory, read, run, sameFile, tool, write } = await import('./common.mjs');
 
@@ -18,35 +18,35 @@ const preload = fileURLToPath(new URL('./faulty.cjs', import.meta.url));
 const shaOf = bytes => createHash('sha1').update(bytes).digest('hex');
 const sheet = name => `FILE "${name}" BINARY\n TRACK 01 MODE1/2352\n INDEX 01 00:00:00\n`;
 
-/** A DAT of files, by their names. */
+/** A DAT that lists these files by name. */
 const datOf = files => `<?xml version="1.0"?>\n<datafile>${Object.entries(files).map(([name, bytes]) =>
     `<game name="G"><rom name="${name}" size="${bytes.length}" sha1="${shaOf(bytes)}"/></game>`).join('\n')}</datafile>\n`;
 
-/** What is said at the end of a collection of writeCollection. */
+/** The summary for a collection of `writeCollection`. */
 const COUNTED = 'cdscript: verified 20, known as bad 0, not in the DAT 20\n';
 
-/** What is said of what is not in a DAT. */
+/** The remark about a file that is not in a DAT. */
 const ONLY_SIZE = 'the DAT has a dump of this size, but none with this SHA-1: perhaps another dump of the disc repairs it';
 const NOT_EVEN_SIZE = 'the DAT has no dump of this size: perhaps it is cut, or of another disc';
 
-/** A row as it is if no list of dumps was given. */
+/** A row as it is without a list of dumps. */
 const withoutDat = row => row.split('\t').map((cell, i) => i === 6 ? '-' : cell).join('\t');
 
-/** The columns that 1.3.0 had. */
+/** The columns of version 1.3.0. */
 const seven = row => row.split('\t').slice(0, 7).join('\t');
 
-/** A row with the columns that came later: bytes and time, and no hashes, which no DAT asks for. */
+/** A row with the later columns: bytes and time, and no hashes, which no DAT needs here. */
 function dated(room, row) {
     const { size, mtime } = statSync(join(room, row.split('\t')[0]));
     return [row, size, mtime.toISOString(), '-', '-'].join('\t');
 }
 
-/** The row of a file that is no image. */
+/** The row of a file that is not an image. */
 const otherRow = (room, name, what, bytes, said) => dated(room, [name, `none: ${what}`, '-', '-', '-', shaOf(bytes), said].join('\t'));
 
 /**
- * Forty images, some of them damaged, in two directories, half of them with cue sheets, and a file that is no image; a DAT of them whole; and
- * the rows that are due.
+ * Writes forty images, some of them damaged, in two directories, half of them with cue sheets; a file that is not an image; and a DAT of
+ * the undamaged images. Returns the expected rows.
  */
 function writeCollection(room) {
     const image = imageOf(room, 60);
@@ -90,7 +90,7 @@ test('in a directory what is called like a raw image, and is none, is named', ()
         'set/c.bin is called like a raw image, and is not recognised', ''].join('\n').replace(/^(?=.)/gm, 'cdscript: '));
 }));
 
-/** An image of sectors of Mode 2, from block 0 on. */
+/** An image of Mode 2 sectors from block 0. */
 function mode2Of(room, count) {
     const image = imageOf(room, count);
     for (let i = 0; i < count; i++) image[2352 * i + 15] = 2;
@@ -119,13 +119,13 @@ test('each file that is looked at has a row, which names what info names and wha
         const { status, out } = await run(['scan', path, '--dat', 'all.dat'], { cwd: room });
         assert.deepEqual([status, out.split('\n').filter(Boolean).sort()], [0, due]);
     }
-    // What is given by its name, and is no image, is said each time, though the list has it.
+    // A file that is named explicitly and is not an image is reported each time, although the list has it.
     const words = ['scan', 'set/disc.iso', 'set/audio only.bin', '--dat', 'all.dat', '--resume', 'set/list'];
     for (let i = 0; i < 2; i++) {
         const { status, errors } = await run(words, { cwd: room });
         assert.deepEqual([status, errors], [2, 'cdscript: set/disc.iso is an ISO image, 2048 bytes a sector\ncdscript: verified 2, known as bad 0, not in the DAT 0\n']);
     }
-    // The list is no part of the collection in which it lies.
+    // The list is not a part of the collection that contains it.
     const all = await run(['scan', 'set', '--dat', 'all.dat', '--resume', 'set/list'], { cwd: room });
     assert.deepEqual([all.status, read(room, 'set/list').toString().split('\n').filter(Boolean).sort()], [0, due]);
 }));
@@ -156,7 +156,7 @@ test('a list that goes on with a DAT says of each line what that knows', () => i
     const before = statSync(join(room, 'list')).ino;
     const again = await run(['scan', 'one', 'two', '--dat', 'all.dat', '--resume', 'list'], { cwd: room });
     assert.deepEqual([again.status, again.errors, lines().sort(), statSync(join(room, 'list')).ino], [1, COUNTED, rows, before]);
-    // Without a DAT nothing is looked up, and with another one all lines say what that knows.
+    // Without a DAT nothing is looked up. With a different DAT each row gets its verdict.
     assert.deepEqual([(await run(['scan', 'one', '--resume', 'list'], { cwd: room })).errors, lines().sort()], ['', rows]);
     write(room, { 'other.dat': datOf({ 'Other.bin': Buffer.from('x') }) });
     await run(['scan', 'one', '--resume', 'list', '--dat', 'other.dat'], { cwd: room });
@@ -177,7 +177,7 @@ test('a list whose lines cannot be written anew stays as it is', () => inDirecto
         assert.match(errors, /^cdscript: cannot write .*\/list: /, call_);
         assert.deepEqual([read(room, 'list').toString(), readdirSync(room).filter(name => name.startsWith('.'))], [list, []], call_);
     }
-    // The first line after them, half of which is written, is taken back.
+    // The next row, of which only half was written, is removed again.
     let writes = 0;
     const full = await call(streams, ['scan', join(room, 'two'), '--dat', join(room, 'all.dat'), '--resume', join(room, 'list')], () => {
         faults.hit = (name, [, bytes]) => {
@@ -203,7 +203,7 @@ test('what could not be read is named, and the status is 2', () => inDirectory(a
 
 test('a list goes on where it was interrupted, and tells nothing twice', () => inDirectory(async room => {
     const rows = writeCollection(room).map(withoutDat);
-    // A run that was killed has left whole lines and the beginning of one.
+    // A killed run has left complete rows and the beginning of one.
     write(room, { list: `${rows[30]}\n${rows[3]}\n${rows[7].slice(0, 20)}` });
     const { status, out } = await run(['scan', 'one', 'two', '--resume', 'list'], { cwd: room });
     assert.deepEqual([status, out], [1, '']);
@@ -227,8 +227,8 @@ test('an image that is cut is marked, and the last column says whether there was
     assert.deepEqual(await columns([]), [1, kinds.map(row => [...row, '-'])]);
     const known = ['verified A.bin', 'not in the DAT', 'not in the DAT', 'not in the DAT'];
     assert.deepEqual(await columns(['--dat', 'a.dat']), [1, kinds.map((row, i) => [...row, known[i]])]);
-    // An earlier version has written `-` for what is not in the list of dumps, 0 for what was not tested, and its lists name no tail.
-    // Its lines are made anew; one of a file that is gone stays.
+    // An earlier version wrote `-` for files not in the list of dumps, 0 for tests not made, and no tails. Its rows are replaced; the row
+    // of a deleted file stays.
     const [earlier] = (await run(['scan', 'cut.bin'], { cwd: room })).out.split('\n');
     write(room, { list: `${seven(earlier).replace(',tail 1352\t0\t1', '\t0\t0')}\ngone.bin\taudio\t0\t0\t0\t${shaOf(track)}\t-\n` });
     const mended = await run(['scan', 'a.bin', 'cut.bin', '--dat', 'a.dat', '--resume', 'list'], { cwd: room });
@@ -364,7 +364,7 @@ test('info and merge say whether a dump is known', () => inDirectory(async room 
     assert.match(bad.errors, /^cdscript: bad\.dat: it has the entity &y;/);
 }));
 
-/** The lines of a list, by their names. */
+/** The rows of a list, by their names. */
 const linesOf = (room, name) => new Map(read(room, name).toString().split('\n').filter(Boolean).map(line => [line.split('\t')[0], line]));
 
 test('a list goes on with files that were replaced, and names how many are gone', () => inDirectory(async room => {
@@ -374,7 +374,7 @@ test('a list goes on with files that were replaced, and names how many are gone'
     const scan = async (...words) => (await run(['scan', 'set', '--resume', 'list', ...words], { cwd: room }));
     assert.equal((await scan()).status, 0);
     const before = linesOf(room, 'list');
-    // Another time, another size, gone, and a file that only a sheet names.
+    // A different time, a different size, a deleted file, and a file that only a sheet names.
     write(join(room, 'set'), { 'a.bin': damaged(image, 0, [3, 100]), 'b.bin': image.subarray(0, 2352 * 19), 'e.bin': damaged(image, 0, [5, 100]) });
     for (const name of ['a.bin', 'e.bin']) utimesSync(join(room, 'set', name), 1e9, 1e9);
     unlinkSync(join(room, 'set', 'c.bin'));
@@ -384,7 +384,7 @@ test('a list goes on with files that were replaced, and names how many are gone'
     assert.deepEqual([status, errors, after.size], [1, 'cdscript: list: files that no longer exist, whose lines are kept: 1\n', 5]);
     assert.deepEqual(damages, ['mode1 20 1 1', 'mode1 19 0 0', 'mode1 20 0 0', 'mode1 20 0 0', 'mode1 20 1 1']);
     assert.deepEqual(['c', 'd'].map(name => after.get(`set/${name}.bin`)), ['c', 'd'].map(name => before.get(`set/${name}.bin`)));
-    // What is not looked at keeps its line.
+    // A file that is not examined keeps its row.
     utimesSync(join(room, 'set', 'd.bin'), 1e9, 1e9);
     await run(['scan', 'set/a.bin', '--resume', 'list'], { cwd: room });
     assert.deepEqual(linesOf(room, 'list'), after);
@@ -411,7 +411,7 @@ test('two runs on one list double none of its lines', () => inDirectory(async ro
     assert.match(other.errors, /^cdscript: another run \(process \d+\) is writing to list: wait for it, or remove .*list\.lock if it has ended\n$/);
     assert.deepEqual(read(room, 'list').toString().split('\n').filter(Boolean).sort(), rows);
     assert.equal(existsSync(join(room, 'list.lock')), false);
-    // A run that was killed has left a lock.
+    // A killed run has left a lock.
     write(room, { 'list.lock': `${spawnSync('true').pid}\n` });
     assert.equal((await run(['scan', 'one', '--resume', 'list'], { cwd: room })).status, 1);
     write(room, { 'list.lock': `${process.ppid}\n` });
@@ -419,13 +419,13 @@ test('two runs on one list double none of its lines', () => inDirectory(async ro
     assert.deepEqual([held.status, existsSync(join(room, 'list.lock')), read(room, 'list').toString().includes('lock')], [2, true, false]);
 }));
 
-/** A row of a DAT that has no SHA-1. */
+/** A row of a DAT without a SHA-1. */
 const romWithoutSha = (name, bytes, hashes) => {
     const sums = { crc: crc32Of(bytes), md5: createHash('md5').update(bytes).digest('hex') };
     return `<game name="G"><rom name="${name}" size="${bytes.length}" ${hashes.map(it => `${it}="${sums[it]}"`).join(' ')}/></game>`;
 };
 
-/** The CRC-32 that gzip has. */
+/** The CRC-32 that gzip computes. */
 const crc32Of = bytes => gzipSync(bytes).readUInt32LE(gzipSync(bytes).length - 8).toString(16).padStart(8, '0');
 
 test('a DAT without SHA-1 is looked up by CRC32 and MD5, also for a list that lacks them', () => inDirectory(async room => {
@@ -442,7 +442,7 @@ test('a DAT without SHA-1 is looked up by CRC32 and MD5, also for a list that la
     assert.deepEqual([status, errors], [1, 'cdscript: entries of the DAT without a size or a hash, which match no file: 1\ncdscript: verified 2, known as bad 0, not in the DAT 1\n']);
     const info = await run(['info', 'a.bin', '--dat', 'a.dat'], { cwd: room });
     assert.match(info.out, /\nverified A\.bin\n/);
-    // By one of the two alone, and a CRC32 that begins with 0.
+    // Only one of the two hashes, and a CRC-32 that begins with 0.
     const short = Array.from({ length: 1000 }, (_, i) => Buffer.from(`text ${i}`)).find(bytes => crc32Of(bytes).startsWith('0'));
     write(room, { 'short.txt': short, 'md5.dat': `<datafile>${romWithoutSha('A.bin', image, ['md5'])}</datafile>`,
         'crc.dat': `<datafile>${romWithoutSha('S.txt', short, ['crc'])}</datafile>` });
@@ -469,7 +469,7 @@ test('the status and the last line say what a DAT knows', () => inDirectory(asyn
     assert.deepEqual(await said('scan', 'a.bin', '--dat', 'two.dat'), [0, ['verified a.bin, and 1 other'], counts(1, 0, 0)]);
     assert.deepEqual(await said('scan', 'a.bin', '--dat', 'none.dat'), [1, ['not in the DAT'], counts(0, 0, 1)]);
     assert.deepEqual(await said('scan', 'a.bin', '--dat', 'bad.dat'), [1, ['known as a bad dump: Bad.bin'], counts(0, 1, 0)]);
-    // Of what is not an image only that counts whose size a dump has.
+    // Files that are not images count only if a dump has their size.
     assert.deepEqual(await said('scan', 'set', '--dat', 'none.dat'), [0, ['not in the DAT', 'not in the DAT'], counts(0, 0, 0)]);
     assert.deepEqual(await said('scan', 'set', '--dat', 'two.dat'), [1, ['not in the DAT', 'not in the DAT'], counts(0, 0, 1)]);
     const info = async (...words) => {

@@ -1,4 +1,4 @@
-// The jobs that look into a disc or write scripts: what they find against other software and a naive search, and what their scripts do by
+// The jobs that read a disc or write scripts: their results compared with other software and a naive search, and their scripts applied by
 // the program.
 
 import assert from 'node:assert/strict';
@@ -11,13 +11,13 @@ import { TEXTS, encoded, files, makeDisc, noise } from './discs.mjs';
 
 const skip = tool('genisoimage', ['--version']) === null && 'no genisoimage';
 
-/** What a job has printed, as lines of words between tabs. */
+/** The output of a job: its lines, split at tabs. */
 const rows = text => text.split('\n').slice(0, -1).map(line => line.split('\t'));
 
 /** The user data of a raw image. */
 const userOf = image => Buffer.concat(Array.from({ length: image.length / 2352 }, (_, i) => image.subarray(2352 * i + 16, 2352 * i + 2064)));
 
-/** Where a text stands in the user data, by a naive search: block and offset. */
+/** The places of a text in the user data by a naive search, each as block and offset. */
 function places(image, wanted, base = 0) {
     const user = userOf(image);
     const found = [];
@@ -25,14 +25,14 @@ function places(image, wanted, base = 0) {
     return found;
 }
 
-/** The image that the program makes of an image by a script, all of whose patches are applied. */
+/** The image after the program has applied a script, all of whose patches must fit. */
 function applied(room, image, script, ...options) {
     tool('rm', ['-f', 'applied.bin'], { cwd: room });
     tool(program, ['apply', ...options, image, script, 'applied.bin'], { cwd: room });
     return read(room, 'applied.bin');
 }
 
-/** That a job fails with a message that ends so, prints nothing and makes no file. */
+/** Asserts that a job fails with this message as its last one, prints nothing, and creates no file. */
 async function refuses(room, words, message) {
     const { status, out, errors } = await run([...words, '-o', 'refused'], { cwd: room });
     assert.deepEqual([status, out], [2, ''], words.join(' '));
@@ -144,7 +144,7 @@ test('a file is replaced', { skip }, () => inDirectory(async room => {
     write(room, { 'hurt.bin': damaged(read(room, 'disc.bin'), 0, [read(room, 'disc.bin').length / 2352 - 170, 2100]) });
 }));
 
-/** Two images with these differences in sectors of the old one: user bytes, addresses, damage that the new one has not. */
+/** Two images that differ in sectors: in user bytes, in addresses, and in damage that the new one does not have. */
 function twoImages(room, base) {
     const fresh = imageOf(room, 400, base);
     const old = damaged(fresh, base, [base + 7, 2100], [base + 8, 30]);
@@ -245,7 +245,7 @@ test('a script of more patches than cdpatch takes', () => inDirectory(async room
     assert.equal((await run(['apply', '--long', 'image', 'script', 'out'], { cwd: room })).status, 0);
     write(room, { one: `cdpatch 1\n${lines.slice(0, 40000).join('\n')}\n`, two: `cdpatch 1\n${lines.slice(40000).join('\n')}\n` });
     write(room, { half: applied(room, 'image', 'one') });
-    // In order of blocks, and in one block by lines, as both halves have them.
+    // In the order of blocks, and within a block in the order of lines, as both halves have them.
     sameFile(read(room, 'out'), applied(room, 'half', 'two'), 'the image');
 }));
 

@@ -1,4 +1,4 @@
-// Answers questions by cdscript, called by `main` in this process: `node serve.mjs COMMAND`.
+// Answers questions with cdscript, whose `main` is called in this process: `node serve.mjs COMMAND`.
 
 import { rmSync } from 'node:fs';
 import { join } from 'node:path';

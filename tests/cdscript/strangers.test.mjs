@@ -1,4 +1,4 @@
-// Files that mean harm: what they cost beside harmless ones of their size, what they print, and where their links lead.
+// Hostile files: their cost compared with harmless files of the same size, their output, and where their links lead.
 
 import assert from 'node:assert/strict';
 import { spawnSync } from 'node:child_process';
@@ -9,13 +9,13 @@ import { test } from 'node:test';
 import { fileURLToPath } from 'node:url';
 import { SHEETS, TABLES, crowded, harmlessSheet, harmlessTable, harmlessVolume, nested, overlapping } from '../core/strangers.mjs';
 
-// Before cdscript is loaded, which takes the calls as they are then.
+// Must run before cdscript is loaded, which binds the calls.
 const faults = createRequire(import.meta.url)('./faulty.cjs');
 const { call, command, damaged, imageOf, inDirectory, read, run, tool, write } = await import('./common.mjs');
 
 const preload = fileURLToPath(new URL('./measure.cjs', import.meta.url));
 
-/** What a run of cdscript prints, its status, and what it costs. */
+/** Runs cdscript, and returns its output, its status, and its cost. */
 function measured(room, words) {
     const env = { ...process.env, MEASURED: join(room, 'measured') };
     const done = spawnSync(process.execPath, ['-r', preload, command, ...words], { cwd: room, env, encoding: 'utf8', timeout: 90000, maxBuffer: 1 << 28 });
@@ -23,7 +23,7 @@ function measured(room, words) {
     return { status: done.status, out: done.stdout, errors: done.stderr, ...JSON.parse(read(room, 'measured')) };
 }
 
-/** That a run costs not much more than a harmless one did, and says what it does. */
+/** Asserts that a run costs little more than a harmless one, and what it prints. */
 function costsAsMuch(room, words, due, seconds, said) {
     const came = measured(room, words);
     assert.ok(came.seconds < due.seconds + seconds, `${words.join(' ')}: ${came.seconds} s, ${due.seconds} s`);
@@ -92,7 +92,7 @@ test('what is no regular file is refused if only a cue sheet names it', () => in
     assert.equal((await run(['info', 'link.cue'], { cwd: room })).status, 0);
 }));
 
-/** Each job, with names that have a code of a terminal in them: `E` stands for it. */
+/** Each job, with names that contain a terminal's control code, written `E`. */
 const JOBS = [
     ['info', 'Egame.cue'], ['list', 'Egame.cue'], ['audit', 'Ehurt.bin'], ['check', 'Egame.bin', 'Escript'], ['apply', 'Egame.bin', 'Escript', 'Eapplied'],
     ['files', 'Egame.cue'], ['find', 'Egame.cue', 'E'], ['find', 'Egame.cue', '00', '--table', 'Etable'], ['show', 'Egame.bin', '16'],
@@ -118,7 +118,7 @@ test('no job prints a control character of a name', () => inDirectory(async room
     assert.match(out, /^3-3 from x\.\]0;PWNED\.\.\[31m\.\.game\.bin\n/);
 }));
 
-/** Calls main with files in a room, while `hit` says which calls fail. */
+/** Calls `main` with files of a room. `hit` decides which calls fail. */
 const faultyCall = (streams, words, hit) => call(streams, words, () => { faults.hit = hit; }, () => { faults.hit = () => null; });
 
 for (const [what, code] of [['with links', null], ['without links', 'EPERM']]) {

@@ -1,4 +1,4 @@
-// A table of all texts of a disc: which are found, in which encodings, among what is none.
+// The table of a disc's texts: which are found, in which encodings, among other data.
 
 import assert from 'node:assert/strict';
 import { createHash } from 'node:crypto';
@@ -10,7 +10,7 @@ import { ENCODINGS_KNOWN, inDirectory, program, read, run, tool, write } from '.
 
 const HEAD = 'block\toffset\tbytes\troom\tencoding\tfile\ttext\tnew';
 
-/** Numbers below a limit, the same for the same seed. */
+/** A generator of numbers below a limit, the same for the same seed. */
 function diceOf(seed) {
     let state = seed;
     return limit => {
@@ -24,7 +24,7 @@ const WHERE = ['城の地下', '北の森', '港町', '古い塔', '宿屋', '�
 const WHAT = ['剣を見つけた', '扉を開けますか？', 'へ行ってはいけない。', 'で待っている', 'のことを話してくれた！', 'に宝があるらしい', 'から帰ってきた', 'をさがしています', 'へようこそ', 'は立入禁止だ'];
 const WORDS = ['はい', 'いいえ', 'つづきから', 'はじめから', 'どうぐ', 'まほう', 'にげる', 'たたかう', 'セーブ', 'ロード', 'ポーション', 'アイテム', 'やくそう', 'どくけしそう', 'こうげき', 'ぼうぎょ', 'スタート', 'おわり'];
 
-/** A text as games have it: a menu's word, or a sentence. */
+/** A text as games have them: a word of a menu, or a sentence. */
 function someText(dice) {
     if (dice(3) === 0) return WORDS[dice(WORDS.length)];
     return `${WHO[dice(WHO.length)]}は${WHERE[dice(WHERE.length)]}${WHAT[dice(WHAT.length)]}`;
@@ -32,7 +32,7 @@ function someText(dice) {
 
 const encoded = (texts, encoding) => tool('iconv', ['-t', encoding], { input: `${texts.join('\n')}\n` });
 
-/** The bytes of texts, each by itself, since iconv keeps line ends. */
+/** The bytes of each text, converted by iconv, which keeps line ends. */
 function eachEncoded(texts, encoding) {
     const all = encoded(texts, encoding);
     const end = encoded([''], encoding);
@@ -46,7 +46,7 @@ function eachEncoded(texts, encoding) {
     return found;
 }
 
-/** Bytes of machine code, packed data, sound and pictures, in which no text is. */
+/** Machine code, packed data, sound, and pictures, which contain no text. */
 const NOISES = (() => {
     const dice = diceOf(5);
     const random = Buffer.from(Uint8Array.from({ length: 1 << 20 }, () => dice(256)));
@@ -56,7 +56,7 @@ const NOISES = (() => {
         'SOUND.BIN': Buffer.from(sound.buffer), 'PICTURE.BIN': Buffer.from(picture) };
 })();
 
-/** A disc with labelled texts in tables of four encodings, among what is none; where each text is, by its file. */
+/** Creates a disc with labelled texts in tables of four encodings among other data. Returns the places of the texts by file. */
 async function makeGame(room, count) {
     const dice = diceOf(11);
     const labels = {};
@@ -174,7 +174,7 @@ test('where no text is, none is found; and what cannot be searched is named', t 
     assert.deepEqual([nowhere.status, nowhere.errors.split('\n').slice(-2)[0]], [2, 'cdscript: there is no file X; cdscript files lists them']);
 }));
 
-/** A disc of one file for each of several bytes, by genisoimage; false if there is none. */
+/** Creates a disc with one file for each of these contents with genisoimage. False if it is not installed. */
 async function makeFiles(room, files) {
     for (const [path, bytes] of Object.entries(files)) {
         mkdirSync(join(room, 'tree', path, '..'), { recursive: true });

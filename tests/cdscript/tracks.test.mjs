@@ -1,4 +1,4 @@
-// Cue sheets with several data tracks: which of them a job looks at, and what it says of the others.
+// Cue sheets with several data tracks: the tracks that a job uses, and its messages about the others.
 
 import assert from 'node:assert/strict';
 import { test } from 'node:test';
@@ -6,12 +6,12 @@ import { damaged, imageOf, inDirectory, program, read, run, sameFile, tool, writ
 
 const TRACK_3 = 'cdscript: track 3 has data too and was not looked at: --track 3\n';
 
-/** The sheet of tracks with these types, each in a file of its own. */
+/** A sheet of tracks with these types, each in its own file. */
 function sheetOf(...tracks) {
     return tracks.map(([name, type], i) => `FILE "${name}" BINARY\n  TRACK ${String(i + 1).padStart(2, '0')} ${type}\n    INDEX 01 00:00:00\n`).join('');
 }
 
-/** Writes a set: data, audio, and data from block 180 on, of which block 185 is damaged. Its last image before that. */
+/** Writes a set of tracks: data, audio, and data from block 180 on, with block 185 damaged. Returns its last image before the damage. */
 function writeSet(room) {
     const last = imageOf(room, 20, 180);
     write(room, { 'one.bin': imageOf(room, 30), 'two.bin': Buffer.alloc(2352 * 150, 5), 'three.bin': damaged(last, 180, [185, 100]) });
@@ -58,12 +58,12 @@ test('tracks in one file are looked at together by what takes the whole image', 
     const { status, out, errors } = await run(['audit', 'game.cue'], { cwd: room });
     assert.deepEqual([status, out, errors], [1, '110 edc p=1 q=1\nsectors 125 mode1 50 damaged 1 tail 0\n', '']);
     assert.match((await run(['info', 'game.cue'], { cwd: room })).out, /\nbase 0\n(.*\n)+mode1 50 damaged 1 address 0\nnot tested 75: blocks 30 to 104 are not mode1\n$/);
-    // A place may lie in any of them; a text is searched in one.
+    // A place may be in any of them; a text is searched in one.
     const said = async (...words) => (await run(['replace', 'game.cue', ...words, '--encoding', 'hex'], { cwd: room })).errors.includes(TRACK_3);
     assert.deepEqual([await said('106', '0', '00', '01'), await said('0123456789ABCDEF', '00')], [false, true]);
     assert.equal((await run(['user', 'game.cue', 'out'], { cwd: room })).errors, TRACK_3);
     assert.ok(!(await run(['show', 'game.cue', '110'], { cwd: room })).errors.includes(TRACK_3));
-    // A gap that is not in the file: the later track counts from another block.
+    // A gap that is not in the file: the later track begins at a later block.
     imageOf(room, 20, 255).copy(image, 2352 * 105);
     write(room, { 'game.bin': image });
     const gap = await run(['info', 'game.cue'], { cwd: room });
@@ -81,7 +81,7 @@ test('a script for a later track, by the cue sheet and by its BIN', () => inDire
     const alone = await run(['check', 'three.bin', 'script'], { cwd: room });
     assert.deepEqual([alone.status, alone.out], [2, '']);
     for (const words of [['list', '--base', '180', 'three.bin'], ['list', 'one.bin']]) assert.equal((await run(words, { cwd: room })).errors, '');
-    // Of addresses that do not agree nothing is said.
+    // Addresses that do not agree are not reported.
     write(room, { odd: Buffer.concat([last.subarray(0, 2352 * 9), last.subarray(0, 2352 * 6)]) });
     assert.equal((await run(['list', 'odd'], { cwd: room })).errors, '');
 }));

@@ -1,4 +1,5 @@
-// cdscript on Windows, as far as node shows it on Linux: names that Windows cannot have, paths with backslashes, and scripts with its line ends.
+// cdscript on Windows, as far as node emulates it on Linux: names that Windows forbids, paths with backslashes, and scripts with its line
+// ends.
 
 import assert from 'node:assert/strict';
 import fs, { mkdirSync, readdirSync } from 'node:fs';
@@ -6,7 +7,7 @@ import path from 'node:path';
 import { test } from 'node:test';
 import { inDirectory, read, run, vectors, write } from './common.mjs';
 
-/** Runs cdscript as if this were Windows, whose functions of paths it calls. */
+/** Runs cdscript as on Windows, with node's functions for Windows paths. */
 async function runOnWindows(words, given) {
     const kept = Object.getOwnPropertyDescriptor(process, 'platform');
     const { basename, dirname, join } = path;
@@ -39,7 +40,7 @@ test('on Windows other names are those of files', () => inDirectory(async room =
     assert.equal((await run(['user', 'disc.bin', 'AUX.TXT'], { cwd: room })).status, 0);
 }));
 
-/** The names of the links that are made meanwhile, each with the file that it leads to. */
+/** The names of the links created during a call, each with its target. */
 async function linksMade(use) {
     const { linkSync } = fs;
     const made = [];
@@ -55,7 +56,7 @@ async function linksMade(use) {
     return made;
 }
 
-// To Linux, each path with a backslash is the name of a file, and only what lists a directory needs one.
+// For Linux, a path with backslashes is the name of one file, so only jobs that list a directory need a real one.
 test('on Windows a sheet and its file, and a new file and the one that it was, are in one directory', () => inDirectory(async room => {
     mkdirSync(`${room}/games`);
     write(room, {

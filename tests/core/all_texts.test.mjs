@@ -1,4 +1,4 @@
-// The table of all texts of a track: its rows, the stretches that are looked at, and how far it is.
+// The table of all texts of a track: its rows, the stretches that are searched, and the progress.
 
 import assert from 'node:assert/strict';
 import { test } from 'node:test';
@@ -13,7 +13,7 @@ const { encodingOf } = await core('encodings/encodings.js');
 const BASE = 50;
 const SECTORS = 6;
 
-/** A track with two texts, one in a file and one in none. */
+/** A track with two texts, one in a file and one outside files. */
 function someTrack() {
     const user = Buffer.alloc(2048 * SECTORS);
     for (const [at, text] of [[2048 + 100, 'はじめから'], [4 * 2048 + 5, 'つづきから']]) user.set(encodeText(encodingOf('CP932'), text), at);
@@ -36,7 +36,7 @@ test('a row says where a text is and how much room it has, and the progress ends
     const [track, told, texts] = [someTrack(), [], []];
     const how = { asked: {}, progress: (done, all) => { told.push([done, all]); } };
     for await (const { text } of tableOfTexts(localCrew(), track, stretchesOf(track, FILES), how)) texts.push(text);
-    // A text ends with a 00. What follows up to the end of its file, or of what lies between files, is its room.
+    // A text ends with a 00. The bytes after it, up to the end of its file or of the gap between files, are its room.
     const rows = [[51, 100, 10, 3000 - 100 - 1, 'CP932', '/a+100', 'はじめから', ''], [54, 5, 10, 2 * 2048 - 5 - 1, 'CP932', '-', 'つづきから', '']];
     const head = ['block', 'offset', 'bytes', 'room', 'encoding', 'file', 'text', 'new'];
     assert.equal(texts.join(''), [head, ...rows].map(row => `${row.join('\t')}\n`).join(''));
@@ -44,7 +44,7 @@ test('a row says where a text is and how much room it has, and the progress ends
     assert.ok(told.every(([done, all], i) => all === SECTORS && (i === 0 || done >= told[i - 1][0])), `${told}`);
 });
 
-/** Sentences of each encoding that is told, in which English stands too. */
+/** Sentences in each encoding that is recognised, mixed with English. */
 const SENTENCES = {
     Japanese: ['勇者は古い剣を手に入れた。', '村人が城の地下について話した！', 'HP 20の薬を買っていく…', 'はい', '「宝があるらしい」', 'This line is in English, and it is longer than forty characters.', 'ー'],
     Big5: ['對所有指定的檔案進行解壓縮處理。', '如果設定了這個變數！', '要刪除的現有約束？', 'English text in between', '是'],
@@ -54,7 +54,7 @@ const SENTENCES = {
 const JAPANESE = ['CP932', 'EUC-JP', 'UTF-8', 'UTF-16LE', 'UTF-16BE'];
 const TOLD = [...JAPANESE, 'Big5', 'GBK', 'EUC-KR'];
 
-/** Bytes of lines of an encoding, so many at least, and where each line is in them. */
+/** Lines in an encoding, with at least this many bytes, and the place of each line. */
 function linesIn(name, size, lineEnd, seed = 1) {
     const dice = diceOf(seed);
     const known = (SENTENCES[name] || SENTENCES.Japanese).map(text => Buffer.from(encodeText(encodingOf(name), text)));
@@ -68,7 +68,7 @@ function linesIn(name, size, lineEnd, seed = 1) {
     return { bytes: Buffer.concat(parts), places };
 }
 
-/** The rows of a file of these bytes. */
+/** The table's rows for a file of these bytes. */
 async function rowsIn(bytes, name, lines = false) {
     const user = Buffer.alloc(2048 * Math.ceil(bytes.length / 2048));
     user.set(bytes);
@@ -83,7 +83,7 @@ async function rowsIn(bytes, name, lines = false) {
     });
 }
 
-/** Rows that follow one another over all of these bytes. */
+/** Asserts that the rows cover all of these bytes without gaps or overlaps. */
 function assertCovered(rows, from, to, name) {
     assert.ok(rows.length > 0 && rows[0].start === from && rows.at(-1).end === to, `${name}: ${rows[0]?.start} to ${rows.at(-1)?.end}`);
     rows.forEach(({ start }, i) => assert.ok(i === 0 || start === rows[i - 1].end, `${name}: a row at ${start} after ${rows[i && i - 1].end}`));
@@ -100,7 +100,7 @@ test('each byte of a file of text is in one row, which ends with a line or a sen
 });
 
 test('each byte of a long text among other data is in one row', async () => {
-    // In UTF-16 long lines in English are left out, unless there is nothing else in the file.
+    // In UTF-16 long English lines are left out, unless the file has nothing else.
     for (const name of TOLD.filter(it => !it.startsWith('UTF-16'))) {
         const { bytes } = linesIn(name, 30000, '\n');
         const around = Buffer.from([0xFF, 0x80, 0, 0]);

@@ -1,4 +1,4 @@
-// Where characters begin, in texts of each encoding.
+// The places where characters begin, in texts of each encoding.
 
 import assert from 'node:assert/strict';
 import { test } from 'node:test';
@@ -8,13 +8,13 @@ const { LOOKED_BACK, bytesInside, charactersFrom } = await core('texts/boundarie
 const { encodingOf, tableOf } = await core('encodings/encodings.js');
 const { encodeText } = await core('encodings/encoding.js');
 
-/** Signs of each encoding that has characters. */
+/** Sample characters of each encoding that has characters. */
 const SIGNS = Object.fromEntries(ENCODINGS_KNOWN.filter(({ signs }) => signs).map(({ name, signs }) => [name, signs]));
 
-/** The encodings of which bytes say where characters begin. */
+/** The encodings in which bytes show where characters begin. */
 const TOLD = Object.keys(SIGNS).filter(name => !name.startsWith('UTF-16'));
 
-/** A text of these signs, and where each begins in its bytes. */
+/** A text of these characters, and the place of each in its bytes. */
 function someText(name, dice, count) {
     const signs = Array.from({ length: count }, () => [...SIGNS[name]][dice([...SIGNS[name]].length)]);
     const encoded = signs.map(sign => encodeText(encodingOf(name), sign));

@@ -1,8 +1,8 @@
-// The calls of the module that the core does not make, for tests.
+// Calls of the module that the core does not make, for tests.
 
-/** A class of calls that has a method for each of them. */
+/** Extends a class of calls by a method for each of them. */
 export const withAllCalls = (Calls, sized) => class extends Calls {
-    /** What a command prints of an image, and its status. */
+    /** The text that a command prints about an image, and its status. */
     report(name, image, base) {
         const room = 100 + 40 * Math.floor(image.length / 2352);
         const [at, text] = this.put(image, room);
@@ -18,7 +18,7 @@ export const withAllCalls = (Calls, sized) => class extends Calls {
         return this.report('cdpatch_audit', image, base);
     }
 
-    /** What is held, not copied. */
+    /** A view of held bytes, without a copy. */
     held(from, to) {
         return this.memory.subarray(this.arena + this.within(from), this.arena + this.within(to));
     }
@@ -37,7 +37,7 @@ export const withAllCalls = (Calls, sized) => class extends Calls {
         return { zeros: Boolean(zeros), edc: Boolean(edc), p, q };
     }
 
-    /** Makes a call that changes a sector in its place, and returns its result. */
+    /** Makes a call that changes a sector in place, and returns its result. */
     change(name, sector, bytes, given) {
         const [at, place] = this.put(sized(sector, 2352), bytes);
         const result = this.exports[name](at, ...given(place));
@@ -67,7 +67,7 @@ export const withAllCalls = (Calls, sized) => class extends Calls {
         return this.line('cdpatch_result_text', result);
     }
 
-    /** The patch of the line that was read last on held sectors, from a byte on; the result with its place. */
+    /** Applies the patch of the last line that was read to held sectors, from a byte on. Returns the result with its place. */
     applyPatch(from, count, carry) {
         const at = BigInt(this.arena + this.within(from + count * 2352) - count * 2352);
         const { patch, fresh, old, answer } = this.places;

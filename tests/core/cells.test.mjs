@@ -1,4 +1,4 @@
-// Tables as spreadsheets save them, and texts in their cells.
+// Tables as spreadsheets save them, and the texts in their cells.
 
 import assert from 'node:assert/strict';
 import { test } from 'node:test';
@@ -46,7 +46,7 @@ test('between tabs, quotes that are not needed are kept, unless the cells of the
     assert.deepEqual(await texts('block,offset,text,new\n1,2,x,"A herb!"\n'), [['x', 'A herb!']]);
 });
 
-/** The fault of a row whose cell runs on to another. */
+/** The fault of a row with a cell that continues in another row. */
 const runsOn = row => ({ code: 'list/cell-runs-on', facts: { row } });
 
 test('a cell in quotes between tabs that runs on to a row with a place names both rows', async () => {

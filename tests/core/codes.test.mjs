@@ -1,4 +1,4 @@
-// The calls and what they are given, against cdpatch.h, the man page and the sectors of another encoder.
+// The calls and their arguments, compared with cdpatch.h, the man page, and the sectors of another encoder.
 
 import assert from 'node:assert/strict';
 import { readFileSync } from 'node:fs';

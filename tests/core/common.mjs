@@ -1,4 +1,4 @@
-// What the tests of the core share: the core, which CORE names if it is not web/core; images, readers, and comparing bytes.
+// Shared by the tests of the core: the core itself (CORE, by default web/core), images, readers, and comparisons of bytes.
 
 import assert from 'node:assert/strict';
 import { readFileSync } from 'node:fs';
@@ -22,13 +22,13 @@ const Calls = withAllCalls(codes.Calls, codes.sized);
 export const module = new WebAssembly.Module(readFileSync(process.env.MODULE ?? join(top, 'library/cdpatch.wasm')));
 
 /**
- * What is known of each encoding from elsewhere, by the file tests/encodings.json, in the order in which they are listed: its spaces; signs
- * that are cut in the middle; and of another language the name that the Encoding Standard has for it, the SHA-256 of what that has
- * beside ASCII (a line with the bytes and the character for each), the name for iconv and Python, and texts.
+ * The table of encodings in tests/encodings.json, in the order of their list: the spaces; characters that are split in tests; and for
+ * encodings of other languages the Encoding Standard's label, the SHA-256 of its characters beyond ASCII (a line with the bytes and the
+ * character for each), the name for iconv and Python, and sample texts.
  */
 export const ENCODINGS_KNOWN = JSON.parse(readFileSync(join(top, 'tests/encodings.json'), 'utf8'));
 
-/** Calls with a memory of their own. */
+/** Calls with their own memory. */
 export const newCalls = () => new Calls(module);
 export const calls = newCalls();
 
@@ -47,7 +47,7 @@ export function sameBytes(a, b, name) {
 /** Random bytes. */
 export const someBytes = (dice, size) => Uint8Array.from({ length: size }, () => dice(256));
 
-/** Sectors from a block on: most of them consistent, some damaged, of another kind or with another address; and a tail. */
+/** Sectors from a block on: most of them consistent, some damaged, of another kind, or with a wrong address. A tail follows. */
 export function someImage(dice, count, base, tail = 0) {
     const image = new Uint8Array(count * 2352 + tail).fill(7);
     const user = new Uint8Array(2048);
@@ -62,7 +62,7 @@ export function someImage(dice, count, base, tail = 0) {
     return image;
 }
 
-/** Surveys of ranges that follow one another, as one. */
+/** Joins the surveys of consecutive ranges. */
 export function joinSurveys(parts, base) {
     let end = base;
     for (const { block, records } of parts) {
@@ -72,14 +72,14 @@ export function joinSurveys(parts, base) {
     return { block: base, records: Uint8Array.from(Buffer.concat(parts.map(part => part.records))) };
 }
 
-/** An image's survey by ranges of so many sectors. */
+/** The survey of an image by ranges of `step` sectors. */
 export function surveyed(image, base, step) {
     const whole = image.subarray(0, image.length - image.length % 2352);
     const survey = (bytes, block) => ({ block, records: calls.survey(bytes, block) });
     return joinSurveys(cutBy(whole, 2352 * step).map((bytes, i) => survey(bytes, base + i * step)), base);
 }
 
-/** A reader of bytes in memory, whose reads give at most so many bytes. */
+/** A reader of bytes in memory that returns at most `most` bytes per read. */
 export function readerOf(bytes, most = Infinity) {
     const reads = [];
     return {
@@ -92,7 +92,7 @@ export function readerOf(bytes, most = Infinity) {
     };
 }
 
-/** The bytes of pieces, each of which begins where the one before it ends. */
+/** The bytes of pieces, each of which must begin where the previous one ends. */
 export function joinedPieces(image, pieces) {
     let end = 0;
     const parts = pieces.map(piece => {
@@ -105,9 +105,9 @@ export function joinedPieces(image, pieces) {
     return Buffer.concat(parts);
 }
 
-/** A text cut at these places. */
+/** Bytes cut at these places. */
 export const cutAt = (bytes, ...places) => [0, ...places].map((from, i) => bytes.subarray(from, places[i] ?? bytes.length));
 
-/** A text in pieces of one size. */
+/** Bytes cut into pieces of one size. */
 export const cutBy = (bytes, size) =>
     Array.from({ length: Math.ceil(bytes.length / size) }, (_, i) => bytes.subarray(i * size, (i + 1) * size));

@@ -15,10 +15,10 @@ const SAID = ['bytes', 'run', 'whole', 'address', 'both', 'sound'];
 
 const compared = (old, fresh, { step, ...options } = {}, crew = localCrew()) =>
     compareTrack({ calls, crew }, trackOf(old, BASE), readerOf(fresh), options, step && { step });
-/** What a script of this base has before its patches. */
+/** The lines before the patches in a script for this base. */
 const head = version => `cdpatch ${version}\n# base ${BASE}\n`;
 
-/** Why no script makes a sector another, by the definitions; undefined if one does. */
+/** The reason why no script turns one sector into another, by the definitions; undefined if one does. */
 function whyNot(old, fresh) {
     if (Buffer.compare(old, fresh) === 0) return undefined;
     const kinds = [calls.kind(old), calls.kind(fresh)];
@@ -29,7 +29,7 @@ function whyNot(old, fresh) {
     return calls.isConsistent(fresh) ? undefined : { why: 'damaged', kinds: [] };
 }
 
-/** What has to be named, block by block. */
+/** The blocks that must be listed, one by one. */
 const dueLeft = (old, fresh) => Array.from({ length: countOf(old) }, (_, i) => i)
     .map(i => ({ block: BASE + i, ...whyNot(sectorAt(old, i), sectorAt(fresh, i)) })).filter(it => it.why !== undefined);
 
@@ -127,7 +127,7 @@ test('runs with at most eight equal bytes between them are one patch', async () 
     assert.deepEqual(await linesFor(2047), [`set ${BASE} 2047 A5 was 00`]);
     assert.deepEqual(await linesFor(3, 12), [`set ${BASE} 3 A5${'00'.repeat(8)}A5 was ${'00'.repeat(10)}`]);
     assert.deepEqual(await linesFor(3, 13), [`set ${BASE} 3 A5 was 00`, `set ${BASE} 13 A5 was 00`]);
-    // The last four bytes are a word, all of which differs.
+    // The last four bytes are a word in which all bytes differ.
     for (const equal of [4, 5, 6, 7, 8]) {
         const [first, zeros] = [11 - equal, '00'.repeat(equal)];
         assert.deepEqual(await linesFor(first, 12, 13, 14, 15), [`set ${BASE} ${first} A5${zeros}A5A5A5A5 was ${zeros}${'00'.repeat(5)}`]);
@@ -158,7 +158,7 @@ test('ranges of 1 to 4096 sectors agree, and threads agree with one process', as
     });
 });
 
-/** What lines say of themselves if nothing is special. */
+/** The other properties of a result if nothing is special. */
 const PLAIN = { version: 1, carry: false, left: [] };
 
 test('more patches than cdpatch takes need --long', async () => {

@@ -1,4 +1,4 @@
-// The text around hits, and the files in which they lie: of many at once what each has by itself, with less work.
+// The texts around hits, and the files that contain them: for many hits at once the same as for each alone, with less work.
 import assert from 'node:assert';
 import { test } from 'node:test';
 import { core, diceOf, encoded, readerOf } from './common.mjs';
@@ -11,7 +11,7 @@ const { encodingOf, tableOf } = await core('encodings/encodings.js');
 const USER = 2048;
 const BASE = 225;
 
-/** An image of so many sectors of few characters and other bytes, and hits in it, near one another and far apart. */
+/** An image of `sectors` sectors with few different byte values, and hits in it, some close together and some far apart. */
 function hitsOf(seed, sectors, count) {
     const dice = diceOf(seed);
     const bytes = [0x82, 0xA0, 0x83, 0x41, 0xE3, 0x81, 0x82, 0x00, 0x30, 0xFF, 0x8F, 0xA1];
@@ -77,7 +77,7 @@ test('more hits in a few sectors than a call takes arguments have their contexts
     assert.strictEqual(count, hits.length);
 });
 
-/** Files at random, some of which share sectors, by their blocks. */
+/** Random files in the order of their blocks, some of which share sectors. */
 function filesOf(seed, count) {
     const dice = diceOf(seed);
     const files = Array.from({ length: count }, (_, i) => ({ path: `/${i}`, block: dice(4 * count), size: dice(6) * 1500, fault: null }));

@@ -1,4 +1,4 @@
-// What the tests of jobs share: crews of this thread and of others, and answers of jobs.
+// Shared by the tests of jobs: crews of this thread and of others, and the answers of jobs.
 
 import { Worker } from 'node:worker_threads';
 import { calls, core, module } from './common.mjs';
@@ -6,10 +6,10 @@ import { calls, core, module } from './common.mjs';
 const { Crew, localHand } = await core('crew/crew.js');
 const { JOBS } = await core('jobs/jobs.js');
 
-/** A crew of this thread. */
+/** A crew that works in this thread. */
 export const localCrew = (table = JOBS) => new Crew([localHand(calls, table)]);
 
-/** A crew of threads, which `use` has until it ends. */
+/** Runs `use` with a crew of threads, and ends the threads afterwards. */
 export async function withThreads(count, use) {
     const workers = Array.from({ length: count }, () => new Worker(new URL('worker.mjs', import.meta.url), { workerData: module }));
     try {
@@ -26,7 +26,7 @@ function threadHand(worker) {
     return hand;
 }
 
-/** The answers of a job, in the order in which they are taken. */
+/** The answers of a job, in the order of their delivery. */
 export async function answersOf(crew, job, readers, args, how) {
     const answers = [];
     await crew.share(job, readers, args, how, answer => { answers.push(answer); });

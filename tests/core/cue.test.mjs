@@ -1,4 +1,4 @@
-// Cue sheets: their tracks, and what is refused.
+// Cue sheets: their tracks, and the errors that are refused.
 import assert from 'node:assert';
 import { test } from 'node:test';
 import { core } from './common.mjs';
@@ -10,7 +10,7 @@ const RAW = 2352;
 /** A sheet of one file. @param {...string} lines */
 const sheet = (...lines) => `FILE "game.bin" BINARY\r\n${lines.join('\r\n')}\r\n`;
 
-/** The tracks in short. @param {string} text @param {...number} sizes */
+/** The main properties of each track. @param {string} text @param {...number} sizes */
 function tracks(text, ...sizes) {
     return tracksOf(sheetOf(text), sizes).map(({ number, file, at, end, block }) => ({ number, file, at, end, block }));
 }

@@ -1,4 +1,4 @@
-// Lists of known dumps: what they say, and what is refused.
+// Lists of known dumps: their entries, and the errors that are refused.
 import assert from 'node:assert';
 import { test } from 'node:test';
 import { core, encoded } from './common.mjs';
@@ -10,12 +10,12 @@ const HEAD = '<?xml version="1.0"?>\n<!DOCTYPE datafile PUBLIC "-//Logiqx//DTD R
 const rom = (name, more = '') => `<game name="Game"><description>a > b</description><rom name="${name}" size="7" crc="0" sha1="${SHA.toUpperCase()}"${more}/></game>`;
 const datOf = (...games) => `${HEAD}<!-- <a/> <rom name="no" size="5" sha1="${SHA}"/> -->\n<datafile>\n<header><name>X</name></header>\n${games.join('\n')}\n</datafile>\n`;
 
-/** Bytes in pieces of a size. */
+/** Splits bytes into pieces of this size. */
 async function* cut(bytes, size) {
     for (let at = 0; at < bytes.length; at += size) yield bytes.subarray(at, at + size);
 }
 
-/** What a list knows, in short: whether a dump is bad, its name, and how many others have its hash. */
+/** A known dump in short: whether it is bad, its name, and how many others have its hash. */
 const inShort = found => found && `${found.isBad ? 'bad' : 'good'} ${found.name}${found.others > 0 ? ` and ${found.others}` : ''}`;
 const said = (dumps, ...asked) => inShort(dumps.find(...asked));
 
@@ -128,7 +128,7 @@ const HOSTILE = {
     'dat/no-dump': [datOf('<game name="x"><rom name="x" size="7" md5="0"/></game>')],
 };
 
-/** A failure by its code and its only fact. */
+/** Whether an error has this code and, as its only fact, this value. */
 const failsBy = why => error => [error.code, ...Object.values(error.facts)].join(' ') === why;
 
 for (const [why, texts] of Object.entries(HOSTILE)) {

@@ -1,4 +1,4 @@
-// What was opened: images, cue sheets, tracks, and the blocks with which they begin.
+// Opened discs: images, cue sheets, tracks, and the blocks at which they begin.
 
 import assert from 'node:assert/strict';
 import { test } from 'node:test';

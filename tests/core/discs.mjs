@@ -1,4 +1,4 @@
-// What the tests of discs share: raw sectors of user data, ISO images, and other commands.
+// Shared by the tests of discs: raw sectors with user data, ISO images, and other commands.
 
 import { spawnSync } from 'node:child_process';
 import { mkdirSync, mkdtempSync, readFileSync, rmSync, writeFileSync } from 'node:fs';
@@ -9,7 +9,7 @@ const RAW = 2352;
 const USER = 2048;
 
 /**
- * Sectors of 2352 bytes with user data in their places, and 77 everywhere else.
+ * Sectors of 2352 bytes with this user data in place, and 77 everywhere else.
  * @param {Uint8Array} user
  */
 export function rawOf(user) {
@@ -23,7 +23,7 @@ export function rawOf(user) {
 }
 
 /**
- * Runs a command and answers its output, or null if there is no such command.
+ * Runs a command and returns its output, or null if it is not installed.
  * @param {string} command
  * @param {...string} given
  */
@@ -35,7 +35,7 @@ export function output(command, ...given) {
 }
 
 /**
- * Calls with a directory that is gone afterwards.
+ * Calls `use` with a new directory that is deleted afterwards.
  * @template T
  * @param {(directory: string) => T} use
  */
@@ -49,7 +49,7 @@ export function inDirectory(use) {
 }
 
 /**
- * An ISO image of files, what isoinfo lists of it, and null if there is no genisoimage.
+ * Creates an ISO image of these files, and lists it with isoinfo. Null if genisoimage is not installed.
  * @param {Record<string, string>} files path and content
  * @param {string[]} options of genisoimage
  * @param {string[]} listing options of isoinfo
@@ -69,7 +69,7 @@ export function isoOf(files, options, listing) {
 }
 
 /**
- * The files that isoinfo lists.
+ * Parses the list of files that isoinfo prints.
  * @param {string} text
  */
 function listed(text) {

@@ -15,7 +15,7 @@ const BASE = 70;
 const imageOf = (bytes, base = BASE) => ({ name: 'image.bin', reader: readerOf(bytes), base, addressed: base, sectors: countOf(bytes), tail: bytes.length % RAW });
 const userOf = image => Buffer.concat(Array.from({ length: countOf(image) }, (_, i) => sectorAt(image, i).subarray(16, 2064)));
 
-/** The image with other user data. */
+/** The image with this user data. */
 function withUser(image, user) {
     const made = image.slice();
     for (let i = 0; i < countOf(image); i++) {
@@ -91,7 +91,7 @@ test('another length is refused with both, and fewer bytes are filled up', async
     assert.throws(() => filledUp(new Uint8Array(3), 6, Uint8Array.of(0x81, 0x40)), { code: 'replace/filler', facts: { missing: 3, filler: Uint8Array.of(0x81, 0x40) } });
 });
 
-/** A raw image of a volume with files, and one of the files. */
+/** A raw image of a volume with files, and one of these files. */
 async function disc(t, path) {
     const iso = isoOf({ 'GAME.DAT': 'data '.repeat(3000), 'OTHER.TXT': 'x'.repeat(2048), 'EMPTY': '' }, [], []);
     if (!iso) return t.skip('no genisoimage');

@@ -1,4 +1,4 @@
-// The order in which the files of a track have their sectors, and what is replaced in it.
+// The order of a track's sectors by files, and replacements in it.
 
 import assert from 'node:assert/strict';
 import { test } from 'node:test';
@@ -15,16 +15,16 @@ const COUNT = 12;
 const sectors = calls.encodeBlocks(BASE, Uint8Array.from({ length: COUNT * 2048 }, (_, at) => Math.floor(at / 2048)));
 const track = { name: 'image', reader: readerOf(sectors), base: BASE, sectors: COUNT };
 
-/** An extent of a file: its first sector in the track, its bytes, and how many of the file come before it. */
+/** An extent of a file: its first sector in the track, its size in bytes, and how many bytes of the file come before it. */
 const extent = (path, place, size, before) => ({ path, block: BASE + place, size, before, fault: null });
 
-/** The sectors of the track in the order of files, null if that is their own. */
+/** The sectors of the track in the order of files; null if that is the order of the track. */
 function orderOf(files) {
     const order = fileOrder(track, files);
     return order ? Array.from({ length: COUNT }, (_, index) => order.blockOf(index) - BASE) : null;
 }
 
-/** One that goes on before itself, after an empty extent, and one that goes on after another file. */
+/** A file that continues before itself, after an empty extent, and a file that continues after another file. */
 const APART = [extent('/a', 6, 4096, 0), extent('/a', 11, 0, 4096), extent('/a', 2, 3000, 4096),
     extent('/b', 4, 2048, 0), extent('/b', 9, 100, 2048)];
 const DUE = [0, 1, 4, 9, 5, 6, 7, 2, 3, 8, 10, 11];
@@ -48,7 +48,7 @@ test('files whose extents follow one another, go on within a sector or share sec
 });
 
 test('an order has each sector of the track once, or there is none', () => {
-    // The extents add up to as many sectors as the track has, but sector 5 is in none of them.
+    // The extents have as many sectors as the track in total, but sector 5 is in none of them.
     const twice = [extent('/a', 6, 4096, 0), extent('/a', 2, 6144, 4096), extent('/b', 8, 4096, 0), extent('/b', 3, 2048, 4096)];
     const beyond = [extent('/a', 2, 2048, 0), extent('/a', 11, 4096, 2048), extent('/b', 5, 2048, 0), extent('/b', 20, 2048, 2048)];
     for (const files of [twice, beyond]) {

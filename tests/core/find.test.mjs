@@ -1,4 +1,4 @@
-// Search over user data: hits over borders, against a naive search.
+// The search in user data: hits across borders, compared with a naive search.
 import assert from 'node:assert';
 import { test } from 'node:test';
 import { core, diceOf } from './common.mjs';
@@ -16,7 +16,7 @@ const ALL = 1e9;
 /** The hits of one text. */
 const findOne = (bytes, first, { wanted, ...limits }) => findIn(bytes, first, { texts: [wanted], ...limits })[0];
 
-/** Units of one spelling each, a byte a unit. @param {string} digits */
+/** One unit with one spelling for each byte. @param {string} digits */
 const bytesOf = digits => encodingOf('hex').units(digits);
 
 /** @param {Uint8Array[][]} wanted @returns {Uint8Array[]} every way to spell it */
@@ -27,7 +27,7 @@ function spelled(wanted) {
 }
 
 /**
- * Every place at which a text begins, byte by byte.
+ * Every place at which a text begins, found byte by byte.
  * @param {Uint8Array} user
  * @param {Uint8Array[][]} wanted
  * @param {number} base
@@ -43,7 +43,7 @@ function naive(user, wanted, base) {
 }
 
 /**
- * The answer by ranges of so many sectors.
+ * The result by ranges of `range` sectors.
  * @param {Uint8Array} raw
  * @param {Uint8Array[][]} wanted
  * @param {{ base: number, range: number, limit: number }} how
@@ -57,7 +57,7 @@ function byRanges(raw, wanted, { base, range, limit }) {
     return joinFound(parts, limit);
 }
 
-/** The user data of an image, random, of few values, so that there are many hits. @param {number} seed @param {number} sectors */
+/** Random user data with few different values, so that there are many hits. @param {number} seed @param {number} sectors */
 function randomUser(seed, sectors) {
     const dice = diceOf(seed);
     return Uint8Array.from({ length: sectors * USER }, () => dice(3));
@@ -128,7 +128,8 @@ test('spellings of several lengths: every one is found, with its size', () => {
     }
 });
 
-/** Spellings of 1 to 3 bytes, the longer ones before and after those with which they begin, but none twice. @param {number} count */
+/** Different spellings of 1 to 3 bytes, some of which begin with others; longer ones occur before and after shorter ones. @param {number}
+ * count */
 function manySpellings(count) {
     const dice = diceOf(17);
     const spellings = new Map();
@@ -152,7 +153,7 @@ test('of many spellings that stand at a place the first one of the part is found
 test('many spellings are looked up at a place, and not compared there one by one', () => {
     let looks = 0;
     const counting = { get: (bytes, name) => { looks += 1; return bytes[name]; } };
-    const others = [0xAAA, 0x555]; // what stands there
+    const others = [0xAAA, 0x555]; // the values in the image
     const numbers = Array.from({ length: 4096 }, (_, i) => i).filter(i => !others.includes(i));
     const part = numbers.map(i => new Proxy(Array.from({ length: 12 }, (_, k) => i >> k & 1), counting));
     const looksIn = (/** @type {number} */ sectors) => {
@@ -212,6 +213,6 @@ test('no text and no image have no hits', () => {
 });
 
 test('the parity and the header of a sector are not searched', () => {
-    const raw = rawOf(new Uint8Array(2 * USER)); // 77 everywhere but in the user data
+    const raw = rawOf(new Uint8Array(2 * USER)); // 77 everywhere except in the user data
     assert.strictEqual(byRanges(raw, bytesOf('77'), { base: 0, range: 2, limit: 5 }).count, 0);
 });

@@ -1,4 +1,4 @@
-// Finding a text in a track in the order of its files, and replacing what was found.
+// Searching a track in the order of its files, and replacing the hits.
 
 import assert from 'node:assert/strict';
 import { test } from 'node:test';
@@ -89,7 +89,7 @@ test('replacing hits can be cancelled, and their number is told', async () => {
 });
 
 test('a hit that may begin inside a character is left out, unless it is meant', async () => {
-    // In CP932 殻 is 8A6B, so that only the second 6B begins a character.
+    // In CP932 殻 is 8A6B, so only the second 6B begins a character.
     const image = imageOf(Uint8Array.of(0, 0x8A, 0x6B, 0x7A, 0, 0x6B, 0x7A));
     const places = { image, encoding: encodingOf('CP932'), hits: [hit(0, 2, 2), hit(0, 5, 2)] };
     const freshFor = () => Uint8Array.of(0x78, 0x78);

@@ -1,4 +1,4 @@
-// The forms by which the files of the core can be joined to one function.
+// The forms in which the core's files can be joined to one function.
 
 import assert from 'node:assert/strict';
 import { readFileSync, readdirSync } from 'node:fs';

@@ -1,4 +1,4 @@
-// Lists and tables of characters that mean harm: what is read of them, and what is refused, by how much work they make.
+// Hostile lists and tables of characters: the content that is read, the errors, and the amount of work.
 
 import assert from 'node:assert/strict';
 import { test } from 'node:test';
@@ -10,7 +10,7 @@ const { listRows, replaceList } = await core('tasks/list.js');
 const { encodingOf, tableOf } = await core('encodings/encodings.js');
 const { endOfMatch } = await core('texts/find.js');
 
-/** How many characters `indexOf` and expressions have looked at while something was done. */
+/** The number of characters that `indexOf` and regular expressions examine during a call. */
 function lookedAt(use) {
     const [indexOf, exec] = [String.prototype.indexOf, RegExp.prototype.exec];
     let count = 0;
@@ -90,7 +90,7 @@ test('others get a turn while a list is read, sorted and replaced, and its signa
     }
 });
 
-/** What becomes of rows, and how many characters an encoding was asked for. */
+/** The result of replacing these rows, and the number of characters that the encoding was asked for. */
 async function made(rows, name = 'CP932', watch = {}) {
     let asked = 0;
     const encoding = encodingOf(name);

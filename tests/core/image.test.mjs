@@ -1,4 +1,4 @@
-// What a file is, and the base of an image.
+// The kind of a file, and the base of an image.
 import assert from 'node:assert';
 import { test } from 'node:test';
 import { calls, core, diceOf, readerOf } from './common.mjs';
@@ -19,7 +19,7 @@ function sectors(block, count) {
     return Buffer.concat(Array.from({ length: count }, (_, i) => calls.encode(calls.address(block + i), user)));
 }
 
-/** The same, each with 96 bytes of subchannels. @param {Buffer} raw */
+/** Sectors with 96 bytes of subchannels added to each. @param {Buffer} raw */
 const longer = raw => Buffer.concat(Array.from({ length: raw.length / RAW }, (_, i) =>
     Buffer.concat([raw.subarray(RAW * i, RAW * (i + 1)), Buffer.alloc(96, 0x40)])));
 
@@ -64,7 +64,7 @@ test('an image of Nero is known by how it ends, and is not taken for one that is
     assert.strictEqual(await kind(Buffer.concat([image, Buffer.from('NERO\0\0\x10\0....')])), 'raw');
 });
 
-/** The bytes that scrambling adds to those after the sync field: a register of 15 bits (ECMA-130, Annex B). */
+/** The bytes that scrambling XORs to those after the sync field: a register of 15 bits (ECMA-130, Annex B). */
 function scrambling(size) {
     let register = 1;
     return Uint8Array.from({ length: size }, () => {
@@ -79,7 +79,7 @@ test('a scrambled image is known by its headers', async () => {
     assert.deepStrictEqual([...added.subarray(0, 6)], [0x01, 0x80, 0x00, 0x60, 0x00, 0x28]);
     const scrambled = image.map((byte, i) => i % RAW < 12 ? byte : byte ^ added[i % RAW - 12]);
     assert.strictEqual(await kind(scrambled), 'scrambled');
-    // Some of its sectors are no proof.
+    // A few scrambled sectors are not enough.
     const some = image.slice();
     some.set(scrambled.subarray(0, 10 * RAW));
     assert.deepStrictEqual([await kind(some), await kind(image)], ['raw', 'raw']);

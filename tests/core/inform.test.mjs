@@ -1,4 +1,4 @@
-// What is found in a disc: which tracks are surveyed, what is lost in them, and what a cut image lacks of its volume.
+// The survey of a disc: the tracks that are surveyed, their lost sectors, and the part of its volume that a cut image lacks.
 
 import assert from 'node:assert/strict';
 import { test } from 'node:test';
@@ -12,7 +12,7 @@ const { surveyRange } = await core('sectors/survey.js');
 const [RAW, USER, SECTORS, BIG] = [2352, 2048, 700, 100];
 const BASE = 150;
 
-/** A disc whose file /BIG has all sectors from block 100 on, and whose volume says how many sectors it has. */
+/** A disc whose file /BIG fills all sectors from block 100 on, and whose volume states its number of sectors. */
 function image() {
     const user = volumeOf(SECTORS, sector => sector === 18 ? [recordOf('BIG', BIG, USER * (SECTORS - BIG), { flags: 0 })] : []);
     const size = new DataView(user.buffer, 16 * USER + 80);
@@ -26,7 +26,7 @@ const sheetOf = (...tracks) => encoded(tracks.map(([file, ...points], i) => `FIL
 
 const open = files => openDisc(calls, Object.entries(files).map(([name, bytes]) => ({ name, reader: readerOf(bytes) })));
 
-/** What is found in the only surveyed track of a disc. */
+/** The findings in the only surveyed track of a disc. */
 async function found(files) {
     const disc = await open(files);
     const [track, ...others] = surveyedTracks(disc);

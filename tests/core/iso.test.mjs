@@ -1,4 +1,4 @@
-// The files of an ISO 9660 volume, with the names of Rock Ridge and Joliet.
+// The files of an ISO 9660 volume, with Rock Ridge and Joliet names.
 import assert from 'node:assert';
 import { test } from 'node:test';
 import { core, readerOf } from './common.mjs';
@@ -30,14 +30,14 @@ function made(t, files, options, listing) {
 }
 
 /**
- * Files as isoinfo gives them, without what it has not.
+ * Files with only the properties that isoinfo lists.
  * @param {{ path: string, block: number, size: number }[]} files
  * @param {number} [base]
  */
 const plain = (files, base = 0) => files.map(({ path, block, size }) => ({ path, block: block + base, size }));
 
 /**
- * The place of the first record of a name in raw sectors.
+ * The place of a name's first directory record in raw sectors.
  * @param {Uint8Array} raw
  * @param {string} name
  */
@@ -49,7 +49,7 @@ function recordOf(raw, name) {
     return at - 28;
 }
 
-/** The first block of what a record names. @param {Uint8Array} raw @param {string} name */
+/** The first block of the extent in a name's record. @param {Uint8Array} raw @param {string} name */
 const extentOf = (raw, name) => new DataView(raw.buffer).getUint32(recordOf(raw, name) + 2, true);
 
 for (const [title, files] of Object.entries({ 'a few files': FEW, '200 files': MANY })) {
@@ -121,7 +121,7 @@ test('a deep tree with the names of ISO 9660', async t => {
 });
 
 test('names of many scripts, and names that need a continuation', async t => {
-    // Each is continued after the one before it in one sector.
+    // The continuations of all three names are in one sector, one after the other.
     const long = ['long ', 'other ', 'third '].map(word => [`${word.repeat(35)}.end`, word]);
     const files = { '漢字.txt': 'a', 'é': 'b', 'two;2': 'd', ...Object.fromEntries(long) };
     const iso = made(t, files, ['-J', '-R'], ['-R']);
@@ -204,7 +204,7 @@ test('files that are interleaved, have several extents or belong to another are 
     if (!iso) return;
     const raw = rawOf(iso.bytes);
     raw[recordOf(raw, 'ONE.;1') + 26] = 1;
-    raw[recordOf(raw, 'THREE.;1') + 25] = 128; // the next one, TWO, has another name
+    raw[recordOf(raw, 'THREE.;1') + 25] = 128; // the next record, TWO, has a different name
     raw[recordOf(raw, 'FOUR.;1') + 25] = 4;
     const { files } = await filesOf(readerOf(raw), 0);
     assert.deepStrictEqual(Object.fromEntries(files.map(file => [file.path, file.fault && file.fault.code])), {

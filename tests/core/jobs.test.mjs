@@ -1,4 +1,4 @@
-// How jobs are shared out: ranges, hands, threads, order, what ends a job.
+// The distribution of jobs: ranges, workers, threads, order, and the events that end a job.
 
 import assert from 'node:assert/strict';
 import { test } from 'node:test';
@@ -18,7 +18,7 @@ const small = image.subarray(0, 50 * 2352 + 9);
 const bytesOf = digits => Uint8Array.from(Buffer.from(digits, 'hex'));
 const wanted = [[bytesOf('07'), bytesOf('ff')], [bytesOf('ff'), bytesOf('00')]];
 
-/** What every job gives by ranges of so many sectors, joined. */
+/** The joined results of all jobs, by ranges of `step` sectors. */
 async function joined(crew, bytes, step) {
     const how = { base: BASE, step };
     const parts = await answersOf(crew, 'user', [readerOf(bytes)], {}, how);
@@ -79,7 +79,7 @@ test('of user data as many bytes are passed on as are asked for, by ranges of an
     }
 });
 
-/** A hand that replies when it is told to, to the last range that it has first. */
+/** A worker that replies on demand, to the last of its messages. */
 class SlowHand {
     constructor() {
         this.messages = [];
@@ -206,7 +206,7 @@ test('bytes are given to a worker with their memory, or else copied', async () =
     assert.deepEqual(transfersOf({ fault: { name: 'Error', message: '' } }), []);
 });
 
-/** A hand that reads for itself so often. */
+/** A worker that can read lent pieces itself `most` times. */
 function readingHand(most) {
     const serve = serving(calls, JOBS);
     let reads = 0;

@@ -1,4 +1,4 @@
-// Lost sectors: random merges of dumps of one disc, in which each sector that is not as on the disc has to be named.
+// Lost sectors: random merges of dumps of one disc, in which each sector that differs from the disc's must be listed.
 
 import assert from 'node:assert/strict';
 import { test } from 'node:test';
@@ -11,7 +11,7 @@ const { repairTrack } = await core('tasks/repair.js');
 const { lostSectors, otherSectors } = await core('disc/lost.js');
 const { isSound, surveyRange } = await core('sectors/survey.js');
 
-/** How many cases are tried; a thousand take half a minute. */
+/** The number of cases; a thousand take half a minute. */
 const CASES = Number(process.env.LOST_CASES ?? 40);
 const USER = 2048;
 const [FIRST_FILE, SHORTEST_TRACK] = [19, 300];
@@ -19,7 +19,7 @@ const KIND_MODE1 = 2;
 
 const imageOf = bytes => ({ name: 'image.bin', reader: readerOf(bytes), base: 0, addressed: 0, sectors: bytes.length / RAW, tail: 0 });
 
-/** A disc: its files, each with its first block and how many it has, and its sectors; after those of the volume perhaps some of audio. */
+/** A random disc: its files, each with its first block and number of blocks, and its sectors. Audio may follow those of the volume. */
 function someDisc(dice) {
     const files = [];
     let next = FIRST_FILE;
@@ -42,14 +42,15 @@ function someDisc(dice) {
     return { files: [...files, ...listed], image, listedFrom: listed.length > 0 ? sectors : Infinity };
 }
 
-/** What a dumper leaves of sectors: one byte over and over, noise, or a sector that has lost its sync field, its mode or some bytes. */
+/** Kinds of damage by a dumper: sectors filled with one byte or with noise, and sectors that have lost their sync field, mode, or some
+ * bytes. */
 const HARMS = [
     (_, sector) => sector.fill(0), (_, sector) => sector.fill(0x55), (dice, sector) => sector.set(someBytes(dice, RAW)),
     (dice, sector) => { sector[dice(12)] ^= 1 + dice(255); }, (dice, sector) => { sector[15] = dice(2) === 0 ? 2 : 0; },
     (dice, sector) => { sector[16 + dice(2000)] ^= 1 + dice(255); },
 ];
 
-/** Harms some places of dumps, each all of them or some: at an edge, or anywhere. */
+/** Damages some places, at an edge or anywhere, each in all dumps or in some. */
 function harmSome(dice, dumps) {
     const count = dumps[0].length / RAW;
     for (let left = 1 + dice(5); left > 0; left--) {
@@ -63,22 +64,22 @@ function harmSome(dice, dumps) {
     }
 }
 
-/** The blocks of runs. */
+/** The set of blocks in these runs. */
 const blocksOf = runs => new Set(runs.flatMap(({ first, last }) => Array.from({ length: last - first + 1 }, (_, i) => first + i)));
 
-/** Whether two sectors are the same in a place. */
+/** Whether two images have the same sector at an index. */
 const isSame = (a, b, i) => Buffer.compare(sectorAt(a, i), sectorAt(b, i)) === 0;
 
-/** Whether a dump names the files of the disc. */
+/** Whether a dump has the disc's sectors with the names of the files. */
 const namesFiles = (dump, image) => [16, 17, 18].every(i => Buffer.compare(userAt(dump, i), userAt(image, i)) === 0);
 const userAt = (image, i) => sectorAt(image, i).subarray(16, 16 + USER);
 
 const isFilled = sector => Buffer.compare(sector, Buffer.alloc(RAW, sector[0])) === 0;
 
-/** Whether a sector has nothing in which audio or Mode 2 could be. */
+/** Whether a sector cannot contain audio or Mode 2. */
 const isHollow = sector => [1, 4].includes(calls.kind(sector)) || isFilled(sector);
 
-/** The run of blocks of which something is true around each of them. */
+/** For each block with this property, the run of such blocks around it. */
 function runsAround(count, isTrue) {
     const runs = [];
     for (let i = 0; i < count; i++) {
@@ -89,7 +90,7 @@ function runsAround(count, isTrue) {
     return runs;
 }
 
-/** The blocks that have to be lost, one by one, in an image by those that are Mode 1 in no dump. */
+/** The blocks of an image that must be reported as lost. `isOther` tells whether a block is Mode 1 in no dump. */
 function dueLost(files, image, isOther) {
     const count = image.length / RAW;
     const runs = runsAround(count, isOther);
@@ -100,7 +101,7 @@ function dueLost(files, image, isOther) {
         const hollow = Array.from({ length: size }, (_, i) => first + i).filter(i => isHollow(sectorAt(image, i))).length;
         return 2 * hollow <= size;
     };
-    // Without any Mode 1 nothing says that the disc has some.
+    // Without any Mode 1 nothing shows that the disc has data.
     const isAll = runs.length === count && runs[count - 1].first === 0;
     const used = new Set(Array.from({ length: isAll ? 0 : FIRST_FILE }, (_, i) => i));
     for (const file of files.filter(it => !isAll && !isTrack(it))) for (let i = 0; i < file.size; i++) used.add(file.first + i);
@@ -129,7 +130,7 @@ test('each sector that is not as on the disc is named after a merge, and no othe
             const isRight = isSame(made, disc.image, i);
             const isNamed = gone.has(i) || left.has(i) || bad.has(i);
             assert.ok(isRight || isNamed, `seed ${seed}: block ${i} is not as on the disc, and not named`);
-            // Of audio that is listed as a file more than half may be filled: then it is taken for a file of data.
+            // More than half of the audio that is listed as a file may be filled. Then it counts as a file of data.
             assert.ok(!isRight || !gone.has(i) || i >= disc.listedFrom, `seed ${seed}: block ${i} is as on the disc, and called lost`);
         }
         if (dumps.some(dump => namesFiles(dump, disc.image))) {

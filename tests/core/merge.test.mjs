@@ -1,4 +1,4 @@
-// The repair of an image by other dumps.
+// The repair of an image from other dumps.
 
 import assert from 'node:assert/strict';
 import { test } from 'node:test';
@@ -12,7 +12,7 @@ const { commonPart, firstBlock, isSameRange, rangesOf } = await core('tasks/comm
 const BASE = 500;
 const imageOf = (bytes, base = BASE) => imageWith(bytes, base);
 
-/** What a repair finds, and its pieces. */
+/** The result of a repair, and its pieces. */
 async function repaired(crew, old, others, how = {}) {
     const pieces = [];
     const [opened, ...dumps] = [old, ...others].map(trackIn);
@@ -23,11 +23,11 @@ const merged = (images, how = {}, crew = localCrew()) => repaired(crew, imageOf(
 
 const ownAddress = (sector, block) => Buffer.compare(sector.subarray(12, 15), calls.address(block)) === 0;
 
-/** Whether two sectors have the same EDC, and whether they have the same header and user data. */
+/** Whether two sectors have the same EDC; and, below, the same header and user data. */
 const sameEdc = (a, b) => Buffer.compare(a.subarray(2064, 2068), b.subarray(2064, 2068)) === 0;
 const sameData = (a, b) => Buffer.compare(a.subarray(12, 2064), b.subarray(12, 2064)) === 0;
 
-/** What has to come of images, sector by sector. */
+/** The expected result for these images, computed sector by sector. */
 function due([old, ...others]) {
     const out = old.slice();
     const found = { taken: [], doubtful: [], damaged: [], disputed: [], different: others.map(() => 0) };
@@ -55,7 +55,8 @@ function due([old, ...others]) {
 const foundOf = ({ taken, doubtful, damaged, disputed, different }) =>
     ({ taken: blocksOf(taken), doubtful: blocksOf(doubtful), damaged: blocksOf(damaged), disputed: blocksOf(disputed), different });
 
-/** Dumps of one disc: each damaged in its own places, and in some that all share; with sectors that lost their sync, and audio. */
+/** Dumps of one disc: each is damaged in its own places, and all in some shared ones; some sectors lost their sync field, some are audio.
+ * */
 function someDumps(dice, count, sectors) {
     const disc = soundImage(dice, sectors, BASE, 50);
     for (let i = 0; i < sectors; i++) {

@@ -1,4 +1,4 @@
-// The model of a script: what its lines have, where they write, and how it is kept up as lines come and go.
+// The model of a script: the content of its lines, the bytes that they write, and its updates as lines are added and removed.
 
 import assert from 'node:assert/strict';
 import { test } from 'node:test';
@@ -14,7 +14,7 @@ const { CONTENT, VERB } = await core('module/records.js');
 const modelOf = text => new ScriptModel(calls, text);
 const at = (block, offset, size) => ({ block, offset, size });
 const linesAt = (model, asked) => asked.map(it => model.lineAt(at(...it)));
-/** A library whose scripts may also begin with `cdpatch 9`, a language with the verbs of version 2. */
+/** Calls that also accept scripts that begin with `cdpatch 9`, a language with the verbs of version 2. */
 function laterCalls() {
     const later = newCalls();
     const readLine = later.readLine.bind(later);
@@ -82,7 +82,7 @@ test('a key in one of 65535 lines reads that line, and no other', () => {
         model.put(line, 1, texts);
         assert.deepEqual([count, held], [texts.length, texts.join('\n').length], `line ${line}: ${texts.join('|')}`);
     }
-    // The patches of two lines are gone, and the line ' 41' is left.
+    // The two lines have lost their patches, and the line ' 41' is left.
     assert.deepEqual([model.patches, model.faults, model.lines.length], [65533, 1, 65539]);
 });
 

@@ -12,7 +12,7 @@ export const TEXT = 'press start';
 
 const APART = [recordOf('BIG', 30, 2 * USER, { flags: 128 }), recordOf('BIG', 20, USER, { flags: 0 })];
 
-/** A disc whose file /BIG continues after block 31 in block 20, with a text over that border, and the same text in block 36. */
+/** A disc whose file /BIG continues after block 31 in block 20, with a text across that border, and the same text in block 36. */
 export async function openedDisc(records = APART, text = encoded(TEXT)) {
     const user = volumeOf(40, sector => sector === 18 ? records : []);
     user.set(text.subarray(0, 5), 32 * USER - 5);

@@ -1,4 +1,4 @@
-// A track that was opened: its files and their order, which are read once, and its base.
+// An opened track: its files and their order, which are read only once, and its base.
 
 import assert from 'node:assert/strict';
 import { test } from 'node:test';

@@ -1,4 +1,4 @@
-// What the tests of scripts between two images share: images that were changed, scripts applied to images.
+// Shared by the tests of scripts between two images: changed images, and scripts applied to images.
 
 import assert from 'node:assert/strict';
 import { calls, core, joinedPieces, readerOf } from './common.mjs';
@@ -11,16 +11,16 @@ export const RAW = 2352;
 export const sectorAt = (image, i) => image.subarray(RAW * i, RAW * (i + 1));
 export const countOf = image => Math.floor(image.length / RAW);
 
-/** An image whose addresses say its base. */
+/** An image whose addresses agree with its base. */
 export const imageOf = (bytes, base, reader = readerOf(bytes)) =>
     ({ name: 'image.bin', reader, base, addressed: base, sectors: countOf(bytes), tail: bytes.length % RAW });
 
-/** An image, without a cue sheet, as a track that was opened. */
+/** An opened track that consists of an image without a cue sheet. */
 export const trackIn = image => openTrack({ sheet: null, files: [image], tracks: [{ number: 1, type: '', file: 0, block: image.base, sectors: image.sectors, image, part: image }] });
 
 export const trackOf = (bytes, base, reader) => trackIn(imageOf(bytes, base, reader));
 
-/** A consistent sector. */
+/** A consistent sector for a block. */
 export const sound = (block, user) => calls.encode(calls.address(block) ?? Uint8Array.of(1, 2, 3), user);
 
 /** A consistent image of random user data, most of it zeros. */
@@ -34,7 +34,7 @@ export function soundImage(dice, count, base, tail = 0) {
     return image;
 }
 
-/** How sectors change: each gives what a sector becomes. */
+/** Ways to change a sector: each returns the changed sector. */
 export const CHANGES = {
     bytes: (sector, dice) => withUser(sector, user => { for (let k = 1 + dice(9); k > 0; k--) user[dice(2048)] ^= 1 + dice(255); }),
     run: (sector, dice) => withUser(sector, user => user.fill(dice(256), dice(2048), dice(2048))),
@@ -50,7 +50,7 @@ export const CHANGES = {
     audio: (sector, dice) => sector.map(() => dice(256)),
 };
 
-/** The consistent sector with other user data. */
+/** The consistent sector with changed user data. */
 function withUser(sector, change) {
     const user = sector.slice(16, 2064);
     change(user);
@@ -63,7 +63,7 @@ function withByte(sector, place, value) {
     return other;
 }
 
-/** An image in which one sector of a few is changed in one of these ways. */
+/** A copy of an image in which one of every `few` sectors, on average, is changed in one of these ways. */
 export function changedImage(dice, image, ways, few = 3) {
     const changed = image.slice();
     for (let i = 0; i < countOf(image); i++) {
@@ -74,7 +74,7 @@ export function changedImage(dice, image, ways, few = 3) {
 
 export const textOf = script => Buffer.concat(script.pieces).toString('latin1');
 
-/** What becomes of an image by a script. No patch may be refused. */
+/** The image after a script. No patch may be refused. */
 export async function patchedBy(script, image, base, carry = false) {
     const read = await readScript(calls, script.pieces ?? script, true);
     assert.ok(!(read instanceof Refusal), Buffer.from(read.text ?? '').toString());
@@ -83,6 +83,6 @@ export async function patchedBy(script, image, base, carry = false) {
     return joinedPieces(image, made.pieces);
 }
 
-/** The blocks of runs, each with what is said of it. */
+/** The blocks of runs, each with its run's other properties. */
 export const blocksOf = runs => runs.flatMap(({ first, last, ...said }) =>
     Array.from({ length: last - first + 1 }, (_, i) => ({ block: first + i, ...said })));

@@ -1,4 +1,4 @@
-// Patches on an image that is read near them, against the same patches on the image in memory.
+// Patches on an image that is read only near them, compared with the same patches on the image in memory.
 
 import assert from 'node:assert/strict';
 import { test } from 'node:test';
@@ -17,7 +17,7 @@ const { MOST_SECTORS } = await core('module/numbers.js');
 const BASE = 30;
 const image = someImage(diceOf(5), 2600, BASE, 123);
 
-/** A script of patches near one another, some of them on blocks that are not there. */
+/** A script of patches close together, some of them on blocks beyond the image. */
 function someScript(dice, count, first, blocks) {
     const hex = size => Buffer.from(Uint8Array.from({ length: size }, () => dice(256))).toString('hex');
     const lines = Array.from({ length: count }, () => {
@@ -31,7 +31,7 @@ function someScript(dice, count, first, blocks) {
     return encoded(`cdpatch 2\n${lines.join('\n')}\n`);
 }
 
-/** The patches on the whole image in memory, one after the other, by the calls that take a line. */
+/** Applies the patches one after the other to the whole image in memory, by the calls for single lines. */
 async function plainly(script, whole, base, carry) {
     const { patches } = readLines(calls, script);
     const out = whole.slice();
@@ -120,7 +120,7 @@ test('patches near one another are read together, and no more where they are far
     const dense = await asked(Array.from({ length: 20000 }, (_, i) => i));
     assert.ok(dense.reads < 30 && dense.bytes < 20000 * 2352 + 5e6, JSON.stringify(dense));
     const scattered = await asked(Array.from({ length: 20000 }, (_, i) => 14 * i + (i * 7) % 13));
-    assert.ok(scattered.reads < 320, JSON.stringify(scattered)); // at each border of two reads a short one
+    assert.ok(scattered.reads < 320, JSON.stringify(scattered)); // with a short read at each border of two reads
     const apart = await asked(Array.from({ length: 150 }, (_, i) => 2000 * i + 500));
     assert.ok(apart.reads === 150 && apart.bytes < 150 * 70000, JSON.stringify(apart));
 });
@@ -207,7 +207,7 @@ test('old bytes are not compared if that is asked for', async () => {
     assert.deepEqual([await results({}), await results({ withoutOld: true })], [[5, 0], [0, 0]]);
 });
 
-/** Patches in parts of some sizes, each of which has a run of its own. */
+/** Splits patches into parts of these sizes in turn, each with its own run. */
 function partsOf({ head, patches }, sizes) {
     const parts = [];
     for (let from = 0; from < patches.length; from += parts[parts.length - 1].patches.length) {
@@ -248,7 +248,7 @@ test('short reads of a door', async () => {
     for (const most of [1, 1000, 2353]) await agrees(someScript(diceOf(11), 3, BASE, 30), image, BASE, true, most);
 });
 
-/** A piece to keep: the bytes of those that are passed on change. */
+/** A copy of a piece: the bytes of a delivered piece change later. */
 const kept = piece => piece.bytes ? { ...piece, bytes: piece.bytes.slice() } : piece;
 
 test('a read that fails, at any place, reaches the caller', async () => {
@@ -283,7 +283,7 @@ test('an image that shrinks is no shorter image', async () => {
 
 test('of a run of known size fewer bytes are a failed read, and a step that failed ends each run', () => {
     const script = encoded('cdpatch 1\nset 5 0 41\n');
-    /** The log and the status of a run, if of its first step of a kind other bytes are said to have been moved. */
+    /** The log and the status of a run. The first step of this kind reports that `moved` bytes were moved. */
     const ended = (size, kind, moved) => {
         const run = calls.runBegin([script], 0, size, 0);
         let [step, log, is] = [calls.runNext(run, 0), '', false];
@@ -346,7 +346,7 @@ test('several patchings at the same time by the same calls', async () => {
     const came = await Promise.all(scripts.map(async script => {
         const pieces = [];
         const { text } = await passPatched(own, readerOf(image), script, { base: BASE, carry: true }, async piece => {
-            if (pieces.length % 20 === 0) own.exports.memory.grow(1); // then it is another buffer
+            if (pieces.length % 20 === 0) own.exports.memory.grow(1); // replaces the memory's buffer
             own.reserve(0);
             own.hold(new Uint8Array(5000).fill(99));
             await null;

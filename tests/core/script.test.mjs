@@ -1,4 +1,4 @@
-// Scripts as bytes in pieces.
+// Reading scripts whose bytes arrive in pieces.
 
 import assert from 'node:assert/strict';
 import { test } from 'node:test';
@@ -24,7 +24,7 @@ async function* given(pieces) {
     yield* pieces;
 }
 
-/** What a script is, as plain values, and as it is for a long one. */
+/** A script as plain values, or the patches of a long one. */
 async function read(pieces, long = false) {
     const made = await readScript(calls, pieces, long);
     if (made instanceof Refusal) return { refused: decoded(made.text), tooLong: made.tooLong };
@@ -166,7 +166,7 @@ test('the bases that comments say are those that stand there, with their lines',
     assert.deepEqual((await read([encoded(' # base 4\ncdpatch 1\n')])).bases, []);
 });
 
-/** A script of so many bytes, and whether all of its pieces were asked for. */
+/** The pieces of a script of this size, and whether all of them were requested. */
 function scriptOf(size, first) {
     const asked = { all: false };
     const line = encoded(`#${'x'.repeat((1 << 20) - 2)}\n`);

@@ -1,4 +1,4 @@
-// A script for an image: its faults, its length, the base that it says, and what becomes of it on the image.
+// A script for an image: its faults, its length, its stated base, and its effect on the image.
 
 import assert from 'node:assert/strict';
 import { test } from 'node:test';

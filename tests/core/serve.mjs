@@ -1,4 +1,4 @@
-// Answers questions by the core: `node serve.mjs DIRECTORY`.
+// Answers questions with the core: `node serve.mjs DIRECTORY`.
 
 import { serve } from '../lib/serve.mjs';
 
@@ -8,10 +8,10 @@ const { Refusal, readScript } = await core('script/script.js');
 const { applyPatches, passPatched } = await core('script/patches.js');
 const { auditText, listText } = await core('sectors/survey.js');
 
-/** A report of an image by ranges of so many sectors. */
+/** The report on an image, surveyed by ranges of `step` sectors. */
 const reported = (report, image, base, step) => report(calls, surveyed(image, base, step), image.length % 2352);
 
-/** What is made of an image and a script, both of which are read in small pieces. */
+/** The result of a script on an image, both of which are read in small pieces. */
 async function patched({ call, base, carry }, image, script) {
     const read = await readScript(calls, cutBy(script, 5000));
     if (read instanceof Refusal) return { status: 2, text: read.text };
@@ -19,7 +19,7 @@ async function patched({ call, base, carry }, image, script) {
     return { status: made.status, text: made.text, out: made.pieces && joinedPieces(image, made.pieces) };
 }
 
-/** Answers that are only bytes. */
+/** Answers that consist of bytes only. */
 const VALUES = {
     edc: given => new Uint8Array(Uint32Array.of(calls.edc(given)).buffer),
     address: (_, block) => calls.address(block) ?? new Uint8Array(0),

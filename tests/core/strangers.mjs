@@ -1,4 +1,4 @@
-// What a stranger may send to stop who opens it: cue sheets, tables and volumes, each made small here, with a harmless one of its kind.
+// Input that a stranger may send to block its reader: small cue sheets, tables, and volumes, each with a harmless one of its kind.
 
 const USER = 2048;
 const ROOT = 18;
@@ -8,10 +8,10 @@ const bytesOf = text => new TextEncoder().encode(text);
 
 const SHEET = 'FILE "game.bin" BINARY\n  TRACK 01 MODE1/2352\n    INDEX 01 00:00:00\n';
 
-/** A cue sheet that says nothing in so many bytes more. @param {number} size */
+/** A cue sheet with this many bytes of comments. @param {number} size */
 export const harmlessSheet = size => bytesOf(SHEET + 'REM a comment that says nothing\n'.repeat(Math.floor(size / 32)));
 
-/** Cue sheets that a search by regular expressions takes long for. @type {Record<string, Uint8Array>} */
+/** Cue sheets that slow down regular expressions. @type {Record<string, Uint8Array>} */
 export const SHEETS = {
     'spaces before a line separator': bytesOf(`${SHEET}REM${' '.repeat(2600)}a\u2028b\n`),
     'nothing but ends of lines': bytesOf('\n'.repeat(130000)),
@@ -23,14 +23,14 @@ export const SHEETS = {
 /** @param {number} number @param {number} bytes */
 const hex = (number, bytes) => number.toString(16).padStart(2 * bytes, '0');
 
-/** A table of so many bytes that a game may have. @param {number} size */
+/** A table of this many bytes, as a game may have. @param {number} size */
 export const harmlessTable = size =>
     bytesOf(Array.from({ length: Math.floor(size / 8) }, (_, i) => `${hex(0x8000 + i, 2)}=${String.fromCodePoint(0x4E00 + i)}\n`).join(''));
 
 const LONG_BYTES = { fault: 'line 2 of the table has more than 8 bytes', code: 'text/long-bytes' };
 
 /**
- * Tables that take long, each with a text to find in zeros, and what is said of one that is refused, with its code.
+ * Tables that take long to use, each with a text to find in zeros, and for those that are refused the message and its code.
  * @type {Record<string, { table: Uint8Array, text: string, fault?: string, code?: string }>}
  */
 export const TABLES = {
@@ -48,7 +48,7 @@ export const TABLES = {
 };
 
 /**
- * A number in both byte orders.
+ * Writes a number in both byte orders.
  * @param {DataView} view
  * @param {number} at
  * @param {number} value
@@ -81,7 +81,7 @@ export function recordOf(name, extent, size, { flags = 2, volume = 1, system = n
 }
 
 /**
- * The user data of a volume of so many sectors, whose sectors from the root's, 18, on have these records.
+ * The user data of a volume of `sectors` sectors. Those from the root directory's sector, 18, on have these records.
  * @param {number} sectors
  * @param {(sector: number) => Uint8Array[]} recordsIn
  * @param {number} [size] of the root directory
@@ -109,20 +109,20 @@ export function volumeOf(sectors, recordsIn, size = USER) {
 /** @param {number} length @param {(i: number) => Uint8Array} recordAt */
 const records = (length, recordAt) => Array.from({ length }, (_, i) => recordAt(i));
 
-/** The directory at each of so many sectors goes on to the end, and has others. @param {number} sectors */
+/** Directories in all sectors: each extends to the end of the volume and contains others. @param {number} sectors */
 export const overlapping = sectors => volumeOf(sectors, sector => records(40, i => {
     const extent = ROOT + 1 + (sector * 40 + i) % (sectors - ROOT - 1);
     return recordOf(`D${sector}_${i}`, extent, (sectors - extent) * USER);
 }));
 
-/** Directories, each in the one before it. @param {number} sectors @param {number} length of their names */
+/** Directories, each inside the previous one. @param {number} sectors @param {number} length of their names */
 export const nested = (sectors, length) => volumeOf(sectors, sector =>
     sector + 1 < sectors ? [recordOf('N'.repeat(length), sector + 1, USER), recordOf('FILE', ROOT, 1, { flags: 0 })] : []);
 
-/** One directory with as many empty files as its sectors have room for. @param {number} sectors */
+/** One directory full of empty files. @param {number} sectors */
 export const crowded = sectors => volumeOf(sectors, () => records(60, () => recordOf('F', ROOT, 0, { flags: 0 })), (sectors - ROOT) * USER);
 
-/** An area of Rock Ridge: its own mark, a name, and where it goes on. @param {number} next a sector */
+/** A Rock Ridge entry that continues in another sector. @param {number} next a sector */
 function continued(next) {
     const area = new Uint8Array(28);
     const view = new DataView(area.buffer);
@@ -132,7 +132,7 @@ function continued(next) {
     return area;
 }
 
-/** The records of one directory, all of which Rock Ridge continues, round and round. @param {number} sectors */
+/** The records of one directory, all of which Rock Ridge continues in an endless loop. @param {number} sectors */
 export function continuing(sectors) {
     const mark = [...bytesOf('SP'), 7, 1, 0xBE, 0xEF, 0, ...bytesOf('RR'), 5, 1, 0];
     const user = volumeOf(sectors, sector => records(30, i => recordOf('F', ROOT, 0, { flags: 0, system: continued(sectors - 1 - (sector + i) % 2) })),
@@ -147,11 +147,11 @@ export function continuing(sectors) {
     return user;
 }
 
-/** A volume of one file. @param {number} sectors */
+/** A volume with one file. @param {number} sectors */
 export const harmlessVolume = sectors => volumeOf(sectors, sector => sector === ROOT ? [recordOf('FILE', 20, 5000, { flags: 0 })] : []);
 
 /**
- * A remark by its code and its facts, in a line.
+ * A remark's code and facts in one line.
  * @param {{ code: string, facts: object }} remark
  * @returns {string}
  */

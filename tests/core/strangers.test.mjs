@@ -1,4 +1,4 @@
-// Cue sheets, tables and volumes that mean harm: each takes not much longer than a harmless one, and what is left out of a list is said.
+// Hostile cue sheets, tables, and volumes: each takes little longer than a harmless one, and omissions from a list are reported.
 import assert from 'node:assert';
 import { spawnSync } from 'node:child_process';
 import { test } from 'node:test';
@@ -16,10 +16,10 @@ const { replaceFile } = await core('tasks/replace_file.js');
 const { tableOf } = await core('encodings/encodings.js');
 const { calls } = await import('./common.mjs');
 
-// A processor that other tests share takes up to twice as long.
+// A processor shared with other tests takes up to twice as long.
 const SHARED = 2;
 
-/** What a call answers, or how it fails, and the seconds of a processor that it takes. @param {() => any} called */
+/** A call's result or error, and its CPU time in seconds. @param {() => any} called */
 async function timed(called) {
     const before = process.cpuUsage();
     let [answer, fault] = [null, ''];
@@ -32,7 +32,7 @@ async function timed(called) {
     return { answer, fault, seconds: (user + system) / 1e6 };
 }
 
-/** The files of a volume, its faults, and the seconds. @param {Uint8Array} user */
+/** The files of a volume, its faults, and the CPU time in seconds. @param {Uint8Array} user */
 async function listed(user) {
     const { answer, fault, seconds } = await timed(() => filesOf(readerOf(rawOf(user)), 0));
     assert.strictEqual(fault, '');

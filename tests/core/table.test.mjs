@@ -1,4 +1,4 @@
-// The table of the texts of a track, exported and imported.
+// The table of a track's texts: export and import.
 
 import assert from 'node:assert/strict';
 import { test } from 'node:test';
@@ -13,14 +13,14 @@ const { SEARCHED, encodingOf } = await core('encodings/encodings.js');
 
 const engine = { calls, crew: localCrew() };
 
-/** The pieces of a table that is exported. */
+/** The text of an exported table, and its number of rows. */
 async function exported(opened, options, watch) {
     const pieces = [];
     for await (const piece of exportTable(engine, opened, options, watch)) pieces.push(piece);
     return { text: pieces.map(({ text }) => text).join(''), count: pieces.reduce((sum, { count }) => sum + count, 0) };
 }
 
-/** What comes of a table. */
+/** Imports a table with these rows. */
 function imported(opened, rows, options = {}) {
     const text = [['block', 'offset', 'text', 'new'], ...rows].map(cells => `${cells.join('\t')}\n`).join('');
     const list = { name: 'texts.tsv', reader: readerOf(encoded(text)) };

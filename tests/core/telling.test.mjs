@@ -1,4 +1,4 @@
-// Which bytes are told to be texts.
+// The recognition of texts among other bytes.
 
 import assert from 'node:assert/strict';
 import { test } from 'node:test';
@@ -13,7 +13,7 @@ const { encodeText } = await core('encodings/encoding.js');
 
 const teller = new TextTeller();
 
-/** What an encoding has beside its bytes. */
+/** The properties of an encoding other than its bytes. */
 const SHARED = { end: 0, space: ' ', hasCharacters: true };
 const noise = (size, seed) => {
     const dice = diceOf(seed);
@@ -55,7 +55,7 @@ test('random bytes, sound, and one character over and over are no texts', () => 
     assert.deepEqual(found(Buffer.from(Int16Array.from({ length: 1 << 18 }, (_, i) => 12000 * Math.sin(i / 30)).buffer)), []);
 });
 
-/** Texts in noise, each by itself between two 00. */
+/** Texts in noise, each between two 00. */
 const alone = (name, texts) => Buffer.concat(texts.flatMap((text, i) => [noise(300, i), Buffer.alloc(2), bytesOf(name, text), Buffer.alloc(2), noise(60, i)]));
 
 test('a text of kanji only is found by itself between 00', () => {
@@ -119,7 +119,7 @@ test('a text that is too weak by itself is taken up to 64 bytes from a sure one 
         const [sure, weak] = ['城の地下に宝があるらしい。', '先内'].map(text => between(name, text));
         const foreign = between(name === 'EUC-JP' ? 'CP932' : 'EUC-JP', '先内');
         const count = parts => found(Buffer.concat([apart(300), ...parts, apart(300)])).length;
-        // Of the distance four bytes are 00.
+        // Four bytes of the distance are 00.
         const counts = [[weak], [sure, apart(60), weak, apart(60), weak], [weak, apart(60), weak, apart(60), sure], [sure, apart(62), weak],
             [weak, apart(62), sure], [sure, apart(60), foreign]].map(count);
         assert.deepEqual(counts, [0, 3, 3, 1, 1, 1], name);
@@ -135,7 +135,7 @@ test('names in kanji that stand in few sentences are taken beside others', () =>
 });
 
 test('bytes of which neighbours differ little are a picture, and no text', () => {
-    // In EUC-JP both bytes of these lie near A4.
+    // In EUC-JP both bytes of these characters are near A4.
     for (const [name, count] of [['EUC-JP', 0], ['CP932', 1]]) {
         assert.equal(found(Buffer.concat([Buffer.alloc(4), bytesOf(name, 'いえあかおいうあきえ'), Buffer.alloc(4)])).length, count, name);
     }
@@ -200,7 +200,7 @@ test('a chain of texts after their lengths is cut into them', () => {
     const texts = ['旅の商人から剣を買った', '剣', '港町へようこそ。', '宿屋で待っている'].map(text => bytesOf('CP932', text));
     const bytes = Buffer.concat([Buffer.alloc(4), ...texts.flatMap(text => [Buffer.of(text.length), text]), Buffer.alloc(4)]);
     assert.deepEqual(found(bytes).map(([start, end]) => end - start), texts.map(text => text.length));
-    // One text is no chain, though its first letter is the number of bytes that follow.
+    // A single text is not a chain, although the code of its first letter is the number of bytes that follow.
     const one = bytesOf('CP932', 'A城の地下に宝があるらしい。旅の商人からそう聞いた。港町へようこそb');
     assert.equal(one[0], one.length - 1);
     assert.deepEqual(found(Buffer.concat([Buffer.alloc(4), one, Buffer.alloc(4)])), [[4, 4 + one.length, 'CP932']]);
@@ -221,10 +221,10 @@ test('of a file in one encoding others are kept only if they are surer', () => {
     assert.equal(keptOf([made(cp932, 40), made(euc, 40)]).length, 2);
 });
 
-/** Texts with a byte after each. */
+/** Texts, each followed by a byte. */
 const endedBy = (name, texts, byte) => Buffer.concat(texts.flatMap(text => [bytesOf(name, text), Buffer.of(byte)]));
 
-/** What a teller of an encoding finds: the bytes of each text. */
+/** The texts recognised in an encoding, as hexadecimal bytes. */
 const foundIn = (name, bytes) => new TextTeller(allScores().some(it => it.encoding.name === name) ? allScores() : [tableScores(encodingOf(name))])
     .tell(bytes).map(({ start, end }) => bytes.subarray(start, end).toString('hex'));
 
@@ -250,7 +250,7 @@ test('letters, marks, and half-width kana at the beginning belong to a text', ()
         const bytes = Buffer.concat([Buffer.of(end), endedBy('CP932', texts, end)]);
         assert.deepEqual(foundIn('CP932', bytes), texts.map(text => bytesOf('CP932', text).toString('hex')), `${end}`);
     }
-    // Of two letters or more nobody needs to know what is before them; a code before them is not a part of the text.
+    // For two letters or more the bytes before them do not matter; a code before them is not a part of the text.
     for (const [before, text] of [[[0x11, 0x80], 'HPが足りません'], [[0x00, 0x10, 0x02], '城の地下に宝がある'], [[0x00, 0x10, 0x23], '城の地下に宝がある']]) {
         const bytes = Buffer.concat([Buffer.from(before), bytesOf('CP932', text), Buffer.of(0)]);
         assert.deepEqual(foundIn('CP932', bytes), [bytesOf('CP932', text).toString('hex')], `${before}`);

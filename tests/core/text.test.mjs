@@ -1,4 +1,4 @@
-// Texts as bytes and back, in each encoding and by tables of characters.
+// Conversion of texts to bytes and back, in each encoding and by tables of characters.
 import assert from 'node:assert';
 import { spawnSync } from 'node:child_process';
 import { createHash } from 'node:crypto';
@@ -23,11 +23,11 @@ const decoded = (name, digits) => encodingOf(name).text(Buffer.from(digits, 'hex
 /** @param {string} text */
 const table = text => tableOf(new TextEncoder().encode(text));
 
-/** Every character of the first plane, without the halves of others. */
+/** Every character of the Basic Multilingual Plane, without surrogates. */
 const CHARACTERS = Array.from({ length: 0x10000 }, (_, code) => String.fromCharCode(code)).filter(it => !/\p{Cs}/u.test(it));
 
 /**
- * The bytes that Python writes for each of these characters, and the texts that it reads in each pair of bytes, '' for none.
+ * The bytes that Python writes for each of these characters, and the text that it reads from each code of one or two bytes; '' for none.
  * @param {string} codec
  */
 function python(codec) {
@@ -121,7 +121,7 @@ test('EUC-JP is read as Python reads it where both have a character', t => {
         const own = encoding.text(Uint8Array.from(code > 255 ? [code >> 8, code & 255] : [code]));
         if (text && own !== text && code > 0x80) others.push(own);
     });
-    // JIS X 0208's signs that have two places in Unicode: Windows and the web take the full-width ones.
+    // Signs of JIS X 0208 with two code points in Unicode: Windows and the web use the full-width ones.
     assert.strictEqual(others.sort().join(''), [...'～∥－￠￡￢'].sort().join(''));
 });
 
@@ -131,7 +131,7 @@ test('EUC-JP has row 13 and IBM\'s kanji in two bytes', () => {
 });
 
 /**
- * The pairs of bytes that an encoding reads otherwise than Python, as what both read.
+ * The pairs of bytes that an encoding reads differently from Python, with both results.
  * @param {string} name @param {string} codec @param {[number, number][]} but runs that are not compared
  */
 function readOtherwise(name, codec, but) {
@@ -189,7 +189,7 @@ test('other languages have the characters of the Encoding Standard in each byte 
 });
 
 test('what stands often in texts of another language is what its standard has first, as frequent as if it had nothing else', () => {
-    // The first level of Big5 and of GB 2312, and the syllables of KS X 1001, of which the last two have codes from A1 on.
+    // The first level of Big5 and GB 2312, and the syllables of KS X 1001. In the last two, trail bytes begin at A1.
     for (const [name, count, least] of [['Big5', 5401, 0], ['GBK', 3755, 0xA1], ['EUC-KR', 2350, 0xA1]]) {
         const { table, usual: { first, last, score } } = encodingOf(name);
         const pairs = [...table.spellings.values()].flat().filter(([, trail]) => trail >= least).map(([lead, trail]) => lead << 8 | trail);
@@ -261,7 +261,7 @@ test('loosely each half-width form is one with its full-width one, from the firs
     assert.deepStrictEqual(forms('Ａ', true).sort(), ['41', '61', '8260', '8281']);
 });
 
-/** That an encoding lacks a character, with its place among whole characters, from 1, and in the string. */
+/** The error for a character that an encoding lacks, with its place in whole characters, from 1, and in the string. */
 const lacking = (name, character, place, at) => ({ code: 'text/no-character', facts: { name, character, place, at } });
 
 test('hex is read in any case and with spaces, and written in capitals', () => {

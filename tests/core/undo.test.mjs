@@ -1,4 +1,4 @@
-// The script that takes another one back.
+// The script that undoes another script.
 
 import assert from 'node:assert/strict';
 import { test } from 'node:test';
@@ -16,16 +16,16 @@ const BASE = 60;
 const ENGINE = { calls, crew: localCrew() };
 const undone = (image, script, options = {}, watch = {}, track = trackOf(image, BASE)) =>
     undoScript(ENGINE, track, Array.isArray(script) ? script : [encoded(script)], options, watch);
-/** What a script of a base has before its patches. */
+/** The lines before the patches in a script for this base. */
 const head = version => `cdpatch ${version}\n# base ${BASE}\n`;
 
-/** The image after a script, with what was refused. */
+/** The image after a script, and the log. */
 async function after(image, script, carry) {
     const made = await applyPatches(calls, readerOf(image), await readScript(calls, [encoded(script)]), { base: BASE, carry });
     return { image: joinedPieces(image, made.pieces), text: decoded(made.text) };
 }
 
-/** Patches of every verb that overlap, with `was` or not, on blocks that are there or not. */
+/** Overlapping patches with every verb, with and without `was`, on blocks inside and outside the image. */
 function someScript(dice, count, blocks) {
     const hex = size => Buffer.from(Uint8Array.from({ length: size }, () => dice(256))).toString('hex');
     const lines = Array.from({ length: count }, () => {

@@ -1,4 +1,4 @@
-// A worker of the tests: the core's jobs in a thread of node.
+// A worker for tests: the core's jobs in a thread of node.
 
 import { parentPort, workerData } from 'node:worker_threads';
 import { core } from './common.mjs';

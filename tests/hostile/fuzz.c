@@ -1,6 +1,7 @@
-/* Any bytes for the calls of libcdpatch, as libFuzzer makes them: `clang -fsanitize=fuzzer fuzz.c libcdpatch.a`. The first bytes are a base,
- * flags and how an image of three sectors is damaged, the others a script. A list, an audit, a check, an application and a run of the script
- * end; the last three say the same and make the same image; a line at a time gives the same fault; and nothing after a buffer is written. */
+/* Passes arbitrary bytes to the calls of libcdpatch: `clang -fsanitize=fuzzer fuzz.c libcdpatch.a`. The first bytes are a base, flags, and
+ * the damage of an image of three sectors; the others are a script. A list, an audit, a check, an application, and a run of the script must
+ * end. The last three must have the same status, log, and image; reading line by line must give the same fault; and nothing after a buffer
+ * may be written. */
 #include <cdpatch.h>
 #include <stdlib.h>
 #include <string.h>
@@ -14,7 +15,7 @@ static void due(bool holds) {
         abort();
 }
 
-/* The image, as the first bytes say: sectors with their addresses, bytes that are flipped, and a tail. */
+/* Generates the image from the first bytes: sectors with their addresses, flipped bytes, and a tail. */
 static size_t make_image(const uint8_t *head, uint32_t base) {
     uint8_t address[3], user[CDPATCH_USER_SIZE];
     for (uint32_t i = 0; i < SECTORS; i++) {
@@ -28,7 +29,7 @@ static size_t make_image(const uint8_t *head, uint32_t base) {
     return (size_t)(head[3] % (SECTORS + 1)) * CDPATCH_SECTOR_SIZE + head[7] % 100;
 }
 
-/* The status and the log of a run of the script, and the image that it makes. */
+/* Runs the script. Returns the status, the log, and the new image. */
 static uint32_t run(const uint8_t *script, size_t script_size, size_t size, uint32_t base, bool carry, uint8_t *log, size_t *length, size_t *written) {
     static struct cdpatch_entry entries[ENTRIES];
     static struct cdpatch_rooms rooms;
@@ -57,7 +58,7 @@ static uint32_t run(const uint8_t *script, size_t script_size, size_t size, uint
     }
 }
 
-/* The error of a script whose lines are read one by one, and its line. */
+/* The fault of a script whose lines are read one by one, and the number of its line. */
 static uint32_t fault_of(const uint8_t *script, size_t size, uint32_t *number) {
     static uint8_t bytes[2][CDPATCH_PATCH_SIZE];
     struct cdpatch_line line;

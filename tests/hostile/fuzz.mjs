@@ -1,7 +1,7 @@
-// Random changes of cue sheets, volumes, tables, lists, patchers, DATs and scripts: whatever is read of them, only a Fault may be thrown, and
-// none may take long. Of the kinds of invariants.mjs more is asked. `node fuzz.mjs [--seconds N] [--seed S] [KIND..]` goes on for so long,
-// prints what it finds, and keeps it as `found-KIND-SEED` in the current directory; `node fuzz.mjs KIND FILE` reads one file, and
-// `node fuzz.mjs growth [SHAPE..]` measures how the time of each shape of growth.mjs grows. corpus/ has what was ever found, called KIND-WHAT.
+// Randomly changes cue sheets, volumes, tables, lists, patchers, DATs, and scripts: reading them may throw only a Fault, and must not take
+// long. The kinds of invariants.mjs have more conditions. `node fuzz.mjs [--seconds N] [--seed S] [KIND..]` runs for that long, prints its
+// findings, and keeps each as `found-KIND-SEED` in the current directory; `node fuzz.mjs KIND FILE` reads one file, and `node fuzz.mjs
+// growth [SHAPE..]` measures the shapes of growth.mjs. corpus/ has all earlier findings as KIND-WHAT.
 
 import { readFileSync, writeFileSync } from 'node:fs';
 import { deflateSync } from 'node:zlib';
@@ -19,12 +19,12 @@ const { listRows } = await core('tasks/list.js');
 const { readScript } = await core('script/script.js');
 const { checksum, readPatcherText } = await page('player/patcher.js');
 
-/** Milliseconds of a processor that one may take, whatever it has. */
+/** The CPU time in milliseconds that one input may take. */
 const LONGEST = 3000;
 const encoded = text => new TextEncoder().encode(text);
 const decoded = bytes => new TextDecoder().decode(bytes);
 
-/** A volume of a directory in a directory, a file of two extents, Rock Ridge's mark and Joliet's descriptor: its user data. */
+/** The user data of a volume: a directory in a directory, a file of two extents, Rock Ridge's mark, and Joliet's descriptor. */
 function volume() {
     const user = new Uint8Array(24 * 2048);
     const both = (at, value) => {
@@ -70,13 +70,13 @@ async function readVolume(user) {
 const HEAD = { title: 'Starlit', author: 'Team', note: 'All.\nChapter 1.', name: 'Starlit (English).bin', cue: 'FILE "a.bin" BINARY\n', carry: false,
     base: 0, image: { size: 2352, sha1: '0'.repeat(40) }, result: '1'.repeat(40) };
 
-/** The data of a patcher whose packed part, head and script, has these bytes. */
+/** The data of a patcher with these bytes, head and script, in its packed part. */
 function patcherOf(bytes) {
     const packed = deflateSync(bytes);
     return `\ncdpatch-data 1 ${packed.length} ${checksum(calls, packed)}\n${packed.toString('base64')}\n`;
 }
 
-/** For each kind what changes begin with, words that are put in, and how it is read. */
+/** For each kind: its seeds, the words to insert, and its reader. */
 export const KINDS = {
     cue: {
         seeds: ['REM A\nFILE "game.bin" BINARY\r\n  TRACK 01 MODE1/2352\r\n    INDEX 00 00:00:00\n    INDEX 01 00:02:00\n  TRACK 02 AUDIO\n' +
@@ -84,7 +84,7 @@ export const KINDS = {
         words: ['FILE ', '"', 'TRACK 99', 'INDEX 01', ' 99:59:74', 'BINARY', '\n', '\u2028', 'MODE2/2336'],
         read: bytes => void tracksOf(sheetOf(decoded(bytes)), [2352 * 100000, 2048 * 100]),
     },
-    // Most of a volume is empty, and changes there show nothing.
+    // Most of a volume is empty, and changes there have no effect.
     iso: { seeds: [VOLUME], used: [...VOLUME.keys()].filter(at => VOLUME[at] !== 0), words: ['\xFF\xFF\xFF\xFF', '\0', 'CE', 'NM', 'SP', 'CL', 'RR', 'CD001'], read: readVolume },
     table: {
         seeds: ['8260=A\r\n41=b\n/FF=[end]\n82A0=あ\n; a comment\n00=\\n\n'],
@@ -118,7 +118,7 @@ export const KINDS = {
     ...INVARIANTS,
 };
 
-/** What random changes make of bytes: bytes that flip or are written over; and, if it may become longer, some that go or come again, and words. */
+/** Randomly changes bytes: flips or overwrites some, and, unless the length is fixed, deletes, repeats, or inserts some. */
 export function changed(bytes, { words, used }, dice) {
     let made = Buffer.from(bytes);
     for (let left = 1 + dice(4); left > 0; left--) {
@@ -131,7 +131,7 @@ export function changed(bytes, { words, used }, dice) {
     return new Uint8Array(made);
 }
 
-/** Why bytes of a kind show a defect, or null. */
+/** The defect that these bytes show, or null. */
 export async function defectOf(kind, bytes) {
     const begun = process.cpuUsage().user;
     try {
@@ -143,7 +143,7 @@ export async function defectOf(kind, bytes) {
     return took > LONGEST ? `it took ${took.toFixed()} ms` : null;
 }
 
-/** The bytes of a seed. */
+/** The bytes for a seed. */
 export function bytesOf(kind, seed) {
     const { seeds, made, ...how } = KINDS[kind];
     const dice = diceOf(seed);
@@ -152,7 +152,7 @@ export function bytesOf(kind, seed) {
     return changed(typeof from === 'string' ? encoded(from) : from, how, dice);
 }
 
-/** Measures shapes, all of them if none is named. Returns how many grow too fast. */
+/** Measures the named shapes, or all. Returns how many grow too fast. */
 async function measure(names) {
     let found = 0;
     for (const name of names.length > 0 ? names : Object.keys(GROWTH)) {

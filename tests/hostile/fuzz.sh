@@ -1,7 +1,7 @@
 #!/usr/bin/env bash
-# Looks for input that does harm: `bash tests/hostile/fuzz.sh [SECONDS [SEED]]`. For so many seconds, or 600, scripts and images for the calls
-# of C by clang's libFuzzer, if it is there; then as long for each kind of file that the core and the page read, in node. What is found stays in
-# the current directory; a file that showed a defect goes to tests/hostile/corpus when that is mended.
+# Searches for harmful input: `bash tests/hostile/fuzz.sh [SECONDS [SEED]]`. For SECONDS, by default 600, clang's libFuzzer, if installed,
+# tries scripts and images on the calls of C. Then node tries each kind of file that the core and the page read, for as long. Findings stay
+# in the current directory. Once a defect is fixed, the file that showed it goes to tests/hostile/corpus.
 set -u
 top=$(cd "$(dirname "$0")/../.." && pwd)
 seconds=${1:-600}

@@ -1,4 +1,4 @@
-// What was ever found by random changes of files, and some changes that are always the same ones: only a Fault is thrown, and soon.
+// All earlier findings of random changes, and some changes with fixed seeds: only a Fault is thrown, and soon.
 
 import assert from 'node:assert/strict';
 import { readFileSync, readdirSync } from 'node:fs';

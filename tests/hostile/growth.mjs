@@ -1,5 +1,5 @@
-// How the time grows that a reader takes: for twice the input at most three times as much, and so for four times at most nine times, which
-// is told better from what grows with the square. Each shape gives, for a size, what is timed.
+// The growth of a reader's time: twice the input may take three times as long, so four times the input nine times, which is easier to tell
+// from quadratic growth. Each shape returns, for a size, the call to be measured.
 
 import { recordOf, volumeOf } from '../core/strangers.mjs';
 import { calls, core, page } from '../page/page.mjs';
@@ -25,11 +25,11 @@ const USER = 2048;
 const encoded = text => new TextEncoder().encode(text);
 const times = (count, textOf) => Array.from({ length: count }, (_, i) => textOf(i)).join('');
 
-/** Sizes from the smallest on are tried, until one takes so many milliseconds of a processor, or is the largest. */
+/** Sizes double from the smallest until one takes ENOUGH milliseconds of CPU time, or is the largest. */
 const SMALLEST = 1 << 9;
 const LARGEST = 1 << 14;
 const ENOUGH = 60;
-/** What is not told from nothing, in milliseconds. */
+/** Differences up to this many milliseconds are ignored. */
 const NOISE = 15;
 const LARGER = 4;
 const MOST = 9;
@@ -41,7 +41,7 @@ const listed = list => async () => {
     for await (const row of listRows(list)) void row;
 };
 
-/** What replaces rows of a list in a small image. */
+/** Replaces the rows of a list in a small image. */
 function replaced(list) {
     const reader = readerOfUser(encoded('A'.repeat(4 * USER)));
     return async () => {
@@ -51,20 +51,20 @@ function replaced(list) {
     };
 }
 
-/** What counts the codes that the new text of a row leaves out. */
+/** Counts the codes that the new text of a row leaves out. */
 function counted(text, fresh) {
     const row = { number: 2, block: 0, offset: 0, room: -1, encoding: '', text, fresh };
     return () => codesLeftOut([row], () => [CP932]);
 }
 
-/** What reads a directory of so many records. */
+/** Reads a directory of `count` records. */
 function listedVolume(count, recordAt) {
     const sectors = 20 + Math.ceil(count / 40);
     const reader = readerOfUser(volumeOf(sectors, sector => Array.from({ length: 40 }, (_, i) => recordAt(40 * (sector - 18) + i)), (sectors - 18) * USER));
     return () => filesOf(reader, 0);
 }
 
-/** What replaces a file of so many extents, which lie apart. */
+/** Replaces a file of `count` extents that are not contiguous. */
 function replacedParts(count) {
     const entry = i => ({ path: '/A', block: 20 + 2 * i, size: USER, before: USER * i, fault: null, record: { block: 18, offset: 0 } });
     const sector = calls.encode(calls.address(18), new Uint8Array(USER));
@@ -114,7 +114,7 @@ export const GROWTH = {
     'a patcher of white space': size => () => readPatcherText(calls, `\ncdpatch-data 1 ${' '.repeat(size)}\n`),
 };
 
-/** Milliseconds of a processor that the shortest of some runs takes. */
+/** The CPU time in milliseconds of the fastest of some runs. */
 async function timeOf(make, size, runs) {
     let least = Infinity;
     for (let i = 0; i < runs; i++) {
@@ -131,7 +131,7 @@ async function timeOf(make, size, runs) {
     return least;
 }
 
-/** Why the time that a shape takes grows too fast, or null. What seems to is measured again. */
+/** The reason why the time of a shape grows too fast, or null. An apparent failure is measured again. */
 export async function growthDefect(name) {
     const make = GROWTH[name];
     let size = SMALLEST;

@@ -1,5 +1,5 @@
-// Kinds of made-up input of which more is asked than a Fault: volumes, lists with the rows that they replace, and the cells of tables. Each has
-// `made`, which makes bytes of dice, and `read`, which throws an Error if something is true of them that must never be.
+// Kinds of generated input with more conditions than a Fault: volumes, lists with the rows that they replace, and cells of tables. `made`
+// generates random bytes of a kind; `read` throws an Error if a condition does not hold.
 
 import assert from 'node:assert/strict';
 import { recordOf, volumeOf } from '../core/strangers.mjs';
@@ -21,7 +21,7 @@ const encoded = text => new TextEncoder().encode(text);
 const decoded = bytes => new TextDecoder().decode(bytes);
 const sectorsIn = size => Math.ceil(size / USER);
 
-/** A reader of an image with this user data from block 0 on. */
+/** A reader of an image with this user data from block 0. */
 export function readerOfUser(user) {
     const whole = new Uint8Array(sectorsIn(user.length) * USER);
     whole.set(user);
@@ -29,7 +29,7 @@ export function readerOfUser(user) {
     return { size: image.length, read: async (at, length) => image.slice(at, at + length) };
 }
 
-/** A volume of one directory, whose files have several extents, some of them over one another or after the end. */
+/** A volume with one directory, whose files have several extents, some of them overlapping or beyond the end. */
 function madeVolume(dice) {
     const records = Array.from({ length: 1 + dice(9) }, () => {
         const size = [USER, USER, 2 * USER, 3 * USER, 1 + dice(3 * USER), 0][dice(6)];
@@ -38,7 +38,7 @@ function madeVolume(dice) {
     return volumeOf(SECTORS, sector => sector === ROOT ? records : []);
 }
 
-/** The extents of a file that is whole are distinct; its later ones go on where one of its own ends. */
+/** Checks that the extents of a whole file are distinct, and that each later extent continues one of the same file. */
 function checkExtents(files) {
     for (const { path, before } of files.filter(it => it.before > 0)) {
         assert.ok(files.some(it => it.path === path && it.before + it.size === before), `no extent of ${path} ends at its byte ${before}`);
@@ -59,7 +59,7 @@ function checkExtents(files) {
     }
 }
 
-/** An order of files has each sector once, and its reader reads them; the stretches that are looked at tile the track. */
+/** Checks that an order of files has each sector once and that its reader reads them, and that the searched stretches tile the track. */
 async function checkOrder(reader, files) {
     const order = fileOrder({ reader, base: 0, sectors: SECTORS }, files);
     const blocks = Array.from({ length: order ? SECTORS : 0 }, (_, index) => order.blockOf(index));
@@ -88,7 +88,7 @@ async function readVolume(user) {
 const PARTS = ['A', 'AB', 'ABAB', 'ｱ', '{41}', '{4142}', '"', '"A"', '{zz}', '=', '\t', '', '\n', 'A\r', '{00}', 'Err:509', 'B'.repeat(30)];
 const SPREAD = encoded('AB'.repeat(2 * USER));
 
-/** A list whose rows are near one another in an image of AB over and over. */
+/** A list whose rows are close together in an image that repeats AB. */
 function madeList(dice) {
     const rows = Array.from({ length: 1 + dice(30) }, () => {
         const part = () => Array.from({ length: dice(3) }, () => PARTS[dice(PARTS.length)]).join('');
@@ -97,7 +97,7 @@ function madeList(dice) {
     return encoded(['block\toffset\troom\ttext\tnew', ...rows.map(row => row.join('\t')), ''].join('\n'));
 }
 
-/** Each row is replaced or left, no two lines write one byte, and the old bytes of each line are those of the image. */
+/** Checks that each row is replaced or left, that no two lines write the same byte, and that the old bytes of each line are the image's. */
 async function readList(bytes) {
     const rows = [];
     for await (const row of listRows(decoded(bytes))) rows.push(row);
@@ -121,19 +121,19 @@ async function readList(bytes) {
 const OWN = tableOf(encoded('41=A\n3D==\n8140= \n/FF=[end]\n$FE=[wait],1\nF0={name}\n'));
 const READ = [...ENCODINGS.filter(it => it.hasCharacters), OWN];
 
-/** Bytes of a disc: signs, characters of two bytes, and codes. */
+/** Bytes as on a disc: signs, characters of two bytes, and codes. */
 function madeBytes(dice) {
     const signs = encoded('=+-@"\t\r\n{}AZ09 ,;');
     return Uint8Array.from({ length: 1 + dice(12) }, () => dice(2) === 0 ? signs[dice(signs.length)] : dice(256));
 }
 
-/** A cell is read as the bytes that it is of, out of each table too, and no spreadsheet runs it. */
+/** Checks that a cell gives the same bytes again, also from each format of table, and that no spreadsheet runs it. */
 async function readCell(bytes) {
     for (const encoding of READ) {
         const cell = cellOf(encoding, bytes);
         assert.doesNotMatch(cell, /^[=+\-@\t\r]/, `a spreadsheet runs the cell ${JSON.stringify(cell)} in ${encoding.name}`);
         const back = Buffer.concat(unitsOfCell(encoding, cell).map(([usual]) => usual));
-        // A character of two spellings comes back in its usual one, and one of two parts may come back as one.
+        // A character with two spellings returns in its usual one, and a character of two parts may return as one.
         const [come, due] = [back, bytes].map(it => encoding.text(it).normalize());
         assert.equal(come, due, `${JSON.stringify(cell)} in ${encoding.name}`);
         for (const mark of ['\t', ',']) {

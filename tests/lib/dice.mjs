@@ -1,6 +1,6 @@
-// Random numbers of the tests in node.
+// Random numbers for tests in node.
 
-/** Numbers below a limit, the same ones for the same seed. */
+/** A generator of numbers below a limit, the same for the same seed. */
 export function diceOf(seed) {
     let state = seed >>> 0;
     return limit => {

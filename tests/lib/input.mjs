@@ -1,10 +1,10 @@
-// What a program in node is given on its standard input.
+// Reads the standard input of a program in node.
 
 import { readSync } from 'node:fs';
 
 const chunk = Buffer.alloc(1 << 20);
 
-/** The bytes of the standard input, in their order. */
+/** The bytes of standard input, in order. */
 export class Input {
     constructor() {
         this.bytes = Buffer.alloc(0);

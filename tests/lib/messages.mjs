@@ -1,4 +1,4 @@
-// The messages of messages.sh, by their names there, but for those that it makes of a number.
+// The messages of messages.sh by name, except those that contain a number.
 
 import { readFileSync } from 'node:fs';
 

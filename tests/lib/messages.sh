@@ -1,5 +1,5 @@
-# The program's own lines, as its users read them. Every test of the program as a process takes them from here, so that a
-# changed message is changed once for all of them. The man page has them for users, and tests/pages/messages.sh compares.
+# The program's own lines as users read them. Every test of the program as a process uses these, so that a changed message is changed in one
+# place. The man page lists them for users, and tests/pages/messages.sh compares the two.
 
 no_image='cdpatch: cannot open the image'
 no_script='cdpatch: cannot read the script'
@@ -13,7 +13,7 @@ long_image='cdpatch: the image has more than 1000000 sectors'
 read_failed='cdpatch: reading the image failed'
 write_failed='cdpatch: writing the output failed'
 
-# What is wrong with a line of a script, after its number.
+# The faults of a script's line, which follow its number.
 no_head='no cdpatch 1 line'
 unknown_verb='unknown verb'
 word_count='wrong number of words'

@@ -8,7 +8,7 @@ import { Input } from './input.mjs';
 /** @typedef {{ status: number, text: Uint8Array, out?: Uint8Array | null }} Answer */
 
 /**
- * Ends the process if nobody reads any more: who asks has seen enough.
+ * Writes bytes to standard output, and exits quietly when it is closed.
  * @param {Uint8Array} bytes
  */
 function write(bytes) {
@@ -21,7 +21,7 @@ function write(bytes) {
 }
 
 /**
- * Answers each question until there is none.
+ * Answers questions until there are no more.
  * @param {(question: Question, parts: Uint8Array[]) => Answer | Promise<Answer>} answered
  */
 export async function serve(answered) {

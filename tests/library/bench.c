@@ -1,7 +1,7 @@
-/* Makes one call of libcdpatch many times, to count instructions: `bench ROW ROUNDS`. Without arguments it lists the rows. `bench stack`
- * prints for each row its call, and how many bytes of stack one round needs. */
+/* Makes one call of libcdpatch many times, so that its instructions can be counted: `bench ROW ROUNDS`. Without arguments it lists the
+ * rows. `bench stack` prints for each row its call, and the bytes of stack that one round needs. */
 #define _DEFAULT_SOURCE
-/* It measures calls, and does not look at their results. */
+/* Calls are measured, and their results are not used. */
 #define CDPATCH_NODISCARD
 #include <cdpatch.h>
 #include <signal.h>
@@ -18,7 +18,7 @@ static const uint8_t all_verbs[] = "cdpatch 2\nset 0 2047 4142 was 0000\nfill 1 
 static uint8_t image[SECTORS * CDPATCH_SECTOR_SIZE], out[sizeof image], text[SECTORS * 40 + 300];
 static size_t length;
 
-/* Each round has other bytes, so that nothing is moved out of the loop. */
+/* Each round uses different bytes, so that nothing is moved out of the loop. */
 static void version(uint8_t n) { user[n] = (uint8_t)cdpatch_version(); }
 static void result_text(uint8_t n) { cdpatch_result_text(n % 7, text); }
 static void kind(uint8_t n) { user[n] = (uint8_t)cdpatch_kind(sector); }
@@ -55,7 +55,7 @@ static void apply_all_verbs(uint8_t n) {
     cdpatch_apply(image, sizeof image, all_verbs, sizeof all_verbs - 1, 0, n % 2, out, sizeof out, text, sizeof text, &length);
 }
 
-/* Lines of a script, whose first digit changes, and the patches that they have. */
+/* Lines of a script whose first digit changes, and their patches. */
 static struct cdpatch_patch patch;
 static struct cdpatch_place place;
 static struct cdpatch_record records[SECTORS];
@@ -110,8 +110,8 @@ static void sha1_begin(uint8_t n) { hashed.count = n; cdpatch_sha1_begin(&hashed
 static void sha1_2352(uint8_t n) { sector[20] = n; cdpatch_sha1_add(&hashed, sector, sizeof sector); }
 static void sha1_end(uint8_t n) { hashed.count = n; cdpatch_sha1_end(&hashed, text); }
 
-/* A run of that script up to each of its steps: a copy, a sector that is read, the line of the patch, the sector that is written, another copy,
- * the last line, and the end. */
+/* A run of that script up to each of its steps: a copy, a read sector, the line of the patch, the written sector, another copy, the last
+ * line, and the end. */
 enum { STEPS = 7 };
 static struct cdpatch_run run, states[STEPS];
 static size_t moved[STEPS + 1];
@@ -151,7 +151,7 @@ static void run_write(uint8_t n) { text[0] = n; step_again(3); }
 static void run_last_line(uint8_t n) { text[0] = n; step_again(5); }
 static void run_end(uint8_t n) { text[0] = n; step_again(6); }
 
-/* Of each row its name, its rounds, and the call that they make. */
+/* For each row: its name, its rounds, and the call that they make. */
 static const struct row { const char *name; void (*round)(uint8_t n); const char *call; } rows[] = {
     {"version", version, "version"}, {"result_text", result_text, "result_text"}, {"edc", edc, "edc"}, {"kind", kind, "kind"},
     {"address", address_of, "address"}, {"encode", encode, "encode"}, {"fill_parity", fill_parity, "fill_parity"},
@@ -177,7 +177,7 @@ static const struct row { const char *name; void (*round)(uint8_t n); const char
 };
 enum { ROWS = sizeof rows / sizeof *rows };
 
-/* ---- the stack of a round, which is made in a signal handler on a stack that is filled before */
+/* ---- the stack of a round, which runs in a signal handler on a stack that was filled before */
 
 enum { KEPT = 0xA5 };
 static volatile uint8_t stack[1 << 18];
@@ -186,7 +186,7 @@ static void (*volatile in_handler)(uint8_t n);
 static void make_round(int signal) { in_handler((uint8_t)signal); }
 static void nothing(uint8_t n) { text[0] = n; }
 
-/* How many bytes of the stack are no more what they were. */
+/* The number of bytes of the stack that have changed. */
 static size_t stack_with(void (*round)(uint8_t n)) {
     size_t untouched = 0;
     round(0); /* The loader looks for a function at its first call, which takes stack too. */

@@ -1,18 +1,18 @@
-"""The commands of the program, by a client that does not use the calls for whole images: it calls a shared libcdpatch for lines, patches,
-sectors, and lines of the log."""
+"""Builds the commands of the program from the calls of a shared libcdpatch for lines, patches, sectors, and lines of the log, without the
+calls for whole images."""
 
 import ctypes
 from functools import lru_cache
 from itertools import groupby
 
 SIZE = 2352
-HAND = 3  # sectors that a patch can meet
+HAND = 3  # the maximum number of sectors that a patch can meet
 LINE_SIZE, PATCH_SIZE = 96, 4096
 MODE1 = 2
 OK = 0
 NOTHING, PATCH, NO_HEAD, NO_VERSION = 0, 3, 4, 14
 KEPT = b'\xA5'
-MORE = 40  # bytes after what a call may write, which must stay
+MORE = 40  # guard bytes after the memory that a call may write
 
 
 class Line(ctypes.Structure):
@@ -35,7 +35,7 @@ class Record(ctypes.Structure):
 
 @lru_cache
 def opened(path):
-    """The calls, with the types of what they answer."""
+    """Loads a library, and declares the types of its calls."""
     library = ctypes.CDLL(path)
     number, size, pointer = ctypes.c_uint32, ctypes.c_size_t, ctypes.c_void_p
     shapes = {'first_line': (ctypes.c_bool, pointer, size, pointer),
@@ -56,7 +56,7 @@ def opened(path):
 
 
 def line_by(call, *words):
-    """The line that a call writes."""
+    """The line that a call writes. Raises ValueError if bytes after it have changed."""
     text = ctypes.create_string_buffer(KEPT * (LINE_SIZE + MORE), LINE_SIZE + MORE)
     length = call(*words, text)
     if text.raw[length:].strip(KEPT):
@@ -65,11 +65,11 @@ def line_by(call, *words):
 
 
 class Fault(Exception):
-    """The number of a line, and that of its fault."""
+    """The number of a faulty line, and the number of its fault."""
 
 
 def lines_of(library, text):
-    """The lines of a text, as the calls cut them."""
+    """The address and the size of each line of a text, as the calls split it."""
     room, start, line = ctypes.create_string_buffer(text, len(text) + 1), 0, Line()
     where, found = ctypes.addressof(room), ctypes.byref(line)
     while library.cdpatch_first_line(where + start, len(text) - start, found):
@@ -78,7 +78,7 @@ def lines_of(library, text):
 
 
 def patches_of(library, text):
-    """The patches of a script in the order of its lines: of each the line's number, the record, its new and its old bytes."""
+    """The patches of a script in the order of its lines: for each the line's number, the record, and its new and old bytes."""
     new, old = (ctypes.create_string_buffer(PATCH_SIZE) for _ in range(2))
     version, number, made = 0, 0, []
     for number, (line, size) in enumerate(lines_of(library, text), 1):
@@ -97,7 +97,8 @@ def patches_of(library, text):
 
 
 def apply_in_hand(library, image, base, patch, new, old, carry):
-    """Makes a patch on a copy of the sectors from its block on, which goes back into the image. Returns result and place."""
+    """Applies a patch to a copy of the sectors from its block on, and copies them back to the image. Returns the result and the place.
+    Raises ValueError if other bytes have changed."""
     count = len(image) // SIZE
     first = patch.block - base
     taken = min(HAND, count - first) if 0 <= first < count else 0
@@ -115,7 +116,7 @@ def apply_in_hand(library, image, base, patch, new, old, carry):
 
 
 def patched(library, image, base, carry, script):
-    """The status, the log and the new image."""
+    """The status, the log, and the new image or None."""
     try:
         patches = patches_of(library, script)
     except Fault as fault:
@@ -130,7 +131,7 @@ def patched(library, image, base, carry, script):
 
 
 def surveyed(library, image, base):
-    """A record of each sector."""
+    """The record of each sector."""
     count = len(image) // SIZE
     records = (Record * (count + 1))()
     ctypes.memset(ctypes.byref(records[count]), KEPT[0], ctypes.sizeof(Record))
@@ -161,7 +162,7 @@ def audited(library, image, base):
 
 
 def run(path, command, image, base, carry, script):
-    """The status, the text, and the new image of `apply`, or None. Raises if a call has changed other bytes."""
+    """The status, the text, and the new image of `apply`, or None. Raises ValueError if a call has changed other bytes."""
     library = opened(path)
     if command in ('list', 'audit'):
         return (listed if command == 'list' else audited)(library, image, base)

@@ -10,7 +10,7 @@ static bool has_defect(const uint8_t *sector, bool zeros, bool edc, unsigned p, 
     return found.zeros == zeros && found.edc == edc && found.p == p && found.q == q;
 }
 
-/* A sound sector is found to be one, and is made from its parts. */
+/* A sound sector is recognised as one, and is encoded again from its parts. */
 static void check_codes(const uint8_t *sample, uint8_t *sector, uint8_t *user, uint8_t *address, unsigned n) {
     uint32_t word = cdpatch_edc(sector, 2064);
     judge(cdpatch_is_consistent(sector), "is consistent", n);
@@ -27,7 +27,7 @@ static void check_codes(const uint8_t *sample, uint8_t *sector, uint8_t *user, u
     judge(!memcmp(sector, sample, CDPATCH_SECTOR_SIZE), "fill_parity", n);
 }
 
-/* Each change to another content and back, in a sound sector and in a damaged one. */
+/* Changes a sound sector and a damaged one to different content and back, by each call. */
 static void check_changes(const uint8_t *sample, uint8_t *sector, uint8_t *user, uint8_t *address, unsigned n) {
     uint8_t wanted[CDPATCH_SECTOR_SIZE];
     memset(user, (int)n, CDPATCH_USER_SIZE);
@@ -90,7 +90,7 @@ static void check_addresses(uint8_t *address) {
     judge(cdpatch_edc(address, 0) == 0, "EDC of no bytes", 0);
 }
 
-/* No bytes may stand at a null pointer. */
+/* A null pointer is valid for no bytes. */
 static void check_nulls(const uint8_t *sample, uint8_t *sector, unsigned n) {
     memcpy(sector, sample, CDPATCH_SECTOR_SIZE);
     judge(cdpatch_edc(NULL, 0) == 0, "EDC of no bytes at a null pointer", n);

@@ -1,10 +1,10 @@
-# The client that cdpatch.h prints, compiled as it stands there, over files that fail; and the examples, if memory is refused.
-# tests/library/run and examples.sh have what these functions use.
+# Tests the client that is printed in cdpatch.h on files that fail, and the examples when memory is refused. tests/library/run and
+# examples.sh define the other functions.
 
-# printed_client HEADER: what the header prints as a whole client.
+# printed_client HEADER: prints the complete client that the header contains.
 printed_client() { sed -n '/This is a whole client:$/,/^ \* What goes out/s/^ \* \{5\}//p' "$1"; }
 
-# compiled_client: makes the program header_client of client.inc.
+# compiled_client: compiles header_client with client.inc.
 compiled_client() { gcc -std=c99 -O2 "${strict[@]}" -I . "$tests/library/header_client.c" library/libcdpatch.a -o header_client 2> errors; }
 
 client_as_program() { client=./header_client piped_as_program "$@"; }
@@ -12,13 +12,13 @@ client_reads_a_directory() { ./header_client script < .; }
 client_writes_to_full() { ./header_client script < damaged > /dev/full; }
 client_logs_to_full() { ./header_client script < damaged 2> /dev/full; }
 
-# client_fills_a_disk: of 1387680 bytes 204800 can be written.
+# client_fills_a_disk: runs the client with room for 204,800 of 1,387,680 bytes.
 client_fills_a_disk() {
     head -c 1387680 /dev/zero > blank
     (trap '' XFSZ && ulimit -f 200 && ./header_client none < blank)
 }
 
-# wrong_client EXPRESSION TEST..: whether sed's expression changes the client, and the test refuses what it becomes.
+# wrong_client EXPRESSION TEST..: whether a sed expression changes the client, and the test fails on the changed client.
 wrong_client() {
     local expression=$1
     shift
@@ -53,13 +53,13 @@ test_printed_client() {
     judge 'one is refused that leaves bytes in a buffer' wrong_client 's/fflush(out) || //' holds ./header_client
 }
 
-# forgets CALL: a program `forgets.c` that does not look at what a call returns.
+# forgets CALL: writes `forgets.c`, a program that ignores the result of a call.
 forgets() {
     printf '%s\n' '#include <cdpatch.h>' 'int main(void) {' 'static uint8_t bytes[9408];' 'size_t length;' "$1;" '(void)length;' 'return 0; }' \
         > forgets.c
 }
 
-# warns_of_it COMPILER..: whether a compiler warns of that.
+# warns_of_it COMPILER..: whether a compiler warns about forgets.c.
 warns_of_it() { ! "$@" -Wall -Wextra -Werror -I "$top/include" -c forgets.c -o forgets.o 2> errors && grep -q 'unused-result' errors; }
 
 test_forgotten_results() {
@@ -79,11 +79,11 @@ test_forgotten_results() {
     done
 }
 
-# starts_in KILOBYTES PROGRAM: whether a program can start with so much memory.
+# starts_in KILOBYTES PROGRAM: whether a program can start with this much memory.
 starts_in() { (ulimit -v "$1" && "$2" > log 2>&1; [ $? = 2 ]) && grep -q 'usage: ' log; }
 
-# survives STEP STEPS PROGRAM WORD..: whether a program, with more memory by so many kilobytes each time, ends as it ends if there is
-# enough, or with status 2 and a line that says why; and whether it ended in both ways.
+# survives STEP STEPS PROGRAM WORD..: runs a program with ever more memory, STEP kilobytes each time. Whether each run ends as with enough
+# memory, or with status 2 and a line with the reason; and whether both occurred.
 survives() {
     local step=$1 steps=$2 limit=2000 wanted=0 status refused=0
     shift 2

@@ -1,11 +1,11 @@
-"""The calls on images of a shared library of libcdpatch, as the commands of the program."""
+"""Runs the calls of a shared libcdpatch on images as the commands of the program."""
 
 import ctypes
 from functools import lru_cache
 
 FAILED = 2
 KEPT = b'\xA5'
-MORE = 40  # bytes after what a call may write, which must stay
+MORE = 40  # guard bytes after the memory that a call may write
 
 
 @lru_cache
@@ -22,14 +22,14 @@ def buffer(size):
 
 
 def enough_room(command, image, script):
-    """As cdpatch.h says."""
+    """The room that suffices for a text, as documented in cdpatch.h."""
     if command in ('list', 'audit'):
         return 100 + 40 * (len(image) // 2352)
     return 200 + 80 * min(script.count(b'\n') + 1, 65536)
 
 
 def run(path, command, image, base, carry, script):
-    """The status, the text, and the new image, or None if there is none. Raises if bytes after them have changed."""
+    """The status, the text, and the new image or None. Raises ValueError if bytes after them have changed."""
     room = enough_room(command, image, script)
     text, out, length = buffer(room), buffer(len(image)), ctypes.c_size_t(room + 1)
     arguments = [*sized(image)]

@@ -1,4 +1,4 @@
-/* Tests SHA-1 of libcdpatch with the examples of FIPS 180, in pieces of each size, in memory directly before, and directly after, pages that
+/* Tests SHA-1 of libcdpatch with the examples of FIPS 180 in pieces of each size, in memory directly before, and directly after, pages that
  * cannot be accessed. Prints each failure. The status is 0 if there is none. */
 #define _DEFAULT_SOURCE
 #include "fenced.h"
@@ -15,7 +15,7 @@ static bool ends_as(struct room room, const char *wanted) {
     return !strcmp(hex, wanted);
 }
 
-/* The state may hold any bytes before a message begins. */
+/* Before a message begins, the state may contain any bytes. */
 static void begin(struct room room) {
     memset(room.state, 0xA5, sizeof *room.state);
     cdpatch_sha1_begin(room.state);
@@ -54,7 +54,7 @@ static void check_million(struct room room, uint8_t *bytes) {
     judge(ends_as(room, "34aa973cd4c4daa4f61eeb2bdbad27316534016f"), "a million in odd pieces", 0);
 }
 
-/* A message cut in three is the same message, and a copy of a state goes on for itself. */
+/* A message in three pieces has the digest of the whole message, and a copy of a state continues independently. */
 static void check_pieces(struct room room, uint8_t *bytes) {
     uint8_t wanted[DIGEST_SIZE];
     for (unsigned i = 0; i < MOST_BYTES; i++) bytes[i] = (uint8_t)(i * i + 3);
@@ -76,7 +76,7 @@ static void check_pieces(struct room room, uint8_t *bytes) {
     }
 }
 
-/* A state that was never begun has some digest, and nothing else is written. */
+/* A state that was never begun gives some digest, and nothing else is written. */
 static void check_no_state(struct room room, uint8_t *bytes) {
     for (unsigned value = 0; value < 256; value++) {
         memset(room.state, (int)value, sizeof *room.state);
@@ -87,7 +87,7 @@ static void check_no_state(struct room room, uint8_t *bytes) {
     judge(ends_as(room, "da39a3ee5e6b4b0d3255bfef95601890afd80709"), "a state begins anew", 0);
 }
 
-/* No bytes may stand at a null pointer. */
+/* A null pointer is valid for no bytes. */
 static void check_null(struct room room) {
     begin(room);
     cdpatch_sha1_add(room.state, NULL, 0);

@@ -1,6 +1,6 @@
-# The examples, on images of which the program says what is right. tests/library/run has what these functions use.
+# Tests the examples on images for which the program gives the right results. tests/library/run defines the other functions.
 
-# audit_as_program IMAGE: whether examples/audit.c prints what `cdpatch audit` does, with the same status.
+# audit_as_program IMAGE: whether examples/audit.c has the output and the status of `cdpatch audit`.
 audit_as_program() {
     local status=0 wanted=0
     ./audit "$1" > log || status=$?
@@ -16,8 +16,8 @@ ends_with() {
     [ "$status" = "$wanted" ]
 }
 
-# wrong_example FILE EXPRESSION PROGRAM TEST..: whether sed's expression changes an example, and the test refuses what it becomes, as
-# PROGRAM. The right one is kept.
+# wrong_example FILE EXPRESSION PROGRAM TEST..: whether a sed expression changes an example, and the test fails on the changed example,
+# compiled as PROGRAM. The right program is restored afterwards.
 wrong_example() {
     local file=$1 expression=$2 made=$3
     shift 3
@@ -51,8 +51,8 @@ test_audit_example() {
         ends_with 2 audits_a_pipe damaged
 }
 
-# piped_as_program IMAGE SCRIPT: whether examples/patch_pipe.c, or another `client`, makes and prints what `cdpatch apply` does, with the
-# same status, of an image that comes through a pipe.
+# piped_as_program IMAGE SCRIPT: whether examples/patch_pipe.c, or a different `client`, has the result, the output, and the status of
+# `cdpatch apply` when the image comes through a pipe.
 piped_as_program() {
     local status wanted=0
     "${client:-./patch_pipe}" "$2" < <(cat "$1") 2> log | cat > out
@@ -65,14 +65,14 @@ piped_as_program() {
 
 pipes_to_full() { ./patch_pipe script < damaged > /dev/full; }
 
-# pipes_in_memory KILOBYTES: an image of 24 megabytes, with no more memory than that.
+# pipes_in_memory KILOBYTES: patches an image of 24 megabytes with at most this much memory.
 pipes_in_memory() {
     (ulimit -d "$1" && head -c 24000000 /dev/zero | ./patch_pipe script 2> log | cmp -s - <(head -c 24000000 /dev/zero)) &&
         [ "$(tail -n 1 log)" = 'applied 0 refused 7' ]
 }
 
-# log_of_a_long_image SCRIPT SECTORS: whether patch_pipe.c prints what the program does of a blank image of one byte too many, and
-# writes so many sectors.
+# log_of_a_long_image SCRIPT SECTORS: whether patch_pipe.c prints the program's log for a blank image that is one byte too long, and writes
+# this many sectors.
 log_of_a_long_image() {
     local written status
     truncate -s 2352000001 too_long
@@ -82,7 +82,7 @@ log_of_a_long_image() {
     cmp -s log wanted && [ "$written" = $(($2 * 2352)) ] && [ "$status" = 2 ]
 }
 
-# pipes_a_directory: of which no byte can be read, though it can be opened.
+# pipes_a_directory: reads a directory, which can be opened but not read.
 pipes_a_directory() { ./patch_pipe script < .; }
 
 log_of_a_long_script() {
@@ -133,7 +133,7 @@ test_pipe_example() {
         'valgrind -q --leak-check=full --error-exitcode=9 --log-file=complaints ./patch_pipe script < long > out 2> log; test $? = 1'
 }
 
-# later_library: makes later.a and later.so, a later libcdpatch (later.c).
+# later_library: builds later.a and later.so, a later libcdpatch (later.c).
 later_library() {
     objcopy --redefine-sym cdpatch_read_line=right_read_line library/libcdpatch.a right.a
     gcc -O2 -fPIC "${strict[@]}" -Wno-array-parameter -c "$tests/library/later.c" 2> errors
@@ -142,13 +142,13 @@ later_library() {
     gcc -shared -Wl,--whole-archive later.a -Wl,--no-whole-archive -o later.so 2> errors
 }
 
-# names_a_later_line PROGRAM: whether patch_map.c, as this program of the later library, reads on after `cdpatch 9`.
+# names_a_later_line PROGRAM: whether patch_map.c, linked to the later library as this program, continues after `cdpatch 9`.
 names_a_later_line() {
     printf 'cdpatch 9\naddress 0 12:34:56\n' > later
     ends_with 2 "$1" later damaged && grep -qx 'patch_map: line 2 of the script names no old bytes' errors
 }
 
-# A client of the later library by lines, in Python.
+# Tests a client in Python that reads line by line with the later library.
 takes_a_later_version_by_lines() {
     printf 'cdpatch 9\naddress 0 12:34:56\n' > later
     PYTHONPATH=$tests/library python3 -B -c 'import sys; from by_lines import run; image = open(sys.argv[1], "rb").read()
@@ -162,8 +162,8 @@ wrong_later_map() {
         gcc -std=c99 -O2 -I "$top/include" wrong_example.c later.a -o later_map 2> errors && ! names_a_later_line ./later_map
 }
 
-# maps_as_program STATUS IMAGE WORD..: whether patch_map.c has this status, makes of a copy of the image what `cdpatch apply` does, or
-# leaves it as it is if that status is not 0, and prints its log.
+# maps_as_program STATUS IMAGE WORD..: whether patch_map.c has this status, prints the log of `cdpatch apply`, and gives a copy of the image
+# its result, or leaves the copy unchanged if that status is not 0.
 maps_as_program() {
     local wanted=$1 image=$2 status=0
     shift 2
@@ -175,13 +175,13 @@ maps_as_program() {
     [ "$status" = "$wanted" ] && cmp -s mapped wanted.out && cmp -s log wanted
 }
 
-# keeps_the_file WORD..: whether patch_map.c ends with 2, prints no log, and leaves a file as it is.
+# keeps_the_file WORD..: whether patch_map.c has status 2, prints no log, and leaves a file unchanged.
 keeps_the_file() {
     cp long mapped
     ends_with 2 ./patch_map "$@" && cmp -s long mapped && [ ! -s log ]
 }
 
-# log_of_a_long_map SCRIPT: whether patch_map.c prints what the program does of a blank image that is too long, and writes nothing.
+# log_of_a_long_map SCRIPT: whether patch_map.c prints the program's log for a blank image that is too long, and writes nothing.
 log_of_a_long_map() {
     truncate -s 2352000001 too_long
     "$program" check too_long "$1" > wanted

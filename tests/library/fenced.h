@@ -1,5 +1,5 @@
-/* What the tests of libcdpatch in C share: failures are printed and counted, and memory ends, or begins, where no byte may be
- * read or written. */
+/* Shared by the tests of libcdpatch in C: prints and counts failures, and places memory directly before or after pages that cannot be
+ * accessed. */
 #include <cdpatch.h>
 #include <stdio.h>
 #include <stdlib.h>
@@ -17,7 +17,7 @@ static void judge(bool holds, const char *what, unsigned number) {
     }
 }
 
-/* `size` bytes between two pages that may not be read or written: at the end of the pages between them, or at their beginning. */
+/* `size` bytes at the end, or at the beginning, of pages between two pages that cannot be accessed. */
 static uint8_t *fenced(size_t size, bool at_end) {
     size_t between = (size + PAGE - 1) / PAGE * PAGE;
     uint8_t *pages = (uint8_t *)mmap(NULL, between + 2 * PAGE, PROT_READ | PROT_WRITE, MAP_PRIVATE | MAP_ANONYMOUS, -1, 0);

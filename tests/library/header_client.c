@@ -1,5 +1,5 @@
-/* Compiles the client that is printed in cdpatch.h, which tests/library/clients.sh copies to client.inc. `header_client SCRIPT < IMAGE > OUT`
- * runs it. `header_client` tests it on files that fail at each of many bytes. */
+/* Compiles the client that is printed in cdpatch.h, which tests/library/clients.sh copies to client.inc. `header_client SCRIPT < IMAGE >
+ * OUT` runs it. `header_client` tests it on files that fail at each of many bytes. */
 #ifndef _GNU_SOURCE
 #define _GNU_SOURCE
 #endif
@@ -16,7 +16,7 @@ enum { SECTORS = 90, TAIL = 100, SIZE = SECTORS * 2352 + TAIL, NEVER = 1 << 30 }
 
 static const char script[] = "cdpatch 1\nset 1 0 41\nfill 40 2047 2 FF\nset 89 5 41\nset 90 0 41\n";
 
-/* A file in memory that fails at a byte, if it has so many: a read there, or a write, as that of a full disk. */
+/* A file in memory that fails at byte `fails`, if it has that many bytes: a read there, or a write, as on a full disk. */
 struct failing { char bytes[SIZE]; size_t at, end, fails; };
 
 static ssize_t give(void *cookie, char *bytes, size_t size) {
@@ -43,7 +43,7 @@ static ssize_t keep(void *cookie, const char *bytes, size_t size) {
 
 static struct failing image, made, logged;
 
-/* The status of the client, of whose files one fails at a byte. */
+/* The status of the client when one of its files fails at a byte. */
 static int status_of(size_t image_fails, size_t made_fails, size_t log_fails) {
     cookie_io_functions_t gives = {give, NULL, NULL, NULL}, keeps = {NULL, keep, NULL, NULL};
     image.at = made.at = logged.at = 0;

@@ -10,7 +10,7 @@ enum { LIST, AUDIT, CHECK, APPLY };
 
 static const char *const names[] = {"list", "audit", "check", "apply"};
 
-/* A call, the image and the script that it is passed, and what it returns. */
+/* A call, the image and the script that it is passed, and its results. */
 struct asked {
     int call;
     const uint8_t *image;
@@ -24,7 +24,7 @@ struct asked {
     uint8_t *out, *log;
 };
 
-/* A copy of `count` bytes, which may only be read. */
+/* A read-only copy of `count` bytes. */
 static uint8_t *copied(const void *bytes, size_t count, bool at_end) {
     uint8_t *copy = fenced(count, at_end);
     memcpy(copy, bytes, count);
@@ -43,7 +43,7 @@ static bool all_kept(const uint8_t *bytes, size_t count) {
     return true;
 }
 
-/* Whether `out` begins with bytes of `wanted`, and the rest is as it was. */
+/* Whether `out` begins with bytes of `wanted`, and the rest is unchanged. */
 static bool is_beginning(const uint8_t *out, size_t count, const uint8_t *wanted) {
     size_t sent = 0;
     while (sent < count && out[sent] == wanted[sent])
@@ -56,7 +56,7 @@ static void release(const uint8_t *bytes, size_t count) {
     munmap((void *)first, (count + PAGE - 1) / PAGE * PAGE + 2 * PAGE);
 }
 
-/* Makes the call on memory of its own. */
+/* Makes a call with newly allocated arguments. */
 static void ask(struct asked *it, bool at_end) {
     const char *text = it->script ? it->script : "";
     const uint8_t *image = copied(it->image, it->size, at_end), *script = copied(text, strlen(text), at_end);
@@ -81,14 +81,14 @@ static void forget(struct asked *it) {
     release(it->log, it->room);
 }
 
-/* Whether the text of a call is this one, with nothing after it. */
+/* Whether a call printed this text, with nothing after it. */
 static bool printed(const struct asked *it, const char *text) {
     return it->length == strlen(text) && it->length <= it->room && !memcmp(it->log, text, it->length) &&
            all_kept(it->log + it->length, it->room - it->length);
 }
 
-/* The call has this status and prints this text in each room that is large enough; in a smaller one it fails, and the beginning
- * of the text fills the room. `out` becomes `wanted`, or a beginning of it, or stays if that is NULL. */
+/* A call must have this status and print this text if the room is large enough. With less room it fails, and the beginning of the text
+ * fills the room. `out` must become `wanted` or a beginning of it, or stay unchanged if that is NULL. */
 static void expect(struct asked it, uint32_t status, const char *text, const uint8_t *wanted, unsigned number) {
     size_t length = strlen(text);
     for (size_t room = 0; room <= length + 1; room++)
@@ -127,7 +127,7 @@ static void check_reports(const uint8_t *image, size_t size, unsigned n) {
     expect(it, CDPATCH_FOUND, "7 address\n8 address\nsectors 2 mode1 2 damaged 0 tail 5\n", NULL, n);
 }
 
-/* Both calls that take a script. */
+/* Tests both calls that accept a script. */
 static void expect_both(struct asked it, uint32_t status, const char *text, const uint8_t *wanted, unsigned n) {
     it.call = APPLY;
     expect(it, status, text, wanted, n);
@@ -169,7 +169,7 @@ static void check_damage(uint8_t *image, size_t size, unsigned n) {
     image[2351] ^= 1;
 }
 
-/* A base that no image has: nothing is written. */
+/* For a base that no image has, nothing is written. */
 static void check_bases(const uint8_t *image, size_t size, unsigned n) {
     static const uint32_t bases[] = {449850, UINT32_MAX};
     for (int call = LIST; call <= APPLY; call++)
@@ -181,7 +181,7 @@ static void check_bases(const uint8_t *image, size_t size, unsigned n) {
         }
 }
 
-/* An output that is too small is filled by the beginning of the new image. */
+/* An output that is too small is filled with the beginning of the new image. */
 static void check_outputs(const uint8_t *image, size_t size, unsigned n) {
     static const size_t sizes[] = {0, 1, SECTOR - 1, SECTOR, 2 * SECTOR, 2 * SECTOR + TAIL - 1, 2 * SECTOR + TAIL};
     uint8_t wanted[2 * SECTOR + TAIL];
@@ -202,7 +202,7 @@ static void check_outputs(const uint8_t *image, size_t size, unsigned n) {
     }
 }
 
-/* No bytes may stand at a null pointer: an empty image, an empty script, an output for an empty image, and no room. */
+/* A null pointer is valid for no bytes: for an empty image, an empty script, the output for an empty image, and no room. */
 static void check_nulls(void) {
     const uint8_t *script = (const uint8_t *)"cdpatch 1\n";
     struct asked it = {LIST, NULL, 0, NULL, 0, false, 0, MOST, 0, 0, NULL, blank(MOST, true)};
@@ -228,8 +228,8 @@ static void check_nulls(void) {
     release(it.log, MOST);
 }
 
-/* The room that cdpatch.h calls enough for every script holds the log of the most patches, each with a line of most digits, in a script
- * of nearly the most bytes, most of which are line feeds. */
+/* The room that cdpatch.h calls enough for every script holds the longest log: that of the most patches, each with a line of the most
+ * digits, in a script of almost the maximum size, which consists mostly of line feeds. */
 static void check_room(void) {
     static const char first[] = "cdpatch 1\n", patch[] = "set 999999999 0 41\n";
     const size_t room = 5243080, size = CDPATCH_MOST_SCRIPT_BYTES, patches = CDPATCH_MOST_PATCHES;
@@ -249,7 +249,7 @@ static void check_room(void) {
     free(log);
 }
 
-/* A script of more bytes than one may have, and an image of more sectors: 2.4 GB of addresses that are never written. */
+/* A script and an image that are longer than allowed. The image has 2.4 GB of address space that is never written. */
 static void check_limits(const uint8_t *image, size_t size) {
     const size_t script_size = CDPATCH_MOST_SCRIPT_BYTES + 1, image_size = (size_t)1000001 * SECTOR;
     char long_script[CDPATCH_LINE_SIZE];
@@ -293,7 +293,7 @@ void __wrap_free(void *bytes) {
     __real_free(bytes);
 }
 
-/* Each growth of memory is refused once, and what was taken is given back. */
+/* Each growth of memory is refused once, and the memory that was allocated is freed. */
 static void check_memory(const uint8_t *image, size_t size) {
     for (int call = LIST; call <= APPLY; call++) {
         int refused = -1;

@@ -1,13 +1,13 @@
-# Clients of the library as it is installed, and clients of earlier releases. tests/library/run has what these use.
+# Tests clients of the installed library, and clients of earlier releases. tests/library/run defines the other functions.
 
-# with_package PREFIX COMMAND..: a command that finds the installed package.
+# with_package PREFIX COMMAND..: runs a command that can find the installed package.
 with_package() {
     local prefix=$1
     shift
     PKG_CONFIG_PATH=$prefix/lib/pkgconfig LD_LIBRARY_PATH=$prefix/lib "$@"
 }
 
-# Installs the library below root/usr, as a package does, without the toolchain, of a tree with links to the sources and to what was built.
+# Installs the library below root/usr as a package does, without the toolchain, from a tree of links to the sources and to the built files.
 install_tree() {
     mkdir tree completions
     : | tee completions/{_cdpatch,cdpatch.bash} > completions/cdpatch.fish
@@ -19,10 +19,10 @@ install_tree() {
     documents=$PWD/root/usr/share/doc/cdpatch
 }
 
-# install_once_more VARIABLE=VALUE..: installs it elsewhere.
+# install_once_more VARIABLE=VALUE..: installs the library with these variables of make.
 install_once_more() { PATH=/usr/bin:/bin make --no-print-directory -s -C tree install "$@"; }
 
-# compiles_below_a_space: whether ten lines compile with the flags of pkg-config below a prefix with a space.
+# compiles_below_a_space: whether ten_lines.c compiles with the flags of pkg-config below a prefix with a space.
 compiles_below_a_space() {
     local flags
     install_once_more prefix="$PWD/with space" || return
@@ -31,7 +31,7 @@ compiles_below_a_space() {
         [ "$(with_package "$PWD/with space" ./ten_lines_below)" = '5F0017BC 1' ]
 }
 
-# The same with a cdpatch.pc without quotes.
+# compiles_without_quotes: the same with a cdpatch.pc without quotes.
 compiles_without_quotes() {
     local pc='with space/lib/pkgconfig/cdpatch.pc'
     sed -i 's/"//g' "$pc"
@@ -39,8 +39,8 @@ compiles_without_quotes() {
     eval "gcc -std=c99 \"\$tests/library/ten_lines.c\" $flags -o ten_lines_below" 2> errors
 }
 
-# compiles_as_said PREFIX LIBDIR NUMBER [PAGE]: whether ten lines compile by the command of this number that INSTALL has for pkg-config,
-# whose `moved` is this PREFIX, and print what they should.
+# compiles_as_said PREFIX LIBDIR NUMBER [PAGE]: whether ten_lines.c compiles with the NUMBERth command for pkg-config in INSTALL, with
+# PREFIX in place of `moved`, and prints the right result.
 compiles_as_said() {
     local command
     command=$(grep -E '^    cc .*pkg-config' "${4-$documents/docs/INSTALL.md}" | sed -n "$3p")
@@ -50,7 +50,7 @@ compiles_as_said() {
     PKG_CONFIG_PATH=$2/pkgconfig sh -c "${command//moved/moved_link}" 2> errors && [ "$(LD_LIBRARY_PATH=$2 ./a.out)" = '5F0017BC 1' ]
 }
 
-# As Debian has it: the directory of libraries is two below the prefix, which was moved.
+# As in Debian, the directory of libraries is two levels below the prefix, which was moved.
 test_moved_deeper() {
     local deep="$PWD/deep/usr"
     install_once_more DESTDIR="$PWD/deep" PREFIX=/usr libdir=/usr/lib/some-triplet
@@ -61,7 +61,7 @@ test_moved_deeper() {
     judge 'another option for pkg-config is refused' refuses compiles_as_said "$deep" "$deep/lib/some-triplet" 2 other.md
 }
 
-# is_linked_statically: whether the program that was compiled last needs no libcdpatch.so.1.
+# is_linked_statically: whether the last compiled program does not need libcdpatch.so.1.
 is_linked_statically() { readelf -d a.out > log && ! grep -q libcdpatch log; }
 
 test_static() {
@@ -81,7 +81,7 @@ test_pkg_config() {
     read -ra flags < <(with_package "$PWD/root/usr" pkg-config --define-prefix --cflags --libs cdpatch)
     judge 'pkg-config --define-prefix follows the files' test "${flags[*]}" = "-I$PWD/root/usr/include -L$PWD/root/usr/lib -lcdpatch"
     gcc -std=c99 "$tests/library/ten_lines.c" "${flags[@]}" -o ten_lines 2> errors
-    # The EDC as tests/model has it.
+    # The EDC that tests/model computes.
     judge 'ten lines by pkg-config' test "$(with_package "$PWD/root/usr" ./ten_lines)" = '5F0017BC 1'
     read -ra flags < <(PKG_CONFIG_SYSROOT_DIR=$PWD/root PKG_CONFIG_ALLOW_SYSTEM_CFLAGS=1 PKG_CONFIG_ALLOW_SYSTEM_LIBS=1 with_package \
         "$PWD/root/usr" pkg-config --cflags --libs cdpatch)
@@ -97,14 +97,14 @@ test_pkg_config() {
         grep -q '/glibc-hwcaps/x86-64-v3/' <(LD_TRACE_LOADED_OBJECTS=1 with_package "$PWD/root/usr" ./ten_lines)
 }
 
-# cmake_takes VERSION: whether find_package takes the installed one for this version, and its clients run.
+# cmake_takes VERSION: whether find_package accepts the installed library for this version, and its clients run.
 cmake_takes() {
     rm -rf built
     cmake -S "$tests/library/cmake" -B built -DWANTED="$1" -DCMAKE_PREFIX_PATH="$PWD/moved" > cmake.log 2>&1 &&
         cmake --build built >> cmake.log 2>&1 && [ "$(built/shared)" = '5F0017BC 1' ] && [ "$(built/static)" = '5F0017BC 1' ]
 }
 
-# unsuitable BYTES: whether the version file refuses programs whose pointers have so many bytes.
+# unsuitable BYTES: prints whether the version file refuses programs with pointers of this many bytes.
 unsuitable() {
     printf '%s\n' "set(CMAKE_SIZEOF_VOID_P $1)" "include($PWD/moved/lib/cmake/cdpatch/cdpatch-config-version.cmake)" 'set(answer no)' \
         'if(PACKAGE_VERSION_UNSUITABLE)' 'set(answer yes)' 'endif()' 'message(${answer})' > ask.cmake
@@ -130,7 +130,7 @@ test_cmake() {
     judge 'a version file that knows no ranges is refused' cmake_takes 1.0...1.1
 }
 
-# rust_as_program IMAGE: whether examples/damaged.rs prints the blocks of which `cdpatch audit` says more than the address.
+# rust_as_program IMAGE: whether examples/damaged.rs prints the blocks for which `cdpatch audit` prints more than the address.
 rust_as_program() {
     local status=0
     with_package "$PWD/root/usr" ./damaged_blocks < "$1" > log || status=$?
@@ -160,7 +160,7 @@ test_clients() {
     fi
 }
 
-# python_as_program COMMAND..: whether the package, as this Python finds it, audits as the program does.
+# python_as_program COMMAND..: whether the package that this Python finds audits as the program does.
 python_as_program() {
     "$@" -B -c 'import cdpatch, sys; print(cdpatch.audit(open(sys.argv[1], "rb").read()).text, end="")' damaged |
         cmp -s - <("$program" audit damaged)
@@ -185,10 +185,10 @@ test_python_client() {
     test_editable "$python"
 }
 
-# wheel PYTHON PROJECT: makes a wheel of a project in `wheels`.
+# wheel PYTHON PROJECT: builds a wheel of a project in `wheels`.
 wheel() { rm -rf wheels && "$1" -m pip --disable-pip-version-check wheel --no-index --quiet --wheel-dir wheels "$2"; }
 
-# has_what_a_wheel_must PYTHON: whether the wheel in `wheels` is for this system, and has the notices and what an index shows of it.
+# has_what_a_wheel_must PYTHON: whether the wheel in `wheels` is for this system, and has the notices and the metadata that an index shows.
 has_what_a_wheel_must() {
     rm -rf contents
     "$1" -m zipfile -e wheels/cdpatch-*-py3-none-manylinux_2_34_x86_64.whl contents &&
@@ -218,7 +218,7 @@ test_wheel() {
     refuses_backend "s/needs + (help_text or '')/''/" "$python" 'has no description'
 }
 
-# says_what_it_needs DIRECTORY: whether an archive of the sources that is unpacked there has no library, and says that it needs one.
+# says_what_it_needs DIRECTORY: whether a source archive unpacked there has no library, and says that it needs one.
 says_what_it_needs() {
     [ -z "$(find "$1" -name 'libcdpatch*' -o -name NOTICES)" ] && grep -qx 'Requires-External: libcdpatch (>=[0-9.]*)' "$1"/*/PKG-INFO &&
         grep -q '^This distribution has no library\.' "$1"/*/PKG-INFO
@@ -241,7 +241,7 @@ test_sdist() {
     judge 'one with the library is refused' refuses says_what_it_needs sdist2
 }
 
-# refuses_backend EXPRESSION PYTHON WHAT: judges that the wheel by a backend that sed's expression changes is refused.
+# refuses_backend EXPRESSION PYTHON WHAT: judges that the wheel of a backend changed by a sed expression is refused.
 refuses_backend() {
     rm -rf other_bundle
     cp -r bundle other_bundle
@@ -251,7 +251,7 @@ refuses_backend() {
     judge "a wheel is refused that $3" refuses has_what_a_wheel_must "$2"
 }
 
-# An editable package is the one in its directory.
+# An editable package is the package in its directory.
 test_editable() {
     local python=$1
     cp -r root/usr/share/cdpatch/python edited
@@ -262,14 +262,14 @@ test_editable() {
     judge 'and what is edited is taken' eval "[ \"\$(LD_LIBRARY_PATH=root/usr/lib venv/bin/python -B -c 'import cdpatch; print(*cdpatch.KINDS)')\" = edited ]"
 }
 
-# library_of MAP DIRECTORY: the calls of this library that a version script names, as the shared library of an earlier release had them.
+# library_of MAP DIRECTORY: builds a shared library as an earlier release had it, with the calls that a version script lists.
 library_of() {
     mkdir "$2"
     gcc -shared -Wl,-soname,libcdpatch.so.1 -Wl,--version-script="$1" -Wl,--whole-archive library/libcdpatch.a -Wl,--no-whole-archive \
         -o "$2/libcdpatch.so.1"
 }
 
-# A program that was linked to 1.1.0 asks for no version of a call, as its library had none.
+# A program linked to 1.1.0 requires no version of a call, since that library had no versions.
 test_clients_of_1_1() {
     local test build
     printf '{ global: cdpatch_*; local: *; };' > calls.map
@@ -282,14 +282,14 @@ test_clients_of_1_1() {
             judge "it runs with $build" holds env LD_LIBRARY_PATH="${build%/*}" "old/$test" "$vectors"
         done
     done
-    # One in which a call of 1.1.0 is gone.
+    # A library that lacks a call of 1.1.0.
     printf '{ global: cdpatch_[!k]*; local: *; };' > calls.map
     library_of calls.map gone
     judge 'a library in which a call is gone is refused' refuses env LD_LIBRARY_PATH=gone old/check "$vectors"
 }
 
-# compiled_before HEADERS TEST: a test in C by an earlier release's header, which is in a directory, and by the calls of that release. The
-# header of 1.2.0 had no limits.
+# compiled_before HEADERS TEST: compiles a test in C with the header of an earlier release, which is in the directory HEADERS, and with the
+# calls of that release. The header of 1.2.0 had no limits.
 compiled_before() {
     local limits=()
     grep -q CDPATCH_MOST_PATCHES "$1/cdpatch.h" ||
@@ -297,8 +297,8 @@ compiled_before() {
     gcc -std=c99 -O2 -Wall -Wextra -Werror -pedantic -I "$1" "${limits[@]}" "$tests/library/$2.c" before/libcdpatch.so.1 -o "before/$2" 2> errors
 }
 
-# test_clients_of RELEASE TEST..: programs that were made with the header of a release and its library ask for the versions that the calls
-# had there, and run with this one. It leaves the last release in `before`.
+# test_clients_of RELEASE TEST..: programs built with the header and the library of a release require the versions of the calls in that
+# release, and run with this library. Leaves the last release in `before`.
 test_clients_of() {
     local release=$1 second=${1#1.} test build arguments
     rm -rf before
@@ -317,7 +317,7 @@ test_clients_of() {
 test_clients_of_earlier_releases() {
     test_clients_of 1.3.0 check images scripts digest steps
     test_clients_of 1.2.0 check images scripts digest
-    # One in which a call of 1.2.0 has a later version, and a struct that has changed since.
+    # A library in which a call of 1.2.0 has a later version; and below, a header with a struct that has changed.
     sed 's/cdpatch_read_line;//; s/cdpatch_run_next;/& cdpatch_read_line;/' "$top/tools/libcdpatch.map" > calls.map
     library_of calls.map raised
     judge 'a library in which a call has another version is refused' refuses env LD_LIBRARY_PATH=raised before/scripts "$vectors"

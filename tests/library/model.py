@@ -1,4 +1,4 @@
-"""Random sectors by shared libraries and by tests/model: `model.py COUNT LIBRARY..`. Prints what differs."""
+"""Compares shared libraries with tests/model on random sectors: `model.py COUNT LIBRARY..`. Prints the differences."""
 
 import ctypes
 import hashlib
@@ -19,12 +19,12 @@ class Defect(ctypes.Structure):
     _fields_ = [('zeros', ctypes.c_bool), ('edc', ctypes.c_bool), ('p', ctypes.c_uint8), ('q', ctypes.c_uint8)]
 
     def report(self):
-        """As `audit` says it."""
+        """The defect as `audit` prints it."""
         return (self.zeros * ' zeros' + self.edc * ' edc' + (self.p > 0) * f' p={self.p}' + (self.q > 0) * f' q={self.q}')
 
 
 def some_sector(random):
-    """A sound sector, or one with some bytes changed, of Mode 1 mostly; or any bytes."""
+    """A sound sector, or one with some changed bytes, mostly of Mode 1; or random bytes."""
     if random.random() < 0.05:
         return random.randbytes(2352)
     mode = random.choice([1] * 12 + [0, 2, 3])
@@ -42,7 +42,7 @@ def content_with(sector, place, new):
 
 
 def changed(sector, content, refuses, inside=True):
-    """What a change answers and leaves, if `content` are the bytes up to the EDC that it makes."""
+    """The result of a change, and the sector that it leaves. `content` is the new content up to the EDC."""
     if kind(sector) != 'mode1':
         return NOT_MODE1, sector
     if refuses and not consistent(sector):
@@ -56,7 +56,7 @@ def parity_of(sector):
 
 
 def broken(sector):
-    """A byte for each column and each diagonal by its number and plane: whether one of its syndromes is not 0."""
+    """For each column and each diagonal, by number and plane, a byte: 1 if one of its syndromes is not 0."""
     marks = [int(pair != (0, 0)) for pair in defect(sector)[2]]
     columns, diagonals = marks[:86], marks[86:]
     return bytes(columns[i % 2 * 43 + i // 2] for i in range(86)), bytes(diagonals[i % 2 * 26 + i // 2] for i in range(52))
@@ -90,7 +90,7 @@ def differences(library, random):
     user = content_with(sector, 16 + offset, new) if inside else b''
 
     def call(name, *words):
-        """What a call answers and leaves of the sector."""
+        """A call's result, and the sector that it leaves."""
         bytes_left = ctypes.create_string_buffer(sector, 2352)
         answer = getattr(library, name)(bytes_left, *words)
         return answer, bytes_left.raw
@@ -130,7 +130,7 @@ def open_library(path):
 
 
 def judge(paths, number):
-    """What differs on the sector of a number, which the model remembers from one library to the next."""
+    """The differences on the sector with this number. The model's results are kept from one library to the next."""
     return [f'case {number}, {path}: {name}' for path in paths for name in differences(open_library(path), Random(f'1 {number}'))]
 
 

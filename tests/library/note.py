@@ -1,10 +1,10 @@
-"""Makes a library that needs a level of the processor that none has: `note.py LIBRARY FILE`."""
+"""Creates a library that requires a level that no processor has: `note.py LIBRARY FILE`."""
 
 import struct
 import sys
 from pathlib import Path
 
-HEAD = b'GNU\0' + struct.pack('<II', 0xC0008002, 4)  # of the note: its owner, the property of the levels, and its size
+HEAD = b'GNU\0' + struct.pack('<II', 0xC0008002, 4)  # the head of the note: its owner, the property of the levels, and its size
 
 
 def main(library, file):

@@ -32,7 +32,7 @@ function begun() {
 }
 
 /**
- * Rows of a call: what it is given, where `none` stands for a pointer to no bytes.
+ * For each call its arguments; `none` is a pointer to no bytes.
  * @type {[string, (none: Given) => Given[]][]}
  */
 const rows = [
@@ -51,7 +51,7 @@ const rows = [
 ];
 
 /**
- * What a call answers, and what it leaves in rooms.
+ * A call's result, and the bytes that it leaves in rooms.
  * @param {string} name
  * @param {Given[]} given
  */

@@ -9,7 +9,7 @@ const numbers = await import(pathToFileURL(process.argv[2]).href);
 const holds = fact => console.log(`_Static_assert(${fact}, "");`);
 
 /**
- * A struct of the header, if this is its name here.
+ * The struct of the header with this name; '' if the name is not that of a struct.
  * @param {string} name
  */
 const structOf = name => name.endsWith('_STRUCT') ? `struct cdpatch_${name.slice(0, -'_STRUCT'.length).toLowerCase()}` : '';

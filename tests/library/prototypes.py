@@ -6,18 +6,18 @@ import sys
 from pathlib import Path
 
 TYPES = {'u8': 'uint8_t', 'u16': 'uint16_t', 'u32': 'uint32_t', 'u64': 'uint64_t', 'usize': 'size_t', 'bool': 'bool'}
-NAMES = {'bcd': 'address', 'found': 'defect'}  # parameters with another name in C
+NAMES = {'bcd': 'address', 'found': 'defect'}  # parameters with different names in C
 NAMES_IN = {('cdpatch_result_text', 'number'): 'result'}
 STRUCTS = {'FoundDefect': 'cdpatch_defect', 'SectorRecord': 'cdpatch_record', 'TextLine': 'cdpatch_line',
            'FlatPatch': 'cdpatch_patch', 'Place': 'cdpatch_place', 'DigestState': 'cdpatch_sha1', 'Entry': 'cdpatch_entry',
            'Rooms': 'cdpatch_rooms', 'RunStep': 'cdpatch_step'}
-# A struct whose fields are the library's own: C sees words of 64 bits.
+# A struct with private fields: C sees 64-bit words.
 WORDS = {'ScriptRun': 'cdpatch_run'}
 BYTES = {'u8': 1, 'u16': 2, 'u32': 4, 'u64': 8, 'usize': 8}
-# Bytes that are 0 or 1, which C sees as bool.
+# Bytes that are 0 or 1, declared as bool in C.
 FLAGS = {('FoundDefect', 'zeros'), ('FoundDefect', 'edc'), ('SectorRecord', 'address'), ('SectorRecord', 'zeros'),
          ('SectorRecord', 'edc')}
-# The numbers that a call answers have these names.
+# The enum of the number that a call returns.
 ENUMS = {'cdpatch_kind': 'cdpatch_sector_kind', 'cdpatch_read_line': 'cdpatch_content',
          **dict.fromkeys(['cdpatch_rebuild', 'cdpatch_change_user', 'cdpatch_carry_user', 'cdpatch_change_address',
                           'cdpatch_carry_address', 'cdpatch_apply_patch'], 'cdpatch_result'),
@@ -30,7 +30,7 @@ SIZES = {'CDPATCH_SECTOR_SIZE': ['SECTOR_SIZE'], 'CDPATCH_USER_SIZE': ['USER_SIZ
          'CDPATCH_LINE_SIZE': ['LINE_SIZE'], 'CDPATCH_SECTORS_IN_HAND': ['MAX_BLOCKS_MET'],
          'CDPATCH_MOST_SECTORS': ['MAX_SECTORS'], 'CDPATCH_MOST_SCRIPT_BYTES': ['MAX_TEXT'], 'CDPATCH_MOST_PATCHES': ['MAX_PATCHES'],
          'CDPATCH_LAST_BLOCK': ['MAX_NUMBER'], 'CDPATCH_LAST_BASE': ['MAX_BASE', 'MAX_BLOCK'], 'CDPATCH_COLUMNS': ['COLUMNS']}
-# Those that no constant of the sources has as a number: of the arrays that calls take.
+# Sizes of arrays that no constant of the sources has as a number.
 COUNTS = {'DIAGONALS': '52', 'DIGEST_LEN': '20'}
 ARRAYS = {'CDPATCH_ADDRESS_SIZE': ['3'], 'CDPATCH_DIAGONALS': ['52'], 'CDPATCH_DIGEST_SIZE': ['20']}
 
@@ -40,8 +40,8 @@ def spaced(text):
 
 
 def of_c(call, parameter, constants):
-    """The C parameters of a parameter: a slice has two, and its size may have any name; the allocator has none. A reference to one thing
-    has the size of that."""
+    """The C parameters for a parameter: two for a slice, whose size may have any name; none for the allocator. A reference to one object
+    has that object's size."""
     name, kind = parameter.split(': ', 1)
     name = NAMES_IN.get((call, name), NAMES.get(name, name))
     if kind == 'Global':
@@ -81,13 +81,13 @@ def body_of(struct, source):
 
 
 def numbers_of(struct, source):
-    """The sizes of a struct's numbers, those of a struct in it too."""
+    """The sizes of a struct's numbers, including those of nested structs."""
     for kind in re.findall(r'^    pub \w+: (\w+),$', body_of(struct, source), re.M):
         yield from [BYTES[kind]] if kind in BYTES else numbers_of(kind, source)
 
 
 def words_of(struct, source):
-    """How many words of 64 bits a struct of numbers takes."""
+    """The number of 64-bit words that a struct of numbers occupies."""
     at = 0
     for size in numbers_of(struct, source):
         at = -(-at // size) * size + size
@@ -95,13 +95,14 @@ def words_of(struct, source):
 
 
 def numbered(pairs):
-    """The names of numbers that count from 0 on, each pair as often as it likes."""
+    """The names for numbers that count from 0. A pair may occur more than once."""
     made = sorted({(int(number), 'CDPATCH_' + name.upper()) for name, number in pairs})
     return [name if number == place else f'{name} = {number}' for place, (number, name) in enumerate(made)]
 
 
 def exports(source):
-    """Of each export its C types and names, the result's first; the structs; the numbers of the enums; sizes and version."""
+    """The declarations of the sources: for each export its C types and names, the result first; the structs; the numbers of the enums;
+    sizes and version."""
     made = {}
     constants = re.findall(r'const (\w+): \w+ = ([\d_]+);', source)
     sizes = {**COUNTS, **{name: number.replace('_', '') for name, number in constants}}
@@ -136,7 +137,7 @@ def exports(source):
 
 
 def declared(header):
-    """The same of the header."""
+    """The declarations of the header, in the form of `exports`."""
     code = re.sub(r'/\*.*?\*/', '', header, flags=re.S)
     made = {}
     for result, name, listed in re.findall(r'^(\w[\w ]*?)\s+(cdpatch_\w+)\(([^)]*)\);', code, re.M):
@@ -153,7 +154,7 @@ def declared(header):
 
 
 def undocumented(header):
-    """The declarations before which no comment of Doxygen's stands."""
+    """The declarations without a comment for Doxygen before them."""
     found = re.findall(r'(/\*(?:(?!\*/).)*\*/\n)?(?:CDPATCH_NODISCARD\n)?^((?:#define CDPATCH_V|enum|struct|\w+ cdpatch_)[^\n]*)', header, re.S | re.M)
     return [f'no comment for Doxygen: {line}' for comment, line in found if not comment.startswith('/**')]
 

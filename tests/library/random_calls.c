@@ -2,9 +2,9 @@
  * left. The same seed makes the same calls, so two builds must give the same bytes, and replay.mjs repeats the calls on a module. An
  * argument without bytes is a null pointer in half of the cases.
  *
- * A record is the name of the call and a zero; the number of its arguments in a byte; each of them, one letter first: `n` and a number, `s`
- * and a size, of 8 bytes; `z` for a null pointer; `i` and a size of 4 bytes and bytes that are only read; `r`, a size, the bytes before
- * the call and those after it; and in the end 8 bytes of what the call returned. */
+ * A record is the name of the call and a zero; the number of its arguments in a byte; the arguments, each after one letter: `n` and a
+ * number, or `s` and a size, of 8 bytes; `z` for a null pointer; `i`, a size of 4 bytes, and bytes that are only read; `r`, a size, the
+ * bytes before the call, and those after it; and at the end 8 bytes of the call's result. */
 #include <cdpatch.h>
 #include <stdio.h>
 #include <stdlib.h>
@@ -70,7 +70,7 @@ static void end(uint64_t result) {
     put(&result, 8);
 }
 
-/* ---- what calls are given */
+/* ---- the arguments of calls */
 
 static uint64_t some(uint64_t below) {
     state ^= state << 13;
@@ -89,10 +89,10 @@ static uint64_t some_number(void) {
 }
 static uint64_t some_size(void) { return once_in(8) ? UINT64_MAX - some(70) : once_in(3) ? some_number() : some(2100); }
 
-/* A null pointer for no bytes, in half of the cases. */
+/* A pointer to bytes; for no bytes, a null pointer in half of the cases. */
 static void *lent(void *from, size_t count) { return count == 0 && once_in(2) ? NULL : from; }
 
-/* A sound sector, or one with some bytes changed, of Mode 1 mostly; or any bytes. */
+/* A sound sector, or one with some changed bytes, mostly of Mode 1; or random bytes. */
 static void make_sector(uint8_t *sector) {
     uint8_t user[CDPATCH_USER_SIZE];
     if (once_in(20)) {
@@ -123,7 +123,7 @@ static size_t put_hex(char *to, size_t count) {
     return 2 * count;
 }
 
-/* A line of a script, right mostly, without its end: its size. The blocks are small ones. */
+/* Writes a line of a script, mostly correct, without its end, and returns its size. The blocks are small numbers. */
 static size_t make_line(char *to) {
     size_t at, count = once_in(9) ? some(4100) : some(20), block = some(9);
     if (once_in(12))

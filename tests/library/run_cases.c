@@ -23,7 +23,7 @@ static void save(const char *name, const uint8_t *bytes, size_t size) {
     check_that(file && fwrite(bytes, 1, size, file) == size && fclose(file) == 0, name);
 }
 
-/* The bytes of a file, or none if it is not there. */
+/* The bytes of a file, or none if it does not exist. */
 static uint8_t *load(const char *name, size_t *size) {
     FILE *file = fopen(name, "rb");
     *size = 0;
@@ -37,7 +37,7 @@ static uint8_t *load(const char *name, size_t *size) {
     return bytes;
 }
 
-/* The status of a command on the files `image` and `script`; it leaves `log`, and perhaps `out`. */
+/* The status of a command on the files `image` and `script`. It writes `log`, and `out` if it creates one. */
 static uint32_t by_program(const char *command, uint32_t base, bool carry) {
     char number[16];
     int status = 0;
@@ -67,7 +67,7 @@ static void print_parts(const uint8_t *const *parts, const size_t *sizes) {
         check_that(fwrite(parts[i], 1, sizes[i], stdout) == sizes[i], "a case");
 }
 
-/* Whether the program makes the same new image, or none. Not of every case: it waits until the image is on the disk. */
+/* Whether the program creates the same new image, or none. Only some cases are tried, since the program waits for the disk. */
 static bool applies(const struct some_case *it, const uint8_t *made, uint32_t status) {
     size_t size;
     bool same = by_program("apply", it->base, it->carry) == status;
@@ -100,7 +100,7 @@ static void print_case(unsigned number, uint64_t seed) {
     free_case(&it);
 }
 
-/* ---- long images: blank but for the sectors of some numbers */
+/* ---- long images: blank except for some sectors */
 
 struct long_case { uint64_t size; uint32_t base, flags, numbers[SOME_BLOCKS]; uint8_t sectors[SOME_BLOCKS][SECTOR], script[1 << 14];
                    size_t script_size; };
@@ -126,7 +126,7 @@ static void some_long_case(uint64_t *dice, struct long_case *it, unsigned number
                                            below(dice, 2) ? 2047 : below(dice, 2048), 1 + below(dice, 2049), below(dice, 256));
 }
 
-/* Which of the sectors that are not blank stands at a place of the image, or none. */
+/* The index of the sector at a place of the image, among those that are not blank, or SOME_BLOCKS. */
 static uint32_t index_at(const struct long_case *it, uint64_t at) {
     uint32_t i = 0;
     while (i < SOME_BLOCKS && (uint64_t)it->numbers[i] * SECTOR != at)
@@ -134,7 +134,7 @@ static uint32_t index_at(const struct long_case *it, uint64_t at) {
     return i;
 }
 
-/* Keeps what a step passes on of these sectors, and returns how many bytes that is. */
+/* Keeps the bytes of these sectors that a step delivers, and returns their number. */
 static size_t pass(const struct long_case *it, const struct cdpatch_step *step, size_t size, const uint8_t *hand, uint8_t *out) {
     size_t made = 0;
     for (uint32_t i = 0; i < SOME_BLOCKS; i++) {
@@ -147,7 +147,7 @@ static size_t pass(const struct long_case *it, const struct cdpatch_step *step, 
     return made;
 }
 
-/* A run over a long image whose size is known; returns how many bytes of its sectors it has passed on. */
+/* A run over a long image of known size. Returns the number of bytes of its sectors that were delivered. */
 static size_t run_long(const struct long_case *it, uint8_t *out) {
     static uint8_t hand[CDPATCH_SECTORS_IN_HAND * SECTOR];
     static struct cdpatch_entry entries[SMALL_ROOM];

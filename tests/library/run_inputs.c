@@ -6,7 +6,7 @@
 
 enum { MOST_STEPS = 3000, THREADS = 8 };
 
-/* What is lent, at the end of pages. */
+/* The arguments of the calls, at the end of pages. */
 struct lent { struct cdpatch_run *run; struct cdpatch_step *step; struct cdpatch_rooms *rooms; struct cdpatch_entry *entries; uint8_t *hand; };
 
 static struct lent lent;
@@ -18,7 +18,7 @@ static void lend(void) {
     lent.entries = (struct cdpatch_entry *)(void *)fenced(SMALL_ROOM * sizeof *lent.entries, true);
 }
 
-/* The hand at the end of pages, of so many sectors. */
+/* A hand of this many sectors, at the end of pages. */
 static uint8_t *hand_of(size_t sectors) {
     static uint8_t *hands[4];
     if (!hands[sectors])
@@ -26,7 +26,7 @@ static uint8_t *hand_of(size_t sectors) {
     return hands[sectors];
 }
 
-/* How many bytes a client says that it moved: most often all. */
+/* The number of bytes that a client reports as moved: usually all. */
 static size_t some_done(uint64_t *dice, size_t size) {
     switch (below(dice, 12)) {
     case 0: return 0;
@@ -37,7 +37,7 @@ static size_t some_done(uint64_t *dice, size_t size) {
     }
 }
 
-/* Goes on with any state until the end, and returns whether it came in time with a right status. */
+/* Continues from any state to the end. Returns whether the run ends in time and with a valid status. */
 static bool ends(uint64_t *dice, const struct some_case *it, size_t sectors, bool honest, bool changing) {
     size_t done = 0, room = below(dice, 4) ? SMALL_ROOM : below(dice, SMALL_ROOM + 1);
     for (int steps = 0; steps < MOST_STEPS; steps++) {
@@ -119,7 +119,7 @@ static void test_hands(const struct some_case *it, uint64_t *dice, unsigned numb
     judge(ends(dice, it, 3, true, true), "a script that changes", number);
 }
 
-/* The sizes of the image and of the script are any. */
+/* Runs with any sizes of the image and of the script. */
 static void test_sizes(const struct some_case *it, uint64_t *dice, unsigned number) {
     uint64_t sizes[] = {0, 1, it->size + 1, it->size / 2, 2352000000, 2352000001, CDPATCH_UNKNOWN_SIZE, roll(dice)};
     struct some_case shorter = *it;
@@ -141,7 +141,7 @@ static void test_refusals(const struct some_case *it, unsigned number) {
     judge(lent.step->kind == CDPATCH_END && lent.step->status == CDPATCH_FAILED, "a refused run", number);
 }
 
-/* A run of each thread's own: the state, the entries, the hand and the rooms. */
+/* A thread with its own runs, states, entries, hands, and rooms. */
 static void *thread(void *given) {
     uint64_t dice = 7 + *(const unsigned *)given, sum = 0;
     for (unsigned number = 0; number < 60; number++) {

@@ -1,8 +1,9 @@
-/* Compares runs of patches by the two calls with cdpatch_apply: `runs COUNT [SEED]`. Random scripts and images, with a client that reads a pipe
- * and one that knows the size. Between calls the state is copied, and all bytes of the hand and the rooms that a client may write change. */
+/* Compares runs of patches by the two calls with cdpatch_apply: `runs COUNT [SEED]`. Random scripts and images, with a client that reads a
+ * pipe and one that knows the size. Between calls the state is copied, and all bytes of the hand and the rooms that a client may write are
+ * changed. */
 #include "runs.h"
 
-/* Other bytes where a run does not look: in the rooms, the step, and in the hand after the bytes in use. */
+/* Changes bytes that a run must not use: in the rooms, in the step, and in the hand after the bytes in use. */
 static void scribble(struct memory *memory, size_t sectors) {
     size_t used = memory->held < sectors * SECTOR ? memory->held : sectors * SECTOR;
     some_bytes(&memory->dice, memory->hand + used, sectors * SECTOR - used < 64 ? sectors * SECTOR - used : 64);
@@ -11,7 +12,7 @@ static void scribble(struct memory *memory, size_t sectors) {
     memory->step.kind = 77;
 }
 
-/* A hand that ends where no byte may be written. */
+/* A hand directly before a page that cannot be accessed. */
 static uint8_t *lent_hand(size_t sectors) {
     static uint8_t *hands[CDPATCH_SECTORS_IN_HAND + 3];
     if (!hands[sectors])
@@ -19,7 +20,7 @@ static uint8_t *lent_hand(size_t sectors) {
     return hands[sectors];
 }
 
-/* What a client sees of its image, and what it has made; with more flags of a run. */
+/* Runs a case with a client and additional flags. */
 static struct made run_case(const struct some_case *it, enum client client, uint32_t more_flags, size_t room) {
     struct made made = {.out = more(NULL, it->size + 1), .log = more(NULL, it->log_room), .status = 99};
     struct memory *memory = memory_of(it, room);
@@ -74,7 +75,7 @@ static void test_case(struct some_case *it, unsigned number) {
     }
 }
 
-/* Without old bytes a script does what it would without naming them. */
+/* With CDPATCH_WITHOUT_OLD a script has the effect that it would have without old bytes. */
 static void test_without_old(struct some_case *it, unsigned number) {
     struct some_case due = *it;
     due.script = it->without_old;
@@ -86,7 +87,7 @@ static void test_without_old(struct some_case *it, unsigned number) {
     }
 }
 
-/* Room for fewer entries than there are patches: nothing is begun, and END comes with 2. */
+/* With room for fewer entries than patches, no run begins. */
 static void test_room(struct some_case *it, unsigned number) {
     struct made made = run_case(it, PIPE, 0, it->room);
     for (size_t room = 0; room < made.count && room < 3; room++) {
@@ -97,7 +98,7 @@ static void test_room(struct some_case *it, unsigned number) {
     free_made(&made);
 }
 
-/* The status of a run over an image of zeros that is said to have `size` bytes, of which `given` come, and its log as a text. */
+/* The status and the log, as a text, of a run over an image of zeros that claims to have `size` bytes and delivers `given` bytes. */
 static uint32_t run_of_zeros(const char *script, uint32_t flags, uint64_t size, size_t given, char log[4096]) {
     static struct cdpatch_entry entries[SMALL_ROOM];
     static uint8_t hand[CDPATCH_SECTORS_IN_HAND * SECTOR];
@@ -125,7 +126,7 @@ static uint32_t run_of_zeros(const char *script, uint32_t flags, uint64_t size, 
     return step.status;
 }
 
-/* The log and the status of a run over an image of zeros, of which nothing is kept, and those of cdpatch_check. */
+/* Compares the log and the status of a run over an image of zeros, whose output is discarded, with those of cdpatch_check. */
 static void test_longest(const uint8_t *zeros, size_t size, const char *script, unsigned number) {
     static uint8_t due[4096];
     char log[4096];
@@ -148,8 +149,8 @@ static void test_long_images(void) {
     munmap(zeros, limit + 4 * SECTOR);
 }
 
-/* Fewer bytes than an image is said to have: the log ends with the line of a failed read, and the status is that of a failure. Of an
- * image whose size is not known they are all that there is. */
+/* If an image delivers fewer bytes than its size, the log ends with the line of a failed read, and the status is that of a failure. For an
+ * unknown size the delivered bytes are the whole image. */
 static void test_short(const char *script, uint32_t flags, size_t size, size_t given, unsigned number) {
     const char *line = "cdpatch: reading the image failed\n";
     char log[4096];
@@ -171,7 +172,7 @@ static void test_short_images(void) {
     }
 }
 
-/* A script with an error has no entry. Before a byte is asked for comes its line, which is that of no patch, and then the end. */
+/* A script with an error has no entry. Its line, which belongs to no patch, comes before the first byte is read, and then the end. */
 static void test_told_first(const char *script, size_t size, uint64_t image_size, unsigned number) {
     static struct cdpatch_entry entries[SMALL_ROOM];
     static uint8_t hand[CDPATCH_SECTORS_IN_HAND * SECTOR];

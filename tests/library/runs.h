@@ -1,17 +1,17 @@
-/* What a client does with a step of a run. */
-/* gcc 12 takes the size of one array that is passed for that of another. */
+/* A client of a run, as the tests of runs use it. */
+/* gcc 12 confuses the sizes of two arrays that are passed. */
 #pragma GCC diagnostic ignored "-Wstringop-overflow"
 
 #include "fenced.h"
 #include "some_cases.h"
 
-/* A client that sees the image as a pipe, or knows its size; and both without COPY. */
+/* Clients that see the image as a pipe or know its size, and the same two without COPY. */
 enum client { PIPE, KNOWN, PIPE_SECTORS, KNOWN_SECTORS };
 
-/* What a run has made, and what it did wrong. */
+/* The results of a run, and its error if there was one. */
 struct made { uint8_t *out, *log; size_t out_size, log_size, came, count, steps; uint32_t status; const char *wrong; };
 
-/* What is lent. */
+/* The arguments of the calls. */
 struct memory { struct cdpatch_run run; struct cdpatch_step step; struct cdpatch_rooms rooms; struct cdpatch_entry *entries;
                 uint8_t *hand; size_t held, sent; uint64_t dice; };
 
@@ -32,7 +32,7 @@ static void free_memory(struct memory *memory) {
     free(memory);
 }
 
-/* Moves the bytes of a step, and sees that they are the next. */
+/* Moves the bytes of a step, and checks that they are the next ones. */
 static size_t move(const struct some_case *it, enum client client, struct memory *memory, struct made *made, size_t *last) {
     const struct cdpatch_step *step = &memory->step;
     size_t left = it->size - made->came, size = step->size < left ? step->size : left;

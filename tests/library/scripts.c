@@ -1,5 +1,5 @@
-/* Tests the calls of libcdpatch for lines, patches, and sectors in the hand: `scripts SAMPLES [long]`, where SAMPLES has consistent sectors of
- * the blocks from 0 on; with `long` also with a line that is as long as the longest script. Prints each failure. The status is 0 if there is
+/* Tests the calls of libcdpatch for lines, patches, and sectors in the hand: `scripts SAMPLES [long]`, where SAMPLES has consistent sectors
+ * of the blocks from 0 on; with `long` also with a line as long as the longest script. Prints each failure. The status is 0 if there is
  * none. Arguments are in memory directly before, and directly after, pages that cannot be accessed. Bytes that a call must not write are
  * filled before, and compared after. */
 #define _DEFAULT_SOURCE
@@ -7,7 +7,7 @@
 
 enum { KEPT = 0xA5, SECTOR = CDPATCH_SECTOR_SIZE, SAMPLES = 3, LONGEST = CDPATCH_MOST_SCRIPT_BYTES };
 
-/* What the calls on scripts are lent. */
+/* The arguments of calls on scripts. */
 struct room {
     struct cdpatch_line *line;
     struct cdpatch_patch *patch;
@@ -47,7 +47,7 @@ static bool has_text(const uint8_t *room, size_t count, const char *text) {
     return count == strlen(text) && !memcmp(room, text, count) && all_kept(room + count, CDPATCH_LINE_SIZE - count);
 }
 
-/* What tests/lib/messages.sh calls by this name; tests/library/run puts all of them into the environment. */
+/* The message with this name in tests/lib/messages.sh; tests/library/run exports all of them. */
 static const char *message(const char *name) {
     const char *text = getenv(name);
     if (text)
@@ -92,9 +92,9 @@ static void check_texts(const struct room *it) {
     judge(has_text(it->text, cdpatch_last_line(UINT32_MAX, 0, it->text), "applied 4294967295 refused 0\n"), "last_line", 0);
 }
 
-/* This is compiled with the header of 1.2.0 too, which has neither this macro nor the lines of reports. */
+/* Also compiled with the header of 1.2.0, which has neither this macro nor the lines of reports. */
 #ifdef CDPATCH_AT_LEAST
-/* The lines of `list` and of `audit`: the longest, each part alone, and those that there are not. */
+/* The lines of `list` and `audit`: the longest, each part alone, and records without a line. */
 static void check_report_lines(const struct room *it, bool at_end) {
     static const char *const kinds[] = {"nosync", "mode0", "mode1", "mode2", "other"};
     static const struct { uint32_t block; struct cdpatch_record record; const char *line; } findings[] = {
@@ -133,7 +133,7 @@ static void check_report_lines(const struct room *it, bool at_end) {
 
 /* ---- lines */
 
-/* Reads a line from memory of its own length, and judges that what has no patch writes nothing. */
+/* Reads a line from memory of exactly its length. A line without a patch must not write anything. */
 static uint32_t read_text(const struct room *it, uint32_t version, size_t earlier, const char *text, bool at_end) {
     size_t size = strlen(text);
     uint8_t *line = fenced(size, at_end);
@@ -167,7 +167,7 @@ static void check_contents(const struct room *it, bool at_end) {
         judge(read_text(it, lines[i].version, lines[i].earlier, lines[i].text, at_end) == lines[i].content, lines[i].text, i);
 }
 
-/* Each kind of patch comes with the numbers and the bytes of its line. */
+/* Each kind of patch has the numbers and the bytes of its line. */
 static void check_patches_read(const struct room *it, bool at_end) {
     const struct cdpatch_patch *patch = it->patch;
     judge(read_text(it, 1, 0, "set 999999999 2047 0a0B was fFf0", at_end) == CDPATCH_PATCH, "set", 0);
@@ -185,7 +185,7 @@ static void check_patches_read(const struct room *it, bool at_end) {
           patch->block == 5 && !memcmp(patch->address, "\x12\x34\x56", 3), "the record of an address", 0);
 }
 
-/* Lines of every length: `set` with so many digits, of which at most 8192 are bytes of a patch. */
+/* Lines of every length: a `set` with this many digits, of which at most 8192 are valid. */
 static void check_lengths(const struct room *it, bool at_end) {
     static char text[9000];
     for (unsigned digits = 1; digits < 8500; digits += digits < 300 || digits > 8180 ? 1 : 97) {
@@ -237,7 +237,7 @@ static void check_cutting(const struct room *it, bool at_end) {
 
 /* ---- patches on the sectors in hand */
 
-/* Makes the record on `count` sectors, and judges what it returns and that a refusal leaves the sectors. */
+/* Applies a record to `count` sectors, and checks the result, and that a refusal leaves the sectors unchanged. */
 static void expect(const struct room *it, const uint8_t *samples, struct cdpatch_patch record, size_t count, bool carry,
                    uint32_t result, uint32_t block, uint16_t offset, const char *what) {
     uint8_t *sectors = it->sectors + (count < SAMPLES ? SAMPLES - count : 0) * SECTOR;
@@ -255,7 +255,7 @@ static void expect(const struct room *it, const uint8_t *samples, struct cdpatch
     judge((memcmp(it->sectors, samples, SAMPLES * SECTOR) != 0) == (answer == CDPATCH_OK), "the sectors", answer);
 }
 
-/* A set of 4096 bytes from offset 2047 on, the longest range, is in three sectors. */
+/* A set of 4096 bytes from offset 2047 on, the longest range, covers three sectors. */
 static void check_applied(const struct room *it, uint8_t *samples) {
     struct cdpatch_patch set = {16, 2047, 4096, CDPATCH_SET, 0, 0, {0, 0, 0}}, fill = {16, 7, 1, CDPATCH_FILL, 9, 0x42, {0, 0, 0}};
     uint8_t wanted[SECTOR];
@@ -290,7 +290,7 @@ static void check_applied(const struct room *it, uint8_t *samples) {
     samples[2 * SECTOR + 15] = 1;
 }
 
-/* Records that no line has, and records whose other fields hold any bytes. */
+/* Records that no line can give, and records with any bytes in the other fields. */
 static void check_records(const struct room *it, const uint8_t *samples) {
     struct cdpatch_patch set = {0, 0, 1, CDPATCH_SET, 0, 0, {0, 0, 0}}, other;
     blank(it);
@@ -324,7 +324,7 @@ static void check_records(const struct room *it, const uint8_t *samples) {
     expect(it, samples, other, 3, true, CDPATCH_NO_PATCH, 0, 0, "a record of bytes FF");
 }
 
-/* Fields that the verb of a record does not read hold anything. */
+/* Fields that a record's verb does not use may have any value. */
 static void check_other_fields(const struct room *it, uint8_t *samples) {
     struct cdpatch_patch set = {16, 0, 1, CDPATCH_SET, 0, 0xFF, {0xFF, 0xFF, 0xFF}};
     struct cdpatch_patch fill = {16, 0, 1, CDPATCH_FILL, 0xFF, 0x42, {0xFF, 0xFF, 0xFF}};
@@ -342,7 +342,7 @@ static void check_other_fields(const struct room *it, uint8_t *samples) {
     samples[2 * SECTOR + 20] ^= 1;
 }
 
-/* No bytes may stand at a null pointer. */
+/* A null pointer is valid for no bytes. */
 static void check_nulls(const struct room *it, const uint8_t *samples) {
     struct cdpatch_patch set = {16, 7, 1, CDPATCH_SET, 0, 0, {0, 0, 0}};
     struct cdpatch_record record;
@@ -355,7 +355,7 @@ static void check_nulls(const struct room *it, const uint8_t *samples) {
     judge(!cdpatch_survey(samples, 1, 0, NULL, 0) && !cdpatch_survey(NULL, 0, 0, &record, 1), "no room for a survey", 0);
 }
 
-/* A line that is read again takes 0 for the number of earlier patches, and any number. */
+/* A line can be read again with 0 as the number of earlier patches, and with any line number. */
 static void check_read_again(const struct room *it) {
     static const uint8_t line[] = "set 3 7 4142 was 4344";
     struct cdpatch_patch first;

@@ -1,4 +1,4 @@
-/* Random images, and scripts for them. */
+/* Random images and scripts for them. */
 #include <cdpatch.h>
 #include <stdio.h>
 #include <stdlib.h>
@@ -6,7 +6,7 @@
 
 enum { SECTOR = CDPATCH_SECTOR_SIZE, MOST_SECTORS = 9, MOST_LINES = 9, SMALL_ROOM = 16, LARGE_EACH = 500 };
 
-/* `without_old` is the script whose lines name no old bytes. */
+/* `without_old` is the same script without old bytes. */
 struct some_case { uint8_t *image; size_t size; uint8_t *script; size_t script_size; uint8_t *without_old; size_t without_old_size; uint32_t base;
                    bool carry; size_t room, log_room, sectors_in_hand; };
 
@@ -17,7 +17,7 @@ static void *more(void *memory, size_t size) {
     return memory;
 }
 
-/* SplitMix64. */
+/* The generator SplitMix64. */
 static uint64_t roll(uint64_t *dice) {
     uint64_t z = *dice += 0x9E3779B97F4A7C15u;
     z = (z ^ z >> 30) * 0xBF58476D1CE4E5B9u;
@@ -32,7 +32,7 @@ static void some_bytes(uint64_t *dice, uint8_t *bytes, size_t size) {
         bytes[i] = (uint8_t)roll(dice);
 }
 
-/* Whole sectors, most of them sound, and a tail; one image in so many has 3000 sectors. */
+/* Whole sectors, most of them sound, and a tail. A large image has 3000 sectors. */
 static void some_image(uint64_t *dice, struct some_case *it, bool large) {
     static const size_t tails[] = {0, 0, 1, 2351, 700};
     size_t count = large ? 3000 : below(dice, MOST_SECTORS + 1), tail = tails[below(dice, 5)];
@@ -70,7 +70,7 @@ static int some_line(uint64_t *dice, const struct some_case *it, char *line, siz
     }
 }
 
-/* Old bytes for a line that sets some, three times of four those of the image; nothing for any other line. */
+/* Old bytes for a `set` line, in three of four cases those of the image; none for any other line. */
 static size_t some_old_bytes(uint64_t *dice, const struct some_case *it, const char *line, size_t size, char *was) {
     uint32_t block = 0, offset = 0;
     int start = 0;
@@ -86,7 +86,7 @@ static size_t some_old_bytes(uint64_t *dice, const struct some_case *it, const c
     return made;
 }
 
-/* Adds a line to both scripts, if there is room. */
+/* Adds a line to both scripts if there is room. */
 static void add_line(uint64_t *dice, struct some_case *it, size_t room) {
     char line[1 << 14], was[1 << 14];
     size_t size = (size_t)some_line(dice, it, line, sizeof line), old = some_old_bytes(dice, it, line, size, was);

@@ -1,12 +1,12 @@
-# The stack of each call, and of the program, beside what the man pages say. tests/library/run has what these functions use.
+# Compares the stack that each call and the program need with the man pages. tests/library/run defines the other functions.
 
-# stated_stacks: of each call the bytes of stack that libcdpatch(3) states; `each` is every call that it does not name.
+# stated_stacks: prints the bytes of stack that libcdpatch(3) states for each call; `each` is every call that it does not list.
 stated_stacks() {
     sed -n '/^\.Sh STACK/,/^\.El/p' "$top/man/libcdpatch.3" |
         awk '$1 == ".It" { bytes = $2 } $1 == ".Fn" { sub(/^cdpatch_/, "", $2); print $2, bytes } $1 == "each" { print $1, bytes }'
 }
 
-# keeps_to_stacks LIBRARY: whether each call takes at most the stack that the page states, by the rows of bench.c.
+# keeps_to_stacks LIBRARY: whether each call needs at most the stack that the page states, measured by bench.c.
 keeps_to_stacks() {
     LD_LIBRARY_PATH=${1%/*} ./bench stack > stacks && [ -s stacks ] || return
     awk 'FILENAME == "stated" { stated[$1] = $2; next }
@@ -14,7 +14,7 @@ keeps_to_stacks() {
         END { exit lost }' stated stacks > log
 }
 
-# is_close: whether no row of the page states more than 5/4 of the most stack that one of its calls took in a build.
+# is_close: whether no row of the page states more than 5/4 of the most stack that one of its calls needed in a build.
 is_close() {
     awk 'FILENAME == "stated" { stated[$1] = $2; next }
         { row = $1 in stated ? stated[$1] : stated["each"]; if ($2 > most[row]) most[row] = $2 }
@@ -34,7 +34,7 @@ test_stack_of_calls() {
     [ ${#builds[@]} = 1 ] || judge 'libcdpatch(3) states not much more' holds is_close
 }
 
-# in_stack BYTES STATUS WORD..: whether the program with these words ends with this status on a stack of so many bytes.
+# in_stack BYTES STATUS WORD..: whether the program with these arguments has this status with a stack of this size.
 in_stack() {
     local bytes=$1 wanted=$2 status=0
     shift 2
@@ -56,7 +56,7 @@ test_stack_of_program() {
     printf 'cdpatch 1\nset 0 0 4\n' > invalid
     for command in "1 audit damaged" "0 list damaged" "1 check damaged script" "1 apply damaged script out" "2 check damaged invalid" \
         "1 apply --carry damaged large_script out" "2 check damaged long_script" "2 apply damaged nothing out" "0 --help" "2 --nothing"; do
-        # The words of the command.
+        # The command's arguments.
         # shellcheck disable=SC2086
         judge "cdpatch ${command#* } in that stack" in_stack "$stated" $command
     done

@@ -1,20 +1,20 @@
-/* Compares the steps of 10,400 random runs with those of 1.3.0: a client of that release gets the same steps, lines, statuses, and bytes. The
- * digest below was made with its library. Before you change the cases of some_cases.h, see that this passes. Then copy the digest that it
- * prints. */
+/* Compares the steps of 10,400 random runs with those of 1.3.0: a client of that release gets the same steps, lines, statuses, and bytes.
+ * The digest below is from its library. Before you change the cases of some_cases.h, check that this test passes. Then copy the digest that
+ * it prints. */
 #include "some_cases.h"
 
 static const uint64_t DIGEST_OF_1_3_0 = 0xB6C42191505C165D;
 
 enum { CASES = 1300 };
 
-/* FNV-1a, of 64 bits. */
+/* The 64-bit hash FNV-1a. */
 static uint64_t added(uint64_t digest, const void *bytes, size_t size) {
     for (size_t i = 0; i < size; i++)
         digest = (digest ^ ((const uint8_t *)bytes)[i]) * 0x100000001B3u;
     return digest;
 }
 
-/* The fields of a step that its kind has, and the bytes that go out. */
+/* Adds the fields of a step, and the bytes that are written or logged. */
 static uint64_t added_step(uint64_t digest, const struct cdpatch_step *step, const uint8_t *hand) {
     uint64_t fields[] = {step->kind, step->status, step->number, step->result, step->block, step->offset, step->at, step->place, step->size};
     digest = added(digest, fields, sizeof fields);

@@ -1,4 +1,4 @@
-"""Random images and scripts, most of them near a border, and what kinds of case each one is."""
+"""Random images and scripts, most of them near a border, and the kinds to which a case belongs."""
 
 import random
 import re
@@ -15,11 +15,11 @@ from messages import MESSAGES  # noqa: E402
 
 NAMES = {text: name for name, text in MESSAGES.items()}
 LAST_BASE = 449849
-MOST_BLOCKS = (2047 + MOST_BYTES - 1) // 2048 + 1  # that a patch meets
+MOST_BLOCKS = (2047 + MOST_BYTES - 1) // 2048 + 1  # that a patch meets, at most
 
 
 class Case(NamedTuple):
-    """A call of the program: the image comes by the standard input if `piped`."""
+    """A call of the program. If `piped`, the image comes from standard input."""
     command: str
     image: bytes
     base: int
@@ -31,12 +31,12 @@ class Case(NamedTuple):
 
     @property
     def carry(self):
-        """Whether damage is carried."""
+        """Whether the option --carry is given."""
         return '--carry' in self.options
 
 
 def some_defect(dice):
-    """Damage of one member, or of several, and within P and Q of one word or of more."""
+    """Damage in one member or in several, and within P and Q in one word or in more."""
     members = dice.choice([['zeros'], ['edc'], ['p'], ['q'], dice.sample(['zeros', 'edc', 'p', 'q'], dice.randint(2, 4))])
     sums = list(NO_DEFECT[2])
     for name, first, end in [('p', 0, 86), ('q', 86, len(WORDS))]:
@@ -48,7 +48,7 @@ def some_defect(dice):
 
 
 def some_sector(dice, block, name, state):
-    """A sector of this kind, its address most often the block's; Mode 1 consistent, damaged by member, by byte or wholly."""
+    """A sector of this kind, most often with its block's address. Mode 1 is consistent or damaged in members, in bytes, or completely."""
     header = address_of(block) or dice.randbytes(3)
     header = dice.choice([header] * 8 + [address_of(dice.randint(0, LAST_BASE)), dice.randbytes(3)])
     user = dice.choice([bytes(2048), dice.randbytes(1) * 2048, dice.randbytes(2048), dice.randbytes(2048)])
@@ -69,7 +69,7 @@ def some_sector(dice, block, name, state):
 
 
 def some_image(dice, base, carry):
-    """Up to eight sectors in runs of one kind, many damaged or all good but one, and a tail that may begin as a sector does."""
+    """Up to eight sectors in runs of one kind, many of them damaged or all but one intact, and a tail that may begin like a sector."""
     sectors, count = [], dice.choice([0, 1, 1, 2, *3 * [MOST_BLOCKS], MOST_BLOCKS + 1, 5, 8])
     odd = dice.choice([None, -1, MOST_BLOCKS - 1, MOST_BLOCKS - 1, dice.randint(0, 4)])
     odd = None if carry else odd
@@ -107,7 +107,7 @@ def some_patch(dice, line, base, count, version):
 
 
 def some_patches(dice, base, count, version):
-    """Some patches, a few of which put other bytes, where others are there already, on the range of the one before."""
+    """Some patches. A few of them change the range of the previous one to different bytes."""
     made = []
     for line in range(dice.choice([0, 1, 1, 2, 3, 4, 6, 8])):
         made.append(some_patch(dice, line, base, count, version))
@@ -117,7 +117,7 @@ def some_patches(dice, base, count, version):
 
 
 def with_was(dice, image, base, carry, patches):
-    """Each `was` that is asked for made right, wrong in one byte, or right on the image as it was at first."""
+    """Fills in each `was`: correct, wrong in one byte, or correct for the original image."""
     first, _ = cut(image)
     now, made = first, []
     for patch in ordered(patches):
@@ -138,7 +138,7 @@ def with_was(dice, image, base, carry, patches):
 
 
 def roles(dice, patch):
-    """The words of a patch, each with what it stands for."""
+    """The words of a patch, each with its role."""
     def digits(n):
         return str(n).zfill(dice.choice([1, 1, 1, 4, 9])).encode()
 
@@ -174,12 +174,12 @@ WRONG = {
 
 
 def spoiled(dice, patch):
-    """The words of a patch with one or two of them wrong, or one too many or too few."""
+    """The words of a patch with one or two of them wrong, or with a word too many or missing."""
     made = roles(dice, patch)
     places = [i for i, (role, _) in enumerate(made) for _ in range(1 if role in ('verb', 'number', 'was') else 4)]
     wrong = {dice.choice(places) for _ in range(dice.choice([1, 1, 2]))}
     if patch.verb == 'fill' and dice.random() < .5:
-        wrong = {2, 3}  # the offset and the count, whose faults are asked in turn
+        wrong = {2, 3}  # the offset and the count, whose faults are checked in turn
     for i in wrong:
         made[i] = made[i][0], dice.choice(WRONG[made[i][0]])
     if dice.random() < .1:
@@ -188,7 +188,7 @@ def spoiled(dice, patch):
 
 
 def some_script(dice, image, base, carry):
-    """A script: most often right, else with faulty lines, a wrong head, or about as many patches as there may be."""
+    """A script: usually correct, otherwise with faulty lines, a wrong head, or close to the maximum number of patches."""
     note, count, version = '', len(image) // SIZE, dice.choice([1, 1, 2, 2, 2])
     head = [b'cdpatch', str(version).encode()]
     state = dice.choices(['right', 'faulty', 'head', 'many'], [63, 29, 5, 3])[0]
@@ -220,7 +220,7 @@ def some_script(dice, image, base, carry):
 
 
 def some_case(seed, number, known=OPTIONS_OF_CALLS):
-    """The case of this number, with options that are known; it depends on nothing else."""
+    """The case with this number and these options; it depends on nothing else."""
     dice = random.Random(f'{seed}/{number}')
     command = dice.choices(['list', 'audit', 'check', 'apply'], [9, 14, 25, 52])[0]
     base = dice.choice([0, 0, 10, 4347, LAST_BASE, LAST_BASE - 2, dice.randint(0, LAST_BASE)])
@@ -243,13 +243,13 @@ def some_case(seed, number, known=OPTIONS_OF_CALLS):
     return Case(command, image, base, options, text, piped, words, note)
 
 
-# Bytes that mean something in scripts, and others.
+# Bytes with a meaning in scripts, and others.
 HARM = [b'\n', b'\r', b'\r\n', b' ', b'\t', b'#', b'0', b'9', b'f', b':', b'was', b'\0', b'\xff', b'\xef\xbb\xbf', b'cdpatch 2\n',
         b'999999999']
 
 
 def harmed_bytes(dice, data, pieces):
-    """Bytes of which some are changed, cut out, doubled, or come between."""
+    """Bytes with some changed, cut out, doubled, or inserted."""
     for _ in range(dice.choice([1, 1, 2, 4, 16])):
         at, count = dice.randint(0, len(data)), dice.choice([0, 1, 1, 2, 8])
         data = data[:at] + dice.choice([b'', dice.choice(pieces), data[at:at + count] * 2]) + data[at + count:]
@@ -257,7 +257,7 @@ def harmed_bytes(dice, data, pieces):
 
 
 def harmed(seed, number, known=OPTIONS_OF_CALLS):
-    """The case of this number with changes that nobody makes, in its script, or in its image if it has none."""
+    """The case with this number after arbitrary changes to its script, or to its image if it has no script."""
     case, dice = some_case(seed, number, known), random.Random(f'{seed}/{number}/harm')
     if case.command in ('check', 'apply'):
         return case._replace(script=harmed_bytes(dice, case.script, HARM))
@@ -265,7 +265,7 @@ def harmed(seed, number, known=OPTIONS_OF_CALLS):
 
 
 def image_kinds(case):
-    """What kinds of case an image makes of a case."""
+    """The kinds to which a case belongs because of its image."""
     sectors, tail = cut(case.image)
     yield f'tail of {len(tail)}' if len(tail) in (0, 1, 2351) else 'tail of another length'
     yield 'base 0' if case.base == 0 else f'base {LAST_BASE}' if case.base == LAST_BASE else 'base between'
@@ -284,7 +284,7 @@ def image_kinds(case):
 
 
 def patch_kinds(case, patches):
-    """What kinds of case the patches of a right script make of a case."""
+    """The kinds to which a case belongs because of the patches of its correct script."""
     sectors, _ = cut(case.image)
     outcomes, _ = run(sectors, case.base, patches, case.carry)
     taken, now = ordered(patches), sectors
@@ -318,7 +318,7 @@ def patch_kinds(case, patches):
 
 
 def kinds_of(case):
-    """What kinds of case a case is, each once."""
+    """The kinds to which a case belongs."""
     found = {f'command {case.command}' + ' --carry' * case.carry, case.note, *image_kinds(case)}
     found.add('no words' if not case.words else 'image by standard input' if case.piped else 'image by file')
     if case.command in ('check', 'apply'):
@@ -335,6 +335,6 @@ def kinds_of(case):
 
 
 def wanted(case):
-    """What the model says of a case: status, standard output, and OUT or None."""
+    """The model's answer to a case: status, standard output, and OUT or None."""
     status, printed, out = answer(case.command, case.image, case.base, case.options, case.script)
     return status, printed.encode(), out

@@ -1,5 +1,5 @@
-"""Compares the model with one client on random cases, byte for byte: `run PROGRAM [--cases N] [--seed S]`, or `run --library FILE`, or another
-client of the worked cases."""
+"""Compares the model with one client on random cases, byte for byte: `run PROGRAM [--cases N] [--seed S]`, or `run --library FILE` or
+another client of the worked cases in place of PROGRAM."""
 
 import argparse
 import fcntl
@@ -20,20 +20,20 @@ sys.path.insert(0, str(Path(__file__).resolve().parent.parent / 'cases'))
 from clients import Program, add_clients, clients_of  # noqa: E402
 
 KINDS = Path(__file__).with_name('kinds.txt').read_text().splitlines()
-FLOOR = 200  # of so many cases, on the whole, each kind must have one
+FLOOR = 200  # cases overall for each case that a kind must have
 HARMED = 3
 
 
 def worked_out(seed, number, options):
-    """The kinds of the case of a number; and it, and for one in HARMED it after changes that nobody makes, each with what the model says."""
+    """The kinds of a case, and the case with the model's answer. One case in HARMED is followed by an arbitrarily changed copy of it."""
     case = some_case(seed, number, options)
     cases = [case] + [harmed(seed, number, options)] * (number % HARMED == 0)
     return kinds_of(case), [(each, wanted(each)) for each in cases]
 
 
 def known(seed, number, options):
-    """The same. If MODEL_ANSWERS names a directory, it is left there for the other clients that are asked, and have these options. Who wants
-    it at the same time waits for it."""
+    """The result of `worked_out`. If MODEL_ANSWERS names a directory, it is kept there for other clients with these options. Others that
+    need it at the same time wait for it."""
     if 'MODEL_ANSWERS' not in os.environ:
         return worked_out(seed, number, options)
     place = Path(os.environ['MODEL_ANSWERS'], quote(' '.join([seed, *options]), safe=''))
@@ -48,7 +48,7 @@ def known(seed, number, options):
 
 
 def keep(client, number, case, due, said, directory):
-    """Leaves a case in a directory, with what came and what was due, and how it is repeated."""
+    """Writes a failed case to a directory, with both answers and the commands that repeat it."""
     status, printed, out = due
     for name, data in ('image', case.image), ('script', case.script), ('printed', said[1]), ('wanted', printed), ('wanted-out', out):
         if data is not None:
@@ -59,7 +59,7 @@ def keep(client, number, case, due, said, directory):
 
 
 def is_right(client, kept, number, case, due):
-    """Whether the client answers a case as the model; if not, it stays in a directory of `kept`."""
+    """Whether the client answers a case as the model does. A case that fails is kept in a directory in `kept`."""
     try:
         said = client.said(case)
     except ValueError as fault:
@@ -73,13 +73,13 @@ def is_right(client, kept, number, case, due):
 
 
 def judge(client, seed, kept, number):
-    """The kinds of the case of a number, and for it, and for one in HARMED after changes that nobody makes, whether the answer is right."""
+    """The kinds of a case, and whether the client is right about it and, for one case in HARMED, about its changed copy."""
     kinds, cases = known(seed, number, client.options)
     return kinds, [is_right(client, kept, number, case, due) for case, due in cases]
 
 
 def compared(client, given, kept):
-    """The counts of the kinds of case, and of right and wrong answers."""
+    """The counts of the kinds of cases, and of right and wrong answers."""
     kinds, answers = Counter(), Counter()
     with ProcessPoolExecutor(given.jobs) as pool:
         judged = partial(judge, client, given.seed, kept)
@@ -90,7 +90,7 @@ def compared(client, given, kept):
 
 
 def words_of_the_call():
-    """What the words of the command line ask for."""
+    """The parsed arguments of the command line."""
     words = argparse.ArgumentParser(prog='tests/model/run', description='Compares a client with the model.')
     words.add_argument('asked', nargs='?', metavar='PROGRAM')
     add_clients(words)
@@ -102,7 +102,7 @@ def words_of_the_call():
 
 
 def main():
-    """The cases, the count of each kind of case, and of what passed and failed."""
+    """Compares the cases, and prints the count of each kind, and of passed and failed answers."""
     given = words_of_the_call()
     client = Program(given.asked) if given.asked else clients_of(given)[0]
     print(f'seed {given.seed}', flush=True)

@@ -1,34 +1,34 @@
-"""Images and what the commands do with them: rules of cdpatch."""
+"""Images and the effects of the commands on them, by the rules of cdpatch."""
 
 from itertools import groupby
 
 from script import ScriptFault, ordered, script
 from sector import NO_DEFECT, SIZE, address_of, consistent, damage, defect, kind, sector_with
 
-# The flags of `check` and `apply`, and those of them that the calls of the library have too.
+# The flags of `check` and `apply`, and below those that the calls of the library have too.
 OPTIONS = ['--carry']
 OPTIONS_OF_CALLS = ['--carry']
 
 
 def cut(image):
-    """The sectors of an image, and the tail that is shorter than one."""
+    """The sectors of an image, and the tail that is shorter than a sector."""
     whole = len(image) // SIZE * SIZE
     return [image[i:i + SIZE] for i in range(0, whole, SIZE)], image[whole:]
 
 
 def met(patch):
-    """The blocks that a patch meets: those that its range lies in; of `rebuild` and `address` the one block."""
+    """The blocks that a patch meets: those of its range; for `rebuild` and `address` the one block."""
     reach = patch.offset + len(patch.new) - 1 if patch.verb in ('set', 'fill') else 0
     return range(patch.block, patch.block + reach // 2048 + 1)
 
 
 def user_bytes(sectors, base, blocks):
-    """The user bytes of blocks, bytes 16 to 2063 of each sector, joined."""
+    """The joined user bytes of blocks, bytes 16 to 2063 of each sector."""
     return b''.join(sectors[block - base][16:2064] for block in blocks)
 
 
 def outcome(sectors, base, patch, carry):
-    """What becomes of a patch on an image as the earlier ones leave it: its blocks upwards, then its old bytes."""
+    """The outcome of a patch on an image after the earlier patches: its blocks are checked in ascending order, then its old bytes."""
     for block in met(patch):
         if not 0 <= block - base < len(sectors):
             return f'refused: no block {block}'
@@ -45,7 +45,8 @@ def outcome(sectors, base, patch, carry):
 
 
 def effect(sectors, base, patch, carry):
-    """The sectors after a patch that was applied: new content; the old defect with --carry, else, or rebuilt, none."""
+    """The sectors after an applied patch: new content, with the old defect if --carry is given, else (and always for `rebuild`) with
+    none."""
     after = list(sectors)
     user = user_bytes(sectors, base, met(patch))
     if patch.verb in ('set', 'fill'):
@@ -59,7 +60,7 @@ def effect(sectors, base, patch, carry):
 
 
 def run(sectors, base, patches, carry):
-    """Patches in order, each on what the earlier ones left: their outcomes, and the last image."""
+    """Applies patches in order, each after the earlier ones. Returns their outcomes and the new image."""
     outcomes = []
     for patch in ordered(patches):
         outcomes.append(outcome(sectors, base, patch, carry))
@@ -69,14 +70,14 @@ def run(sectors, base, patches, carry):
 
 
 def patch_text(patches, outcomes):
-    """The log: a line for each patch in the order in which they were taken, then the counts."""
+    """The log: a line for each patch in the order of application, then the counts."""
     text = [f'line {patch.line}: {each}\n' for patch, each in zip(ordered(patches), outcomes)]
     applied = outcomes.count('applied')
     return ''.join(text) + f'applied {applied} refused {len(outcomes) - applied}\n'
 
 
 def list_text(image, base):
-    """A line for each maximal run of neighbours of one kind, then the counts."""
+    """The text of `list`: a line for each maximal run of sectors of one kind, then the counts."""
     sectors, tail = cut(image)
     text = ''
     for name, together in groupby(range(len(sectors)), key=lambda i: kind(sectors[i])):
@@ -86,12 +87,12 @@ def list_text(image, base):
 
 
 def findings(sector, block):
-    """What `audit` finds in a Mode 1 sector: another address than its block's, if that has one, and damage."""
+    """The findings of `audit` in a Mode 1 sector: an address other than its block's, if the block has one, and damage."""
     return (address_of(block) not in (None, sector[12:15])) * ' address' + damage(sector)
 
 
 def audit_text(image, base):
-    """A line for each Mode 1 sector with a finding, then the counts; an address by itself is not damage."""
+    """The text of `audit`: a line for each Mode 1 sector with a finding, then the counts. A wrong address alone is not damage."""
     sectors, tail = cut(image)
     mode1 = [(base + i, sector) for i, sector in enumerate(sectors) if kind(sector) == 'mode1']
     text = ''.join(f'{block}{findings(sector, block)}\n' for block, sector in mode1 if findings(sector, block))
@@ -100,7 +101,7 @@ def audit_text(image, base):
 
 
 def answer(command, image, base, options, text):
-    """A command's status, standard output, and for `apply` the bytes of OUT, which a script's fault leaves unmade."""
+    """A command's status, its standard output, and for `apply` the bytes of OUT, which is not created if the script has a fault."""
     if command == 'list':
         return 0, list_text(image, base), None
     if command == 'audit':

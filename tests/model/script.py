@@ -1,4 +1,4 @@
-"""Scripts: rules of cdpatch. Versions 1 and 2, each fault and which of several decides, and the order of patches."""
+"""Scripts by the rules of cdpatch: versions 1 and 2, each fault and the one that decides, and the order of patches."""
 
 import re
 import sys
@@ -8,12 +8,12 @@ from typing import NamedTuple, Optional
 sys.path.append(str(Path(__file__).resolve().parent.parent / 'lib'))
 from messages import MESSAGES  # noqa: E402
 
-MOST_PATCHES = 65535  # of a script
-MOST_BYTES = 4096  # that a patch changes
+MOST_PATCHES = 65535  # in a script
+MOST_BYTES = 4096  # changed by a patch
 
 
 class Patch(NamedTuple):
-    """A patch: `new` is what a range, or for `address` the header bytes 12 to 14, become; `was` what the range must be."""
+    """A patch: `new` replaces a range, or for `address` the header bytes 12 to 14; `was` must be there before."""
     line: int
     block: int
     verb: str
@@ -23,7 +23,7 @@ class Patch(NamedTuple):
 
 
 class ScriptFault(Exception):
-    """Why a script is refused: the text, and with `script` the line."""
+    """The fault of a script: its text, and with `script` its line."""
 
 
 TOO_MANY = f'more than {MOST_PATCHES} patches'
@@ -32,18 +32,18 @@ NUMBERS_OF_WORDS = {b'set': (4, 6), b'fill': (5,), b'rebuild': (2,), b'address':
 
 
 def lines(text):
-    """Cut at each LF, which takes one CR before it along; what follows the last LF is a line if it is not empty."""
+    """Splits a text at each LF, together with one CR before it. The rest after the last LF is a line unless it is empty."""
     *ended, last = text.split(b'\n')
     return [line[:-1] if line.endswith(b'\r') else line for line in ended] + [last] * (last != b'')
 
 
 def words(line):
-    """The maximal parts without space and tab."""
+    """The maximal parts without spaces and tabs."""
     return [word for word in re.split(rb'[ \t]', line) if word]
 
 
 def demand(holds, fault):
-    """The first demand that does not hold decides which fault a line has."""
+    """Raises the fault of a line unless a condition holds; the first condition that fails decides."""
     if not holds:
         raise ScriptFault(fault)
 
@@ -55,19 +55,20 @@ def number(word):
 
 
 def hexadecimal(word):
-    """An even number of hexadecimal digits, in small or capital letters."""
+    """An even number of hexadecimal digits in either case."""
     demand(re.fullmatch(rb'([0-9a-fA-F][0-9a-fA-F])+', word), MESSAGES['bad_hex'])
     return bytes(int(word[i:i + 2], 16) for i in range(0, len(word), 2))
 
 
 def address(word):
-    """MM:SS:FF, as the three bytes of a header: each pair of digits is its BCD byte."""
+    """MM:SS:FF as the three bytes of a header: each pair of digits is one BCD byte."""
     demand(re.fullmatch(rb'[0-9][0-9]:[0-5][0-9]:([0-6][0-9]|7[0-4])', word), MESSAGES['bad_address'])
     return bytes(int(pair, 16) for pair in word.split(b':'))
 
 
 def patch(line, found, version):
-    """The patch of a line's words: verb, number of words, then word by word from the left, form before value."""
+    """The patch for the words of a line. Verb and number of words are checked first, then the words from left to right, form before
+    value."""
     verb = found[0]
     demand(verb in VERBS[version], MESSAGES['unknown_verb'])
     demand(len(found) in NUMBERS_OF_WORDS[verb] and (len(found) != 6 or found[4] == b'was'), MESSAGES['word_count'])
@@ -92,7 +93,7 @@ def patch(line, found, version):
 
 
 def script(text):
-    """The patches in the order of their lines; the first faulty line decides. Blank lines and comments only count."""
+    """The patches in the order of their lines. The first faulty line decides; blank lines and comments only count as lines."""
     version, patches, cut = None, [], lines(text)
     for line, found in enumerate(map(words, cut), 1):
         try:
@@ -111,5 +112,5 @@ def script(text):
 
 
 def ordered(patches):
-    """By the first block; equal ones by their lines. The offset plays no part."""
+    """Sorts by first block, then by line. The offset does not matter."""
     return sorted(patches, key=lambda each: (each.block, each.line))

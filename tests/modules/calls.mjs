@@ -1,14 +1,14 @@
-// The calls of a module of libcdpatch, over bytes of JavaScript.
+// The calls of a module of libcdpatch, with bytes of JavaScript.
 
 import { readFileSync } from 'node:fs';
 import { setFlagsFromString } from 'node:v8';
 
 const PAGE = 65536;
-/** What stands between the pieces that a call is lent, and at first where it is to write. */
+/** The value of guard bytes between the arguments of a call, and the initial value of bytes that it writes. */
 export const [KEPT, UNWRITTEN] = [0x5A, 0xA5];
 
 /**
- * A module of a file. Node 18 and 20 take a 64-bit memory only with a flag of their engine.
+ * The module in a file. Node 18 and 20 need a flag of their engine for 64-bit memory.
  * @param {string} path
  */
 export function opened(path) {
@@ -17,7 +17,7 @@ export function opened(path) {
     return new WebAssembly.Module(bytes);
 }
 
-/** Bytes that a call reads, and those that it writes as well: the caller gets them back. */
+/** Bytes that a call reads and writes; the caller gets them back. */
 export class Room {
     /** @param {number | Uint8Array} content its size, or the bytes that it begins with */
     constructor(content) {
@@ -25,7 +25,7 @@ export class Room {
     }
 }
 
-/** A number of C's type size_t; any other number is of at most 32 bits. */
+/** A number of the C type size_t. Any other number has at most 32 bits. */
 export class Size {
     /** @param {number | bigint} value */
     constructor(value) {
@@ -41,7 +41,7 @@ export class Calls {
         this.start = Number(this.exports.__heap_base.value);
     }
 
-    /** @param {number} size the memory that is wanted, in bytes */
+    /** @param {number} size the required memory in bytes */
     grow(size) {
         const missing = Math.ceil((size - this.exports.memory.buffer.byteLength) / PAGE);
         if (missing <= 0) return;
@@ -53,7 +53,8 @@ export class Calls {
     }
 
     /**
-     * Calls a function. Bytes and rooms are copied into the module's memory, and rooms back. A list of bytes is followed by its size.
+     * Calls a function. Bytes and rooms are copied into the module's memory, and rooms are copied back. A list of bytes is followed by its
+     * size.
      * @param {string} name
      * @param {...(Uint8Array | Room | Size | number | boolean)} given
      * @returns {number | bigint | undefined}
@@ -77,7 +78,7 @@ export class Calls {
 }
 
 /**
- * Sees that bytes are as they were.
+ * Throws an Error if bytes have changed.
  * @param {Uint8Array} now
  * @param {Uint8Array} before
  */
@@ -85,7 +86,7 @@ export function same(now, before) {
     if (Buffer.compare(now, before) !== 0) throw new Error('bytes changed that were only to be read');
 }
 
-/** Memory of a module that is lent for one call or many: pieces of these sizes, or with these bytes, each sixteen bytes after the last. */
+/** Memory of a module for one call or many: pieces of these sizes, or with these bytes, with at least sixteen guard bytes between them. */
 export class Lent {
     /**
      * @param {Calls} calls
@@ -116,7 +117,7 @@ export class Lent {
         return this.memory.subarray(this.places[i], this.ends[i + 1]);
     }
 
-    /** Sees that no byte between the pieces, before the first or after the last has changed. */
+    /** Throws an Error if a byte between the pieces, before the first, or after the last has changed. */
     seeBetween() {
         this.ends.forEach((end, i) => {
             const next = this.places[i] ?? end + 16;

@@ -14,7 +14,7 @@ const LINE_RECORD = 16;
 const PATCH_RECORD = 16;
 const RECORD_SIZE = 6;
 const MOST_IN_HAND = 3;
-const [KIND, DEFECT] = [0, 2]; // where the kind of a record stands, and where its defect begins
+const [KIND, DEFECT] = [0, 2]; // the places of the kind and of the defect in a record
 const MODE1 = 2;
 const PATCH = 3;
 const SET = 0;
@@ -25,7 +25,7 @@ const NO_VERSION = 14;
 const fields = bytes => new DataView(bytes.buffer, bytes.byteOffset, bytes.length);
 
 /**
- * A line that a call makes.
+ * The line that a call writes.
  * @param {Calls} calls
  * @param {string} name
  * @param {...(number | Uint8Array)} given
@@ -37,7 +37,7 @@ function lineBy(calls, name, ...given) {
     return room.bytes.subarray(0, size);
 }
 
-/** The lines of a script, one after the other. What the calls are lent stands in the module's memory from the first line to the last. */
+/** Iterates over the lines of a script. The arguments of the calls stay in the module's memory from the first line to the last. */
 class Lines {
     /**
      * @param {Calls} calls
@@ -52,7 +52,7 @@ class Lines {
         [this.number, this.size, this.end] = [0, 0, 0];
     }
 
-    /** Goes to the next line, if there is one: a copy, with nothing of the script after it. */
+    /** Moves to the next line, if there is one, and copies it without the rest of the script. */
     next() {
         const [text, found] = this.places;
         this.found.fill(UNWRITTEN);
@@ -67,7 +67,7 @@ class Lines {
     }
 
     /**
-     * What stands in this line.
+     * Reads this line, and returns the kind of its content.
      * @param {number} version
      * @param {number} count of the patches so far
      */
@@ -90,7 +90,7 @@ class Lines {
 }
 
 /**
- * The patches of a script, in the order in which they are applied, or the line of its fault.
+ * The patches of a script in the order of application, or the line of its fault.
  * @param {Calls} calls
  * @param {Uint8Array} text
  * @returns {Patch[] | Uint8Array}
@@ -146,7 +146,7 @@ export function apply(calls, { image, base, carry, script: text }) {
 }
 
 /**
- * A record of each sector of an image.
+ * The record of each sector of an image.
  * @param {Calls} calls
  * @param {Uint8Array} image
  * @param {number} base
@@ -160,7 +160,7 @@ function survey(calls, image, base) {
 }
 
 /**
- * The text of a call that reports on an image, and its status.
+ * The text and the status of a call that reports on an image.
  * @param {Calls} calls
  * @param {string} name
  * @param {Uint8Array} image
@@ -174,7 +174,7 @@ function reported(calls, name, image, base) {
 }
 
 /**
- * An answer by the survey, which is that of the call that reports.
+ * Returns an answer built from the survey, and throws an Error if the call that reports gives a different one.
  * @param {Calls} calls
  * @param {string} name
  * @param {Uint8Array} image

@@ -1,5 +1,5 @@
-// A client that applies a script to an image by the two calls of a run. Their arguments stay in the module's memory from the first call to the
-// last.
+// A client that applies a script to an image by the two calls of a run. Their arguments stay in the module's memory from the first call to
+// the last.
 
 import { Lent, same } from './calls.mjs';
 
@@ -7,7 +7,7 @@ import { Lent, same } from './calls.mjs';
 /** @typedef {{ status: number, text: Uint8Array, out: Uint8Array | null }} Answer */
 /** @typedef {{ image: Uint8Array, base: number, carry: boolean, script: Uint8Array }} Given */
 /**
- * An image that may be read, and where the new one goes.
+ * An image to read, and the destination of the new image.
  * @typedef {object} Client
  * @property {number} size of the image
  * @property {(at: number, size: number) => Uint8Array} read
@@ -30,7 +30,7 @@ const UNKNOWN_SIZE = (1n << 64n) - 1n;
 const FAILED = 2;
 export const [CARRY, NO_COPY] = [1, 2];
 
-/** A run of a module, from its beginning. */
+/** A run in a module, from its beginning. */
 class Run {
     /**
      * @param {Calls} calls
@@ -47,7 +47,7 @@ class Run {
     }
 
     /**
-     * Begins with room for so many entries, and returns how many there are.
+     * Begins with room for `room` entries, and returns the number of entries.
      * @param {number} size
      * @param {number} room
      */
@@ -75,7 +75,7 @@ class Run {
     }
 
     /**
-     * So many bytes of the hand.
+     * These bytes of the hand.
      * @param {number} place
      * @param {number} size
      */
@@ -90,14 +90,14 @@ class Run {
         return this.lent.memory.slice(this.places[5] + TEXT_AT, this.places[5] + TEXT_AT + size);
     }
 
-    /** Sees that script and entries are as they were. */
+    /** Throws an Error if the script or the entries have changed. */
     seeGiven() {
         [this.asked.script, this.entries].forEach((bytes, i) => same(this.lent.piece(i + 1), bytes));
     }
 }
 
 /**
- * A run to its end: its status and its log.
+ * Makes a run, and returns its status and its log.
  * @param {Calls} calls
  * @param {Asked} asked
  * @param {Client} client
@@ -129,9 +129,9 @@ export function runOnce(calls, asked, client) {
 }
 
 /**
- * A client of an image in memory, and the bytes that it has passed on.
+ * A client for an image in memory, and the bytes of the new image.
  * @param {Uint8Array} image
- * @param {boolean} copies whether it may be asked to copy
+ * @param {boolean} copies whether a run may ask it to copy
  */
 function inMemory(image, copies) {
     const out = new Uint8Array(image.length);
@@ -149,11 +149,11 @@ function inMemory(image, copies) {
 }
 
 /**
- * By runs of which the size is known or not, and with COPY and without; all have to make the same as `due`.
+ * Makes runs with known and unknown size, with COPY and without, and throws an Error if one gives a result other than `due`.
  * @param {Calls} calls
  * @param {Given} given
  * @param {Answer} due
- * @param {number} flags more of them
+ * @param {number} flags additional flags
  */
 export function sameByRuns(calls, { image, base, carry, script }, due, flags = 0) {
     for (const known of [false, true]) for (const copies of [false, true]) {

@@ -1,5 +1,5 @@
-// Runs a module on the cases that tests/library/run_cases.c prints: `node runs.mjs MODULE < CASES`. Prints the first differences, and the number
-// of cases.
+// Runs a module on the cases that tests/library/run_cases.c prints: `node runs.mjs MODULE < CASES`. Prints the first differences, and the
+// number of cases.
 
 import { Calls } from './calls.mjs';
 import { Input } from '../lib/input.mjs';
@@ -15,7 +15,7 @@ const calls = new Calls(process.argv[2]);
 const input = new Input();
 
 /**
- * An image that is blank but for some sectors, of which those are kept that are passed on.
+ * An image that is blank except for some sectors. `passed` collects the delivered bytes of those.
  * @param {Head} head
  * @param {Uint8Array} sectors
  * @param {Uint8Array[]} passed
@@ -43,7 +43,7 @@ function blank({ blank: size, blocks }, sectors, passed) {
 }
 
 /**
- * A long image, by runs of which the size is known or not.
+ * Tests a long image by runs with known and unknown size.
  * @param {Head} head
  * @param {Uint8Array[]} parts
  */

@@ -1,4 +1,4 @@
-// Answers questions by a module: `node serve.mjs MODULE`.
+// Answers questions with a module: `node serve.mjs MODULE`.
 
 import { serve } from '../lib/serve.mjs';
 import { Calls, Room, Size } from './calls.mjs';
@@ -7,7 +7,7 @@ import { apply, audit, list } from './client.mjs';
 const calls = new Calls(process.argv[2]);
 
 /**
- * An answer that is only bytes, as the EDC of others.
+ * An answer that consists of bytes only, such as an EDC.
  * @param {import('../lib/serve.mjs').Question} question
  * @param {Uint8Array} given
  */

@@ -1,4 +1,4 @@
-// Prints what a module exports and imports, and whether any engine takes it as it is: `node show.mjs MODULE`.
+// Prints the exports and imports of a module, and whether an engine accepts it without a flag: `node show.mjs MODULE`.
 
 import { readFileSync } from 'node:fs';
 import { opened } from './calls.mjs';

@@ -1,4 +1,5 @@
-"""Chromium, headless: files chosen and dropped, keys, downloads, what it tried to reach, screenshots, names and tab stops."""
+"""Drives headless Chromium: file choice and drop, keys, downloads, attempts to reach a network, screenshots, accessible names, and tab
+stops."""
 
 import atexit
 import base64
@@ -16,24 +17,24 @@ from keys import Keys, pressed
 FLAGS = ['--headless=new', '--no-sandbox', '--hide-scrollbars', '--force-color-profile=srgb', '--disable-gpu', '--no-first-run',
          '--disable-background-networking', '--disable-component-update', '--disable-sync', '--disable-default-apps', '--disable-popup-blocking',
          '--disable-prompt-on-repost', '--disable-hang-monitor', '--password-store=basic', '--allow-pre-commit-input', '--test-type',
-         # Without the bar of tabs, which turns a wheel while a page is opened.
+         # Without the tab bar: it makes the wheel turn while a page is being opened.
          '--kiosk']
 PREFERENCES = {'safebrowsing': {'enabled': False}, 'profile': {'default_content_setting_values': {'automatic_downloads': 1}}}
-# Who saves a battery draws 30 frames a second, half as many.
+# With the battery saver on, Chromium draws 30 frames a second, half as many.
 LOCAL_STATE = {'performance_tuning': {'battery_saver_mode': {'state': 3}}}
 OWN_SCHEMES = ('blob:', 'data:', 'about:', 'chrome:', 'chrome-error:', 'devtools:')
 
-# A phone, half a screen, a screen.
+# Widths in pixels of a phone, half a screen, and a screen.
 WIDTHS = (360, 900, 1280)
 
-# Seconds in which a page is laid out anew.
+# Seconds allowed for a page to be laid out again.
 SETTLES = 2
 
-# A browser that is busy loses a drop now and then: how often it is made, and after how many seconds again.
+# A busy browser loses a drop now and then: the number of attempts, and the seconds between two of them.
 DROPS = 3
 DROP_TAKES = 5
 
-# Looks again and again, less often the longer it takes.
+# Evaluates an expression repeatedly until it is truthy, with growing pauses.
 LOOK = '''const [most, ...given] = arguments, began = performance.now();
 for (;;) {{
     const found = {}, spent = performance.now() - began;
@@ -41,11 +42,11 @@ for (;;) {{
     await new Promise(done => setTimeout(done, Math.min(500, 20 + spent / 20)));
 }}'''
 
-# Seconds that a look takes at most.
+# Maximum seconds of one such evaluation.
 LONGEST_LOOK = 100
 
-# The middle of what is seen of an element, if it is shown, and nothing else lies there. `met` is then whether the next press meets it, and
-# `clicked` whether the next click does: what moves meanwhile gets only the press.
+# The middle of an element's visible part, or null if it is hidden or covered. Afterwards `met` tells whether the next press hits the
+# element, and `clicked` whether the next click does: an element that moves in between gets only the press.
 POINT = '''(it => {
     if (!it?.checkVisibility({ visibilityProperty: true })) return null;
     it.scrollIntoViewIfNeeded();
@@ -60,17 +61,17 @@ POINT = '''(it => {
     return [x, y];
 })'''
 
-# How often something that moves away is pressed, and where the button is then released.
+# Number of attempts to press an element that moves away, and the point where the button is released after a miss.
 PRESSES = 5
 OUTSIDE = (-1, -1)
 
-# What has the focus, by its name.
+# The name of the element that has the focus.
 STOP = '''(it => it !== document.body && (it.id || it.getAttribute('aria-label') || it.innerText || it.name || it.tagName))(
     document.activeElement)'''
 
 REACHING = ('Network.requestWillBeSent', 'Network.webSocketCreated', 'Network.webTransportCreated', 'Page.frameRequestedNavigation')
 
-# What a page could send by without a request that the network log shows.
+# Records ways to send data that the network log does not show.
 TRAP = '''
 globalThis.caught = [];
 for (const name of ['RTCPeerConnection', 'webkitRTCPeerConnection', 'WebTransport', 'open']) {
@@ -87,8 +88,8 @@ addEventListener('error', event => caught.push(`error: ${event.message}`));
 addEventListener('unhandledrejection', event => caught.push(`rejection: ${event.reason}`));
 '''
 
-# What does not fit its window, when the page has drawn itself anew: how far it goes on below its footer and at its right, controls that
-# are cut at a side, and controls that lie over one another.
+# Layout errors after the next redraw: content below the footer or beyond the right edge, controls that are cut off, and controls that
+# overlap.
 MISFITS = '''const [width] = arguments, within = '.scroll, .hex, .editor, .hide, .fields, .log';
     await new Promise(done => requestAnimationFrame(() => requestAnimationFrame(done)));
     const root = document.documentElement, words = it => (it.innerText || it.id).trim();
@@ -112,7 +113,7 @@ MISFITS = '''const [width] = arguments, within = '.scroll, .hex, .editor, .hide,
 
 
 def settled(measure: Callable[[], Any]) -> Any:
-    """What is wrong with how the page is laid out, as soon as nothing is, or if that lasts: a busy machine takes some frames for it."""
+    """Repeats a measurement of layout errors until it is empty or `SETTLES` seconds have passed: a busy machine needs some frames."""
     ends = time.monotonic() + SETTLES
     while (wrong := measure()) and time.monotonic() < ends:
         time.sleep(0.1)
@@ -120,7 +121,7 @@ def settled(measure: Callable[[], Any]) -> Any:
 
 
 class Chromium:
-    """One window. `downloads` is where it saves files."""
+    """One browser window. `downloads` is the directory where it saves files."""
 
     def __init__(self, width: int = 1280, height: int = 900) -> None:
         self.downloads, profile = folder('downloads'), folder('chromium')
@@ -144,7 +145,7 @@ class Chromium:
         self.devtools.end()
 
     def heard(self, event: str, given: dict[str, Any]) -> None:
-        """Notes what the page reaches for and what is wrong; a question whether to leave it has the answer yes."""
+        """Records an event if the page reaches for something or reports an error. Confirms each question whether to leave the page."""
         if event in REACHING:
             self.noted.append(('request', given.get('url', given.get('request', {}).get('url', ''))))
         elif event == 'Log.entryAdded' and given['entry']['level'] == 'error':
@@ -160,7 +161,7 @@ class Chromium:
         return self.devtools.ask(command, **given)
 
     def before_pages(self, source: str) -> None:
-        """Runs a script in each page that is opened from now on, before its own, and no script that was given so before."""
+        """Runs a script before a page's own scripts, in each page opened from now on. It replaces the previous such script."""
         if self.stub:
             self.cdp('Page.removeScriptToEvaluateOnNewDocument', identifier=self.stub)
         self.stub = str(self.cdp('Page.addScriptToEvaluateOnNewDocument', source=source)['identifier'])
@@ -172,7 +173,7 @@ class Chromium:
         self.awaited('document.readyState === "complete"')
 
     def evaluated(self, script: str, *given: Any, **how: Any) -> dict[str, Any]:
-        """What the body of an async function gives."""
+        """Evaluates the body of an async function and returns the result as Chromium describes it."""
         text = f'(async function () {{ {script}\n}}).apply(null, {json.dumps(given)})'
         answer = self.cdp('Runtime.evaluate', expression=text, awaitPromise=True, userGesture=True, **how)
         if 'exceptionDetails' in answer:
@@ -181,26 +182,26 @@ class Chromium:
         return found
 
     def run(self, script: str, *given: Any) -> Any:
-        """What the body of an async function returns."""
+        """Evaluates the body of an async function and returns its value."""
         found = self.evaluated(script, *given, returnByValue=True)
         return float(found['unserializableValue']) if 'unserializableValue' in found else found.get('value')
 
     def awaited(self, expression: str, *given: Any, seconds: float = PATIENCE) -> Any:
-        """What an expression of what is given is, as soon as it is something; the page itself looks for it. None if it takes too long."""
+        """Waits until an expression is truthy and returns its value, or None after `seconds`. The page itself repeats the evaluation."""
         ends = time.monotonic() + seconds
         while (left := ends - time.monotonic()) > 0:
             try:
                 return self.run(LOOK.format(expression), 1000 * min(left, LONGEST_LOOK), *given)
-            except Refused:  # another page was opened while it looked
+            except Refused:  # another page was opened during the evaluation
                 time.sleep(0.05)
         return None
 
     def text(self, css: str) -> str:
-        """The text of the first element, as it is shown; '' if there is none."""
+        """The visible text of the first matching element, or '' if there is none."""
         return str(self.run('const it = document.querySelector(arguments[0]); return it ? it.innerText : ""', css))
 
     def wait(self, css: str, text: str = '', seconds: float = PATIENCE) -> None:
-        """Waits until an element is shown that has this text."""
+        """Waits until a matching element with this text is visible."""
         shown = '[...document.querySelectorAll(given[0])].some(it => it.checkVisibility() && it.innerText.includes(given[1]))'
         if not self.awaited(shown, css, text, seconds=seconds):
             raise AssertionError(f'after {seconds:g} s: {css} with "{text}"; it has "{self.text(css)}"')
@@ -208,18 +209,19 @@ class Chromium:
     # ---- the mouse, and keys
 
     def point(self, found: str, *given: Any) -> list[float]:
-        """Where the mouse meets the element that an expression of what is given finds, as soon as it can be pressed there."""
+        """Waits until the element that an expression finds can be pressed, and returns the point to press."""
         place: list[float] | None = self.awaited(f'{POINT}({found})', *given)
         if place is None:
             raise AssertionError(f'{given} cannot be pressed')
         return place
 
     def mouse(self, kind: str, at: Sequence[float], button: str = 'left') -> None:
-        """The mouse is Moved to a place, or a button Pressed or Released there."""
+        """Dispatches a mouse event at a point: `kind` is Moved, Pressed, or Released."""
         self.cdp('Input.dispatchMouseEvent', type=f'mouse{kind}', x=at[0], y=at[1], button=button, clickCount=int(kind != 'Moved'))
 
     def hold(self, found: str, *given: Any) -> list[float]:
-        """Presses the button on what an expression of what is given finds, again if it has moved away meanwhile, and returns where."""
+        """Presses the mouse button on the element that an expression finds, and returns the point. Tries again if the element has moved
+        away."""
         for _ in range(PRESSES):
             place = self.point(found, *given)
             self.mouse('Moved', place, 'none')
@@ -230,7 +232,7 @@ class Chromium:
         raise AssertionError(f'{given} moves away')
 
     def click_found(self, found: str, *given: Any) -> None:
-        """Presses what an expression of what is given finds, again if it has moved away before the button was released."""
+        """Clicks the element that an expression finds. Tries again if it has moved away before the button was released."""
         for _ in range(PRESSES):
             self.mouse('Released', self.hold(found, *given))
             if not self.was_missed():
@@ -238,7 +240,7 @@ class Chromium:
         raise AssertionError(f'{given} moves away')
 
     def was_missed(self) -> bool:
-        """Whether the last click has met something else. A page that another one follows knows of none."""
+        """Whether the last click hit a different element. False after another page was opened."""
         try:
             return self.run('return globalThis.clicked') is False
         except Refused:
@@ -248,26 +250,26 @@ class Chromium:
         self.click_found('document.querySelector(given[0])', css)
 
     def focus(self, css: str) -> None:
-        """Puts the focus on the first such element, as soon as it is shown; all of its text is selected."""
+        """Focuses the first matching element as soon as it is visible, and selects all of its text."""
         focused = '(it => it?.checkVisibility() ? (it.focus(), it.select?.(), true) : false)(document.querySelector(given[0]))'
         if not self.awaited(focused, css):
             raise AssertionError(f'there is no {css}')
 
     def send(self, css: str, *keys: str) -> None:
-        """Presses keys with the focus on an element."""
+        """Focuses an element and presses keys."""
         self.focus(css)
         self.press(*keys)
 
     def type(self, css: str, text: str) -> None:
-        """Writes a text into a field, in place of what it has."""
+        """Replaces the text of a field."""
         self.send(css, Keys.DELETE, text)
 
     def choose(self, css: str, value: str) -> None:
-        """Chooses an option of a list."""
+        """Selects an option of a list."""
         self.run('const it = document.querySelector(arguments[0]); it.value = arguments[1]; it.dispatchEvent(new Event("change"))', css, value)
 
     def press(self, *keys: str, held: str = '') -> None:
-        """Presses keys, wherever the focus is, while another one is held."""
+        """Presses keys in the focused element, with the modifier `held`."""
         events = [event for key in ''.join(keys) for event in pressed(key, held)]
         if held:
             down, up = pressed(held)
@@ -278,7 +280,7 @@ class Chromium:
     # ---- files
 
     def give(self, css: str, files: Sequence[Path]) -> None:
-        """Chooses files for an input, as soon as the page has started."""
+        """Chooses files for an input once the page has started."""
         found = 'document.querySelector("#not-started") === null && document.querySelector(given[0])'
         field = self.evaluated(LOOK.format(found), 1000 * PATIENCE, css)
         if 'objectId' not in field:
@@ -286,7 +288,7 @@ class Chromium:
         self.cdp('DOM.setFileInputFiles', files=list(map(str, files)), objectId=field['objectId'])
 
     def drop(self, css: str, files: Sequence[Path]) -> None:
-        """Drops files on what is seen of an element as soon as it is shown, as from a file manager."""
+        """Drops files on an element as soon as it is visible, as a file manager does."""
         self.wait(css)
         script = '''const { left, right, top, bottom } = document.querySelector(arguments[0]).getBoundingClientRect();
             const middle = (from, to, end) => (Math.max(from, 0) + Math.min(to, end)) / 2;
@@ -297,18 +299,18 @@ class Chromium:
             self.run('globalThis.dropped = false; addEventListener("drop", () => { dropped = true; }, { capture: true, once: true })')
             for kind in ('dragEnter', 'dragOver', 'drop'):
                 self.cdp('Input.dispatchDragEvent', type=kind, x=x, y=y, data=data)
-            # A page that another one has followed has not heard of any drop.
+            # A page that was opened after the drop has not noticed any drop.
             if self.awaited('globalThis.dropped !== false', seconds=DROP_TAKES):
                 return
         raise AssertionError(f'the browser has lost {DROPS} drops')
 
     def answer(self, text: str = '') -> None:
-        """Presses a button of the sheet that asks: the one that begins with this text, or the main one."""
+        """Presses the button of the open dialog that begins with this text, or the main button."""
         self.click_found('''[...document.querySelectorAll("#sheet[open] button")].find(it =>
             given[0] ? it.innerText.startsWith(given[0]) : it.classList.contains("main"))''', text)
 
     def downloaded(self, name: str, seconds: float = PATIENCE) -> Path:
-        """A file that was downloaded under this name, as soon as it is whole: an empty one keeps its place until then."""
+        """Waits until a download is complete and returns its path. Until then a file of this name exists and is empty."""
         path = self.downloads / name
         try:
             waited(lambda: path.exists() and path.stat().st_size > 0, f'no download {name}', seconds)
@@ -318,30 +320,30 @@ class Chromium:
         return path
 
     def asks_before_leaving(self) -> bool:
-        """Whether the page has the browser ask before it is left."""
+        """Whether the page makes the browser ask for confirmation before it is left."""
         return bool(self.run('const asked = new Event("beforeunload", { cancelable: true }); dispatchEvent(asked); return asked.defaultPrevented'))
 
     def attempts(self) -> list[str]:
-        """What the page tried to reach, ran against, or threw, since it was opened."""
+        """What the page tried to reach, violated, or threw since it was opened."""
         found = list(self.run('return globalThis.caught'))
         noted, self.noted = self.noted, []
         return found + [f'{kind}: {text}' for kind, text in noted if kind != 'request' or text and text != self.url and not text.startswith(OWN_SCHEMES)]
 
     def size(self, width: int, height: int = 900, scheme: str = 'light') -> None:
-        """Sets the size of the window and the colour scheme. A narrow one is a phone."""
+        """Sets the window's size and colour scheme. A narrow window emulates a phone."""
         features = {'prefers-color-scheme': scheme, 'prefers-reduced-motion': 'reduce'}
         self.emulate('setEmulatedMedia', features=[{'name': name, 'value': value} for name, value in features.items()])
         self.emulate('setDeviceMetricsOverride', width=width, height=height, deviceScaleFactor=1, mobile=width < 500)
         self.emulate('setTouchEmulationEnabled', enabled=width < 500, maxTouchPoints=1)
 
     def emulate(self, command: str, **given: Any) -> None:
-        """Does so unless it is so already."""
+        """Sends a command of emulation unless it is already in effect."""
         if self.emulated.get(command) != given:
             self.cdp(f'Emulation.{command}', **given)
             self.emulated[command] = given
 
     def picture(self, path: Path, width: int = 1280, scheme: str = 'light', most: int = 2600, window: int = 900, scale: float = 1) -> None:
-        """A screenshot of the whole page."""
+        """Saves a screenshot of the whole page."""
         self.size(width, window, scheme)
         height = min(max(int(self.run('return document.documentElement.scrollHeight')), 500), most)
         clip = {'x': 0, 'y': 0, 'width': width, 'height': height, 'scale': scale}
@@ -349,7 +351,7 @@ class Chromium:
         path.write_bytes(base64.b64decode(shot['data']))
 
     def pictures(self, directory: Path, name: str) -> list[Path]:
-        """Screenshots at all widths in both schemes."""
+        """Saves screenshots at all widths in both colour schemes."""
         paths = [directory / f'{name}-{width}-{scheme}.png' for width in WIDTHS for scheme in ('light', 'dark')]
         for path in paths:
             _, width, scheme = path.stem.rsplit('-', 2)
@@ -358,7 +360,7 @@ class Chromium:
         return paths
 
     def wider(self, *widths: int) -> int:
-        """By how many pixels at most the page is wider than a window of one of these widths, when it has drawn itself anew."""
+        """The maximum number of pixels by which the page exceeds a window of one of these widths, after a redraw."""
         drawn = """await new Promise(done => requestAnimationFrame(() => requestAnimationFrame(done)));
             return document.documentElement.scrollWidth"""
         over = []
@@ -369,7 +371,7 @@ class Chromium:
         return int(max(over))
 
     def misfits(self, *widths: int) -> dict[int, list[str]]:
-        """What does not fit a window of each of these widths, for those that have something."""
+        """The layout errors at each of these widths that has any."""
         found: dict[int, list[str]] = {}
         for width in widths:
             self.size(width)
@@ -379,17 +381,18 @@ class Chromium:
         return found
 
     def tree(self) -> list[dict[str, Any]]:
-        """The nodes of the accessibility tree."""
+        """The nodes of the accessibility tree, without ignored ones."""
         return [node for node in self.cdp('Accessibility.getFullAXTree')['nodes'] if not node['ignored']]
 
     def nameless(self, tree: list[dict[str, Any]] | None = None) -> list[str]:
-        """The controls that have no name in the accessibility tree."""
+        """The roles of controls that have no name in the accessibility tree."""
         return [node['role']['value'] for node in tree or self.tree() if not node.get('name', {}).get('value')
                 and any(it['name'] == 'focusable' and it['value']['value'] for it in node.get('properties', []))
                 and node['role']['value'] not in ('RootWebArea', 'main', 'generic', 'none')]
 
     def tab_stops(self, most: int = 200) -> list[str]:
-        """What has the focus in turn, from the page's start on, as Tab is pressed. After the last stop nothing has it for a moment."""
+        """The names of the elements that get the focus in turn as Tab is pressed at the page's start. After the last one none has it for a
+        moment."""
         self.run('const first = document.createElement("button"); document.body.prepend(first); first.focus(); first.remove()')
         stops: list[str] = []
         while len(stops) < most:
@@ -403,21 +406,21 @@ class Chromium:
 
 @functools.cache
 def window() -> Chromium:
-    """The window of this run."""
+    """The window of this run, created on first use."""
     made = Chromium()
     atexit.register(made.quit)
     return made
 
 
 def renew() -> None:
-    """Closes the window of this run: who wants one gets another."""
+    """Closes the window of this run. The next test that needs one gets a new window."""
     if window.cache_info().currsize:
         window().quit()
         window.cache_clear()
 
 
 def shared(before_pages: str = '') -> Chromium:
-    """The one window of this run, with nothing downloaded and nothing logged, which runs this script in each page before its own."""
+    """The window of this run, without downloads or log entries. It runs this script in each page before the page's own."""
     browser = window()
     browser.before_pages(before_pages)
     browser.noted.clear()

@@ -1,4 +1,4 @@
-"""What the tests of the page share: the page to test, a scratch directory, discs, the program, a loopback server, and waiting."""
+"""Shared by the tests of the page: the page under test, a scratch directory, discs, the program, a loopback server, and waiting."""
 
 import ast
 import functools
@@ -33,7 +33,7 @@ Test = TypeVar('Test', bound=Callable[..., None])
 
 
 def waited(ask: Callable[[], Any], what: str, seconds: float = PATIENCE) -> Any:
-    """What `ask` returns as soon as it is true. It is asked less often, the longer it takes."""
+    """Calls `ask` until it returns something true, and returns that. The pauses grow with the time."""
     begun = time.monotonic()
     while not (value := ask()):
         waited_for = time.monotonic() - begun
@@ -44,23 +44,23 @@ def waited(ask: Callable[[], Any], what: str, seconds: float = PATIENCE) -> Any:
 
 
 def await_start(run: Callable[[str], Any]) -> None:
-    """Waits until the page in a browser, which runs a script by `run`, has put its parts together: before that it hears of no file."""
+    """Waits until the page has started: before that it ignores files. `run` runs a script in the browser."""
     waited(lambda: run('return document.querySelector("#not-started") === null'), 'the page has not started')
 
 
 def wants(command: str, package: str) -> Callable[[Test], Test]:
-    """Skips a test where there is no such command."""
+    """Skips a test if a command is not installed."""
     return unittest.skipUnless(shutil.which(command), f"wants {command} (Debian's package {package})")
 
 
 def folder(name: str) -> Path:
-    """A new directory in the scratch directory."""
+    """Creates a new directory in the scratch directory."""
     return Path(tempfile.mkdtemp(prefix=f'{name}-', dir=SCRATCH))
 
 
 @functools.cache
 def text(key: str) -> str:
-    """A text of the page, by its key. A test that only waits for it does not repeat it."""
+    """Returns a text of the page by its key, so that a test that only waits for a text does not repeat it."""
     english = (TOP / 'web/page/texts/english.js').read_text('utf-8')
     found = re.search(rf"(?m)^export const {key} =\s+((?:'.*' \+\n *)*'.*');$", english)
     assert found, f'the page has no text {key}'
@@ -68,7 +68,7 @@ def text(key: str) -> str:
 
 
 def encodings() -> list[dict[str, Any]]:
-    """What is known of each encoding from elsewhere; tests/core/common.mjs says what that is."""
+    """The table of encodings, tests/encodings.json, which tests/core/common.mjs explains."""
     known: list[dict[str, Any]] = json.loads((TOP / 'tests' / 'encodings.json').read_text('utf-8'))
     return known
 
@@ -79,26 +79,26 @@ def sha1(data: bytes) -> str:
 
 @functools.cache
 def cdscript() -> Path:
-    """cdscript, packed of the sources."""
+    """Packs cdscript from the sources and returns its path."""
     made, library = folder('cdscript') / 'cdscript', TOP / 'library'
     subprocess.run([sys.executable, '-B', TOP / 'tools' / 'pack.py', 'command', library / 'cdpatch.wasm', made, '--notices', '/dev/null'], check=True)
     return made
 
 
 def cdscript_prints(*given: str | Path) -> str:
-    """What cdscript prints if it ends well. What it says beside that is no test's."""
+    """The standard output of a successful run of cdscript. Its messages are discarded."""
     return subprocess.run([cdscript(), *given], check=True, stdout=subprocess.PIPE, stderr=subprocess.DEVNULL).stdout.decode()
 
 
 def run_program(*given: str | Path) -> tuple[int, str]:
-    """The program's status and what it prints on standard output."""
+    """The program's exit status and its standard output."""
     ran = subprocess.run([PROGRAM, *map(str, given)], stdout=subprocess.PIPE, stderr=subprocess.PIPE, check=False)
     return ran.returncode, ran.stdout.decode()
 
 
 @functools.cache
 def sector(block: int, user: bytes) -> bytes:
-    """A sound Mode 1 sector, by the model."""
+    """A sector of Mode 1 with correct codes, computed by the model."""
     return bytes(sector_with(SYNC + address_of(block) + b'\1' + user.ljust(USER_SIZE, b'\0'), NO_DEFECT))
 
 
@@ -108,7 +108,7 @@ def image_of(users: list[bytes], base: int = 0) -> bytes:
 
 
 def damaged(image: bytes, block: int, offset: int = 100) -> bytes:
-    """The image with another user byte in a block, whose codes stay."""
+    """Changes one user byte in a block of an image and leaves its codes as they are."""
     changed = bytearray(image)
     changed[block * SECTOR_SIZE + 16 + offset] ^= 0x55
     return bytes(changed)
@@ -126,7 +126,7 @@ def iso_of(files: dict[str, bytes]) -> list[bytes]:
 
 
 class Server:
-    """A loopback server of the files of a directory. `requests` has what it was asked for."""
+    """A loopback server for the files of a directory. `requests` lists the paths that it was asked for."""
 
     def __init__(self, directory: Path) -> None:
         requests: list[str] = []

@@ -9,7 +9,7 @@ from single import named
 
 
 def name_of(it: Any) -> str:
-    """The name of a test, or of the test that a report is about."""
+    """The readable name of a test, or of the test that a report is about."""
     kind, _, method = it.nodeid.rpartition('::')
     return named(kind.rpartition('::')[2], method)
 
@@ -24,13 +24,13 @@ def pytest_collection_modifyitems(config: Any, items: list[Any]) -> None:
 
 
 def pytest_runtest_setup(item: Any) -> None:
-    # The window may be why it failed.
+    # The first failure may be due to the window.
     if item.execution_count > 1:
         chromium.renew()
 
 
 def lines_of(stats: dict[str, list[Any]]) -> Iterator[str]:
-    """The line of each test, and for each rerun why the test had failed."""
+    """The line of each test, and for each rerun the reason of the failure."""
     names = {verdict: [name_of(it) for it in stats.get(verdict, [])] for verdict in ('passed', 'failed', 'error', 'rerun')}
     failed = {*names['failed'], *names['error']}
     yield from (f'not ok {name}' for name in sorted(failed))

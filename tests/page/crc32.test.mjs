@@ -1,4 +1,4 @@
-// The CRC-32 of bytes in parts, against the known one and that of gzip.
+// The CRC-32 of bytes in parts, against known values and those of gzip.
 
 import assert from 'node:assert/strict';
 import test from 'node:test';

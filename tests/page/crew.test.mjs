@@ -1,4 +1,4 @@
-// The workers of the page: what a job is told when one has stopped, and that the next job has new ones.
+// The page's workers: the error of a job whose worker has stopped, and new workers for the next job.
 
 import assert from 'node:assert/strict';
 import { test } from 'node:test';
@@ -7,7 +7,7 @@ import { page } from './page.mjs';
 globalThis.navigator ??= { hardwareConcurrency: 2 };
 const { crewOf } = await page('app/crew.js');
 
-/** A worker that returns what it is given, or stops. */
+/** A worker that echoes each message, or stops. */
 class TestWorker {
     constructor(given) {
         Object.assign(this, { given, ended: false });

@@ -1,4 +1,5 @@
-"""What a browser reads in bytes and pairs of bytes, against the tables of the page: those are the Encoding Standard's, whatever engine made them."""
+"""Compares a browser's decoding of bytes and pairs of bytes with the page's tables, which follow the Encoding Standard whatever engine
+built them."""
 
 import json
 import subprocess
@@ -19,7 +20,7 @@ console.log(JSON.stringify(all));"""
 
 
 def tables() -> dict[str, dict[int, str]]:
-    """By the standard's labels what is beside ASCII in the encodings of other languages, as node makes them."""
+    """The characters beyond ASCII in the encodings of other languages, by the standard's labels, as node decodes them."""
     known = {it['name']: it['label'] for it in common.encodings() if 'label' in it}
     program = TABLES.replace('NAMES', json.dumps(list(known)))
     given = subprocess.run(['node', '--input-type=module', '-e', program], stdout=subprocess.PIPE, check=True)
@@ -27,7 +28,7 @@ def tables() -> dict[str, dict[int, str]]:
 
 
 def differing(run: Callable[..., Any]) -> list[str]:
-    """The codes that a browser reads otherwise, as 'label code'. `run` runs a script in the browser."""
+    """The codes that a browser decodes differently, each as 'label code'. `run` runs a script in the browser."""
     found = []
     for label, pairs in tables().items():
         read = run(READ, label, list(pairs))

@@ -1,4 +1,4 @@
-"""Draws the pictures of docs/gallery.md and of the README, from the page at PAGE, by Chromium. `make design` runs this."""
+"""Draws the pictures of docs/gallery.md and the README from the page at PAGE, with Chromium. Run by `make design`."""
 
 import sys
 
@@ -6,7 +6,7 @@ import common
 from states import States, all_states
 
 PAGES = common.TOP / 'docs'
-# Each picture with its state, the width of the window, the scheme, the scale, and how many pixels of the page from its top.
+# The state, window width, colour scheme, scale, and height in pixels of each picture.
 PICTURES = {'design/start.png': ('start', 1280, 'light', 0.5, 800), 'design/script-fits.png': ('script_fits', 1280, 'light', 0.5, 800),
             'design/text-hits.png': ('text_hits', 1280, 'light', 0.5, 800), 'design/second-asked.png': ('second_asked', 1280, 'dark', 0.5, 800),
             'design/disc-files.png': ('disc_files', 360, 'light', 0.5, 1600), 'design/player-right.png': ('player_right', 360, 'dark', 0.75, 900),

@@ -1,4 +1,4 @@
-"""A process of Chromium, which is told what to do over two pipes: messages in JSON, each with a zero byte after it."""
+"""Controls a Chromium process over two pipes: JSON messages, each followed by a zero byte."""
 
 import fcntl
 import json
@@ -9,16 +9,16 @@ from collections.abc import Callable, Sequence
 from pathlib import Path
 from typing import Any
 
-# Seconds in which something has to be heard.
+# Seconds within which a message has to arrive.
 SILENCE = 150
 
 
 class Refused(Exception):
-    """What Chromium says of a command that it does not do, or of a script that throws."""
+    """Chromium refused a command, or a script threw an exception."""
 
 
 class DevTools:
-    """`heard` is given each event, by its name and what is told of it."""
+    """Commands to Chromium, and its events: `heard` is called with each event's name and parameters."""
 
     def __init__(self, words: Sequence[str | Path], heard: Callable[[str, dict[str, Any]], None]) -> None:
         self.heard = heard
@@ -30,7 +30,7 @@ class DevTools:
         self.said, said = os.pipe()
 
         def wired() -> None:
-            """It reads from 3 and writes to 4."""
+            """Connects the pipes to descriptors 3 (read) and 4 (written)."""
             for kept, wanted in [(fcntl.fcntl(end, fcntl.F_DUPFD, 10), number) for number, end in ((3, orders), (4, said))]:
                 os.dup2(kept, wanted)
 
@@ -40,7 +40,7 @@ class DevTools:
             os.close(end)
 
     def tell(self, command: str, **given: Any) -> int:
-        """Gives a command, and returns its number."""
+        """Sends a command and returns its number."""
         self.number += 1
         message = {'id': self.number, 'method': command, 'params': given}
         if self.session:
@@ -51,7 +51,7 @@ class DevTools:
         return self.number
 
     def answer(self, number: int) -> dict[str, Any]:
-        """What the command with this number gives."""
+        """Waits for the result of the command with this number."""
         while number not in self.answers:
             self.hear()
         found = self.answers.pop(number)
@@ -64,7 +64,7 @@ class DevTools:
         return self.answer(self.tell(command, **given))
 
     def hear(self) -> None:
-        """Takes what has come, and waits for something."""
+        """Waits for data and handles each complete message."""
         if not select.select([self.said], [], [], SILENCE)[0]:
             raise TimeoutError(f'Chromium has said nothing for {SILENCE} s')
         data = os.read(self.said, 1 << 20)

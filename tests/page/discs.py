@@ -1,4 +1,4 @@
-"""Discs for the tests of the page: a game with Japanese texts, and what is done with it."""
+"""Discs for the tests of the page: a game with Japanese texts, and variants of it."""
 
 import functools
 from pathlib import Path
@@ -12,25 +12,25 @@ TEXTS = ['つづきから', 'はじめから', '設定', 'ゲームをスター�
 
 
 def messages() -> bytes:
-    """A file of texts, each with a zero byte at its end, in which スタート stands over the border of two blocks too."""
+    """A file of texts, each followed by a zero byte. One スタート crosses the border of two blocks."""
     data = START + b'\0' + b'\0'.join(text.encode('cp932') for text in TEXTS) + b'\0'
     return data.ljust(2048 - 4, b'.') + START + b'\0' + b'.' * 900 + START + b'\0'
 
 
 @functools.cache
 def game() -> bytes:
-    """A sound image of some 180 sectors with files."""
+    """An undamaged image of some 180 sectors with files."""
     return image_of(iso_of({'DATA/MSG00.DAT': messages(), 'DATA/STAGE.DAT': bytes(range(256)) * 32, 'README.TXT': b'Start of the game\n' * 20}))
 
 
 @functools.cache
 def first_block() -> int:
-    """The block of DATA/MSG00.DAT."""
+    """The block at which DATA/MSG00.DAT begins."""
     return game().find(messages()[:200]) // 2352
 
 
 def script() -> str:
-    """A script in which all patches fit the game."""
+    """A script of which all patches fit the game."""
     block, message = first_block(), messages()
     lines = ['cdpatch 1', '# Starlit Detective: English', '# title screen', f'set {block} 0 5374617274202020 was {START.hex().upper()}']
     for text, new in zip(TEXTS[:3], ('Continue', 'New game', 'Set.')):
@@ -40,17 +40,17 @@ def script() -> str:
 
 
 def named() -> str:
-    """The patches of that script that name their old bytes."""
+    """The patches of `script()` that name their old bytes."""
     return ''.join(line for line in script().splitlines(keepends=True) if not line.startswith(('fill', 'rebuild')))
 
 
 def refused() -> str:
-    """A script of which two patches are refused: old bytes differ, and a block that the image has not."""
+    """A script with two patches that are refused: one with different old bytes, and one in a block beyond the image."""
     return script() + f'# two that do not fit\nset {first_block()} 600 4142 was 4344\nset 99999 0 41\n'
 
 
 def written(**files: bytes | str) -> dict[str, Path]:
-    """Files in a new directory, by their stems: game='..' is game.bin, script='..' is script.txt."""
+    """Writes files to a new directory, named by their keys: game='..' is game.bin, script='..' is script.txt."""
     place = folder('files')
     paths = {}
     for stem, data in files.items():
@@ -61,17 +61,17 @@ def written(**files: bytes | str) -> dict[str, Path]:
 
 
 def sheet_of(**kinds: str) -> str:
-    """A cue sheet of files with a track each, of this kind, by their stems."""
+    """A cue sheet of files with one track each: the keys are their stems, the values the kinds of their tracks."""
     return ''.join(f'FILE "{stem}.bin" BINARY\n  TRACK {number:02} {kind}\n    INDEX 01 00:00:00\n' for number, (stem, kind) in enumerate(kinds.items(), 1))
 
 
 def many_texts(hundreds: int = 4) -> bytes:
-    """An image in which スタート stands so many hundred times."""
+    """An image that contains スタート `hundreds` hundred times."""
     return image_of([b'.' * 24 + (START + b'\0').ljust(18, b'.') * 100] * hundreds)
 
 
 def scratched() -> bytes:
-    """The game with a damaged sector."""
+    """The game with one damaged sector."""
     return damaged(game(), first_block() + 1)
 
 
@@ -80,7 +80,7 @@ SCRATCHED_SECTORS = 21000
 
 @functools.cache
 def long_disc() -> bytes:
-    """The game, more data after it, and audio. The program makes their codes, for the model is slow: only for pictures."""
+    """The game, more data after it, and audio. The program computes the codes, since the model is slow. For pictures only."""
     files = written(long=game(), script='cdpatch 1\n')
     first, end = len(game()) // 2352, SCRATCHED_SECTORS - 2000
     more = b''.join(SYNC + address_of(block) + b'\1' + bytes([block % 251]) * 2048 + bytes(288) for block in range(first, end))
@@ -92,7 +92,7 @@ def long_disc() -> bytes:
 
 
 def scratches(other: bool = False) -> bytes:
-    """That disc with two scratches; the other dump of it is damaged elsewhere, and in some sectors too."""
+    """The long disc with two scratches. The other dump of it is damaged elsewhere, and in some of the same sectors."""
     image = bytearray(long_disc())
     here = [*range(150, 160, 3), *range(316, 400, 23), *range(3000, 9000, 17), *range(14000, 14400, 5)]
     for block in range(40, 900, 23) if other else here:

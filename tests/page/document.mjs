@@ -1,4 +1,4 @@
-// As much of a document as the parts of the page draw on, and what they give to the browser's downloads.
+// A minimal document for the parts of the page that draw, and a record of downloads.
 
 /** @type {Map<string, Blob>} */
 const addresses = new Map();
@@ -46,10 +46,10 @@ class Observer {
     disconnect() {}
 }
 
-/** What was downloaded. @type {Blob[]} */
+/** The downloaded files. @type {Blob[]} */
 export const downloads = [];
 
-/** Gives this process a document until a test is over. */
+/** Provides a document until a test ends. */
 export function withDocument(t) {
     const made = text => Object.assign(new Part(), { text: text ?? '' });
     const parts = new Map();

@@ -1,4 +1,4 @@
-// The same inputs through every door that has the use case give the same data: the page's logic, cdscript as a process, and the package for npm.
+// The page's logic, cdscript as a process, and the npm package give the same data for the same inputs.
 
 import assert from 'node:assert/strict';
 import { spawnSync } from 'node:child_process';
@@ -38,7 +38,7 @@ if (!skip) {
     assert.equal(spawnSync('python3', packing).status, 0, 'cdscript is packed');
 }
 
-/** What cdscript prints and says of files of the room. */
+/** Runs cdscript on files of the room, and returns its status, output, and errors. */
 function cdscript(...words) {
     const { status, stdout, stderr } = spawnSync(process.execPath, [join(room, 'cdscript'), ...words], { cwd: room });
     return { status, out: stdout.toString(), errors: stderr.toString() };
@@ -50,10 +50,10 @@ const ascii = text => Uint8Array.from(Buffer.from(text, 'latin1'));
 const sumOf = bytes => createHash('sha1').update(bytes).digest('hex');
 const linesOf = text => text.split('\n').filter(line => line !== '');
 
-/** A file of the page. */
+/** A file as the page gets it. */
 const fileOf = (name, bytes) => Object.assign(new Blob([bytes]), { name, lastModified: 1 });
 
-/** A page on which an image is open, which is surveyed. */
+/** A page with an open image that has been surveyed. */
 async function opened(files, { base } = {}) {
     const all = Object.entries(files).map(([name, bytes]) => {
         const file = fileOf(name, bytes);
@@ -65,7 +65,7 @@ async function opened(files, { base } = {}) {
     return app;
 }
 
-/** The words that open the same with cdscript. */
+/** The arguments with which cdscript opens the same files. */
 function words(files, { base } = {}) {
     write(files);
     return [...base === undefined ? [] : ['--base', String(base)], Object.keys(files)[0]];
@@ -90,7 +90,7 @@ function user(sectors = SIZE) {
 
 const raw = (base = 0, sectors = SIZE) => Buffer.from(calls.encodeBlocks(base, user(sectors)));
 
-/** A disc in which bytes are others: `[block, byte of the sector]`. */
+/** A disc with these bytes changed: `[block, byte of the sector]`. */
 function changed(...places) {
     const made = raw();
     for (const [block, at] of places) made[RAW * block + at] ^= 0x55;
@@ -106,11 +106,11 @@ const volumeSize = sectors => {
 };
 const SHEET = ascii('FILE "d.bin" BINARY\n TRACK 01 MODE1/2352\n  INDEX 01 00:00:00\n');
 
-/** What is said of a script that is refused, whatever a door adds to it. */
+/** The message about a refused script without the text that a door adds. */
 const refusal = text => text.replace(/^cdscript: /, '').replace(/(: give --base .*|\.)?\n?$/, '').toLowerCase();
 
 const WAS = 'was 7072657373';
-/** Scripts, each with the image and its base. */
+/** Scripts, each with its image and base. */
 const SCRIPTS = {
     'one that fits': { script: `cdpatch 1\nset 5 0 5052455353 ${WAS}\n` },
     'other old bytes': { script: 'cdpatch 1\nset 5 0 5052455353 was 0000000000\nset 7 0 41\n' },
@@ -132,7 +132,7 @@ const SCRIPTS = {
     'an image with a tail': { script: 'cdpatch 1\nset 59 0 41\n', image: Buffer.concat([raw(), Buffer.alloc(77, 7)]) },
 };
 
-/** What the page makes of a script. */
+/** The image as the page patches it. */
 async function patchedByPage({ script, image, base, carry }) {
     const reader = { size: image.length, read: async (at, length) => image.subarray(at, at + length), file: fileOf('d.bin', image) };
     const work = { reader, base, script, carry };
@@ -244,7 +244,7 @@ const SURVEYED = {
     'sectors of Mode 2': { files: { 'd.bin': changed([50, 15]) }, due: [59, 0, 0, [[50, 50]], null] },
 };
 
-/** What `info` counts: Mode 1, damage, other addresses, the lost blocks, and those that the image lacks. */
+/** The counts that `info` prints: Mode 1, damage, wrong addresses, lost blocks, and blocks that the image lacks. */
 function counted(out) {
     const [, mode1, damaged, elsewhere] = /mode1 (\d+) damaged (\d+) address (\d+)/.exec(out).map(Number);
     const lost = [...out.matchAll(/^(\d+)-(\d+) not mode1/gm)].map(([, first, last]) => [Number(first), Number(last)]);
@@ -275,14 +275,14 @@ const UNDONE = {
     'a script for another base': { script: 'cdpatch 1\n# base 150\nset 5 0 41\n', isRefused: true },
 };
 
-/** The text of the only download, null if there is none. */
+/** The content of the only download; null if there is none. */
 async function downloaded() {
     const blobs = downloads.splice(0);
     assert.ok(blobs.length < 2);
     return blobs.length === 0 ? null : Buffer.from(await blobs[0].arrayBuffer());
 }
 
-/** A part of a page. */
+/** An element for a part of the page. */
 const part = () => document.createElement('div');
 
 test('a script: undo', { skip }, async t => {
@@ -355,7 +355,7 @@ test('two images: repair', { skip }, async t => {
     }
 });
 
-/** The list of files of a page, with one of them chosen. */
+/** The page's list of files, with one of them selected. */
 async function listOf(app, path = '/BIG') {
     app.serve({ showPanel() {} });
     const list = new FilesList(app);
@@ -404,7 +404,7 @@ test('a file: replace', { skip }, async t => {
     }
 });
 
-/** A table with new texts for some that it has. */
+/** A table with new texts for some of its texts. */
 function withNew(table, texts) {
     return Object.entries(texts).reduce((made, [text, fresh]) => {
         assert.ok(made.includes(`,${text},`), text);
@@ -418,7 +418,7 @@ const TABLES = {
     'a text that is too long': { texts: { セーブしますか: 'セーブしますか'.repeat(200), はじめから: 'つづきから' }, due: 2 },
 };
 
-/** The disc with Japanese texts, the first of which lies over the extents of its file. */
+/** The disc with Japanese texts. The first text crosses two extents of its file. */
 function japanese(base = 0) {
     const made = user();
     const text = encodeText(encodingOf('CP932'), 'はじめから');

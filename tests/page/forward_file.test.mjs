@@ -1,4 +1,4 @@
-// A file that is read forward: which bytes come, and how often the file is cut for them.
+// Reading a file forward: the bytes read, and the number of slices made for them.
 
 import assert from 'node:assert/strict';
 import { createHash } from 'node:crypto';
@@ -12,7 +12,7 @@ const { fileReader, readByHands } = await page('open/file_reader.js');
 const MiB = 2 ** 20;
 const bytes = Buffer.alloc(72 * MiB + 7, Uint8Array.from({ length: 65537 }, (_, i) => i ^ i >> 9));
 
-/** A file that notes how many bytes each cut of it has. */
+/** A file that records the size of each of its slices. */
 function fileOf() {
     const file = Object.assign(new Blob([bytes]), { name: 'game.bin', cuts: [] });
     const slice = file.slice.bind(file);
@@ -24,7 +24,7 @@ function fileOf() {
     return file;
 }
 
-/** Reads places of a file in turn, by more reads if the first are short, and compares them. Returns what was cut of it. */
+/** Reads these places of a file in turn, repeating short reads, and compares the bytes. Returns the sizes of the slices. */
 async function cutsFor(places) {
     const file = fileOf();
     const reader = forwardOf(fileReader(file));
@@ -39,7 +39,7 @@ async function cutsFor(places) {
     return file.cuts;
 }
 
-/** Reads of a MiB each, from a place on, as many as are asked for. */
+/** `count` consecutive reads of a MiB each, the first `cut` bytes of each left out. */
 const rowOf = (count, cut = 0) => Array.from({ length: count }, (_, i) => [i * MiB + cut, MiB - cut]);
 
 test('reads in a row are few slices', async () => {

@@ -1,4 +1,4 @@
-// The hashes of an image, and its survey beside them: what they are, how often it is read for them, and how far the survey goes ahead.
+// The hashes of an image, and its survey during hashing: their values, how often the image is read, and how far the survey reads ahead.
 
 import assert from 'node:assert/strict';
 import { createHash } from 'node:crypto';
@@ -9,7 +9,7 @@ import { calls, imageOf, imageOfBytes, page, parts, summing } from './page.mjs';
 const { Summing, sha1Of } = await page('app/hashing.js');
 const { bytes: sectors } = imageOf([[1], [2], [3], [4], [5]]);
 
-/** A reader of an image, which notes what is read. */
+/** A reader of an image that records its reads. */
 function readerOf(bytes) {
     const { reader } = imageOfBytes(bytes);
     const reads = [];

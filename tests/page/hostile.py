@@ -15,7 +15,7 @@ import common
 import discs
 
 MARK = '<plaintext hidden id="data">'
-# What runs or asks for something if it becomes markup, style or script. {url} is a loopback server that counts what it is asked for.
+# Markup that would run a script or send a request if the page inserted it. {url} is a loopback server that counts requests.
 PAYLOADS = ['<img src={url}/img onerror="globalThis.ran=1">', '</plaintext><script>globalThis.ran=1</script>', '--><script src={url}/s></script><!--',
             '<svg onload="globalThis.ran=1"><use href="{url}/u#a"/></svg>', '<iframe src="{url}/frame"></iframe>', '<style>@import url({url}/css)</style>',
             '<link rel=stylesheet href={url}/l><link rel=prefetch href={url}/p>', '<meta http-equiv=refresh content="0;url={url}/r">',
@@ -32,7 +32,7 @@ def head(**other: Any) -> dict[str, Any]:
 
 
 def container(packed: bytes, **other: Any) -> bytes:
-    """The lines of data round bytes that are packed already."""
+    """The lines of a container around bytes that are already packed."""
     size, sha1, version = other.get('size', len(packed)), other.get('sha1', hashlib.sha1(packed).hexdigest()), other.get('version', 1)
     return f'cdpatch-data {version} {size} {sha1}\n{base64.b64encode(packed).decode()}\n'.encode()
 
@@ -93,7 +93,7 @@ def scripts(url: str) -> Iterator[tuple[str, bytes]]:
 
 
 def pages(url: str) -> Iterator[tuple[str, bytes]]:
-    """Pages that are not the genuine one. Opened by themselves they do as they like."""
+    """Pages that are not the genuine one. When opened directly, they can do anything."""
     page = common.PAGE.read_bytes()
     run = f'<script>globalThis.ran=1;new Image().src="{url}/page"</script>'.encode()
     after = patch_of(json.dumps(head()))
@@ -112,14 +112,14 @@ def pages(url: str) -> Iterator[tuple[str, bytes]]:
 
 
 def genuine(url: str) -> Iterator[tuple[str, bytes]]:
-    """Patchers with the genuine page, whose data are hostile."""
+    """Patchers with the genuine page and hostile data."""
     page = common.PAGE.read_bytes()
     for part in (heads(url), containers(), endings(url), scripts(url)):
         for name, text in part:
             yield name, page + text
 
 
-# What a page is after it was opened, or given something: whether a script ran, and how many elements there are that could load or run one.
+# The page's state after it was opened or given a file: whether a script ran, and how many elements there are that could load or run one.
 STATE = '''return [globalThis.ran === undefined ? 0 : 1, document.scripts.length, document.images.length, document.querySelectorAll(
     'iframe, frame, object, embed, form[action], base, link[rel~=stylesheet], [onerror], [onload], [onfocus]').length,
     document.querySelector('#messages, #start-message, #player') ? 1 : 0]'''
@@ -127,7 +127,7 @@ QUIET = [0, 1, 0, 0, 1]
 
 
 class Walk:
-    """Takes one browser through the corpus. `wrong` names what did not stay as it should."""
+    """Runs the corpus in one browser. `wrong` lists the cases in which the page did not stay safe."""
 
     def __init__(self, browser: Any, server: common.Server) -> None:
         self.browser, self.server, self.place = browser, server, common.folder('hostile')
@@ -140,7 +140,7 @@ class Walk:
             self.wrong.append(f'{name}: {state}')
 
     def settled(self, name: str, seconds: float = 30) -> None:
-        """Waits until the page has said something, or shows the player."""
+        """Waits until the page shows a message or the player."""
         script = '''return ['#messages .say', '#start-message .say', '#player h1', '#panel-script header .tag'].some(it => {
             const found = document.querySelector(it); return found !== null && found.offsetParent !== null })'''
         try:
@@ -159,7 +159,7 @@ class Walk:
         self.opened += 1
 
     def give(self, name: str, text: bytes) -> None:
-        """Gives a file to the genuine page, which was opened before and shows no player."""
+        """Gives a file to the genuine page, which must be open and not show a player."""
         path = self.place / f'{name}.html'
         path.write_bytes(text)
         self.browser.give('#files', [path])

@@ -1,4 +1,4 @@
-"""Keys by the characters of private use that WebDriver has for them, and what Chromium is told of a key."""
+"""Keys as WebDriver's private-use characters, and the events that Chromium gets for them."""
 
 from typing import Any
 
@@ -9,7 +9,7 @@ class Keys:
     ARROW_LEFT, ARROW_UP, ARROW_RIGHT, ARROW_DOWN, F6, F8 = '\ue012', '\ue013', '\ue014', '\ue015', '\ue036', '\ue038'
 
 
-# What each is called, its code in Windows, and what it writes.
+# Each key's name, its Windows key code, and the text that it types.
 NAMED = {Keys.BACKSPACE: ('Backspace', 8, ''), Keys.TAB: ('Tab', 9, ''), Keys.ENTER: ('Enter', 13, '\r'), '\n': ('Enter', 13, '\r'),
          Keys.SHIFT: ('Shift', 16, ''), Keys.CONTROL: ('Control', 17, ''), Keys.ESCAPE: ('Escape', 27, ''), Keys.PAGE_UP: ('PageUp', 33, ''),
          Keys.PAGE_DOWN: ('PageDown', 34, ''), Keys.END: ('End', 35, ''), Keys.HOME: ('Home', 36, ''), Keys.ARROW_LEFT: ('ArrowLeft', 37, ''),
@@ -20,7 +20,7 @@ MODIFIERS = {'': 0, Keys.CONTROL: 2, Keys.SHIFT: 8}
 
 
 def pressed(key: str, held: str = '') -> tuple[dict[str, Any], dict[str, Any]]:
-    """What Chromium is told when a key goes down and up, while another one is held."""
+    """The events for a key's press and release with the modifier `held`."""
     if key in NAMED:
         name, code, text = NAMED[key]
         place = name

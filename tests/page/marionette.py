@@ -1,4 +1,4 @@
-"""Firefox, headless, over Marionette's socket."""
+"""Drives headless Firefox through Marionette's socket."""
 
 import json
 import socket
@@ -19,7 +19,7 @@ def free_port() -> int:
 
 
 class Firefox:
-    """One window. `downloads` is where it saves files."""
+    """One browser window. `downloads` is the directory where it saves files."""
 
     def __init__(self) -> None:
         self.downloads, profile = folder('downloads'), folder('firefox')
@@ -47,7 +47,7 @@ class Firefox:
             return None
 
     def receive(self) -> Any:
-        """The next message: its length in decimal digits, a colon, and JSON."""
+        """Reads the next message: its length in decimal digits, a colon, and JSON."""
         while b':' not in self.buffer:
             self.buffer += self.more()
         size, rest = self.buffer.split(b':', 1)
@@ -103,12 +103,12 @@ class Firefox:
             self.command('WebDriver:ElementSendKeys', id=self.element(css), text=str(file))
 
     def memory(self) -> int:
-        """The bytes of memory that its first process has, which saves files."""
+        """Memory in bytes of Firefox's first process, which saves files."""
         [size] = [row.split()[1] for row in Path(f'/proc/{self.process.pid}/status').read_text().splitlines() if row.startswith('VmRSS:')]
         return int(size) * 1024
 
     def downloaded(self, name: str, seconds: float = PATIENCE) -> Path:
-        """A file that was downloaded under this name. It is there and empty while its bytes come as NAME.part."""
+        """Waits until a download is complete and returns its path. Until then the file is empty and its bytes go to NAME.part."""
         path = self.downloads / name
         waited(lambda: path.exists() and not any(self.downloads.glob('*.part')) and path.stat().st_size > 0, f'no download {name}', seconds)
         return path

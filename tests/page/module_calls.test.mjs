@@ -1,4 +1,4 @@
-// The calls of the module that only the page makes.
+// Calls of the module that only the page makes.
 
 import assert from 'node:assert/strict';
 import { createHash } from 'node:crypto';

@@ -1,4 +1,4 @@
-// The page's own text: of which parts of the document it is made, and when none is published.
+// The page's own text: the parts of the document that it consists of, and when publishing is refused.
 
 import assert from 'node:assert/strict';
 import { createHash } from 'node:crypto';

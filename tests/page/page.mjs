@@ -1,4 +1,4 @@
-// What the tests of the page's logic share: its modules, which WEB names if they are not in web/, and calls.
+// Shared by the tests of the page's logic: its modules, from the directory WEB or else web/, and the calls of the module.
 
 import { File } from 'node:buffer';
 import { webcrypto } from 'node:crypto';
@@ -6,7 +6,7 @@ import { readFileSync } from 'node:fs';
 import { join } from 'node:path';
 import { fileURLToPath, pathToFileURL } from 'node:url';
 
-// What browsers have and node 18 lacks.
+// Globals of browsers that node 18 lacks.
 globalThis.File ??= File;
 globalThis.crypto ??= webcrypto;
 
@@ -28,7 +28,7 @@ export const calls = new Calls(new WebAssembly.Module(readFileSync(join(top, 'li
 
 const { Sha1 } = await page('app/sha1.js');
 
-/** A worker that hashes. */
+/** A stand-in for a worker that hashes. */
 class HashWorker {
     constructor() {
         this.sha1 = new Sha1(calls);
@@ -44,16 +44,16 @@ class HashWorker {
     terminate() {}
 }
 
-/** The parts of a page whose workers hash. */
+/** The parts of a page with workers that hash. */
 export const parts = { module: true, newWorker: () => new HashWorker() };
 
 const { Crew, localHand } = await core('crew/crew.js');
 const { JOBS } = await core('jobs/jobs.js');
 
-/** What hashes images and surveys them, without workers but for the SHA-1. */
+/** Parts that hash and survey images in this process, with a worker only for the SHA-1. */
 export const summing = { crew: new Crew([localHand(calls, JOBS)]), parts };
 
-/** An image of sound sectors with this user data, which are filled up with zeros. */
+/** An image of undamaged sectors with this user data, padded with zeros. */
 export function imageOf(users) {
     const bytes = new Uint8Array(2352 * users.length);
     users.forEach((user, block) => {
@@ -64,13 +64,13 @@ export function imageOf(users) {
     return imageOfBytes(bytes);
 }
 
-/** An image of these bytes, whose first sector is block 0. */
+/** An image of these bytes whose first sector is block 0. */
 export function imageOfBytes(bytes) {
     const reader = { size: bytes.length, read: async (at, length) => bytes.slice(at, at + length) };
     return { name: 'game.bin', bytes, reader, base: 0, addressed: 0, sectors: Math.floor(bytes.length / 2352) };
 }
 
-/** What writes make of a file. */
+/** The file that results from these writes. */
 export async function writtenBy(writes) {
     const bytes = new Uint8Array(Math.max(0, ...writes.map(({ position, data }) => position + (data.size ?? data.length))));
     for (const { position, data } of writes) bytes.set(new Uint8Array(await new Blob([data]).arrayBuffer()), position);

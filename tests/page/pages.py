@@ -1,4 +1,4 @@
-"""What the tests of the page do with it: opening files, pressing buttons, choosing a file to save by a stub, patchers of their own."""
+"""Operates the page in tests: opens files, presses buttons, replaces the file picker by a stub, and builds patchers."""
 
 import base64
 import json
@@ -15,8 +15,8 @@ from keys import Keys
 NO_PICKER = 'delete window.showSaveFilePicker'
 CLIPBOARD = 'navigator.clipboard.writeText = async text => { globalThis.copied = text; };'
 
-# A chosen file that is written in memory: `failing` is the write that fails, from 0, or -1; writes that `hold` holds wait for `release`, and
-# after `pickLater` the user chooses at `pick`.
+# A save-file picker that writes to memory. `failing` is the index of the write that fails, or -1. After `hold`, writes wait for `release`;
+# after `pickLater`, the picker waits for `pick`.
 PICKER = '''
 globalThis.chosen = { writes: [], state: 'none', failing: -1, held: null, begun: 0, own: null, removed: false, asked: 0,
     picked: null,
@@ -52,7 +52,7 @@ globalThis.showSaveFilePicker = async ({ suggestedName }) => {
 };
 '''
 
-# Reads wait until the gate is opened: so many, of so many bytes at least.
+# Makes the first `held` reads of at least `least` bytes wait for `openGate`.
 GATE = '''const { arrayBuffer, stream } = Blob.prototype;
 const gate = new Promise(done => { globalThis.openGate = done; });
 Object.assign(globalThis, { held: Infinity, least: 0, reads: 0 });
@@ -76,7 +76,7 @@ Blob.prototype.stream = function () {
     return made;
 };'''
 
-# What workers are given of files waits until `letGo` posts so many of it, or all and what comes later.
+# Holds the messages that give files to workers until `letGo`, which posts that many, or all of them and all later ones.
 HELD = '''const { postMessage } = Worker.prototype; Object.assign(globalThis, { waiting: [], holds: true });
 Worker.prototype.postMessage = function (...given) {
     const post = () => postMessage.apply(this, given);
@@ -88,20 +88,20 @@ globalThis.letGo = (count = Infinity) => {
     waiting.splice(0, count).forEach(post => post());
 };'''
 
-# How far the first such element is out of the window, in pixels.
+# By how many pixels the first matching element is outside the window.
 UNSEEN = '''const { top, bottom, left, right } = document.querySelector(arguments[0]).getBoundingClientRect();
     return Math.max(bottom - innerHeight, -top, right - innerWidth, -left)'''
 
 BUTTON = '''return [...document.querySelectorAll('button, summary')].find(it =>
     it.checkVisibility() && it.innerText.trim().startsWith(arguments[0]))'''
 
-# The button of the panel Script that saves, by what it says that it saves.
+# The label of the panel Script's visible button that applies the script and saves.
 SAVE = '''return [...document.querySelectorAll('#panel-script .side button')].find(it =>
     it.checkVisibility() && /^(Apply and save|Save with the)/.test(it.innerText.trim()))?.innerText'''
 
 
 class PageTest(unittest.TestCase):
-    """Tests in one window of Chromium, which opens the page anew for each."""
+    """Tests in one window of Chromium; the page is opened again for each test."""
     stub = NO_PICKER
     browser: chromium.Chromium
 
@@ -118,7 +118,7 @@ class PageTest(unittest.TestCase):
         self.browser.give('#files', files)
 
     def open_image(self, file: Path) -> None:
-        """Opens an image, and waits until all of it is read."""
+        """Opens an image and waits until it has been read completely."""
         self.open_files(file)
         self.browser.wait('#disc-line', file.name)
         self.wait_for_hash()
@@ -131,14 +131,14 @@ class PageTest(unittest.TestCase):
         self.browser.wait('#panel-script header', file.name)
 
     def open_both(self, image: bytes, script: str) -> dict[str, Path]:
-        """Opens an image, game.bin, and then a script, english.txt."""
+        """Opens an image as game.bin, then a script as english.txt."""
         files = discs.written(game=image, english=script)
         self.open_image(files['game'])
         self.open_script(files['english'])
         return files
 
     def written_page(self, data: bytes, name: str = 'starlit.html') -> Path:
-        """A page in a file."""
+        """Writes a page to a file."""
         path = common.folder('patcher') / name
         path.write_bytes(data)
         return path
@@ -150,26 +150,26 @@ class PageTest(unittest.TestCase):
         self.browser.wait('#sector-title', f'block {block}')
 
     def go_into(self, block: int) -> None:
-        """The same, and goes on to its bytes."""
+        """Opens a sector by the keyboard, and moves the focus to its bytes."""
         self.go_to(block)
         self.browser.send('#map', Keys.ENTER)
         self.wait_for_focus('.hex')
 
     def edit(self, *keys: str, held: str = '') -> None:
-        """Presses keys in the editor of the script."""
+        """Presses keys in the script editor."""
         self.browser.click('#tab-script')
         self.browser.click('.editor textarea')
         self.browser.press(*keys, held=held)
 
     def find(self, text: str = 'スタート') -> None:
-        """Searches a text by the button."""
+        """Searches for a text with the button."""
         self.browser.click('#tab-text')
         self.browser.type('#find-text', text)
         self.press('Find')
         self.browser.wait('#panel-text .hits tbody mark')
 
     def is_gone(self, css: str) -> None:
-        """Waits until no such element is shown."""
+        """Waits until no matching element is visible."""
         gone = '[...document.querySelectorAll(given[0])].every(it => !it.checkVisibility())'
         self.assertTrue(self.browser.awaited(gone, css), f'{css} stays')
 
@@ -177,7 +177,7 @@ class PageTest(unittest.TestCase):
         self.assertTrue(self.browser.awaited('document.activeElement.matches(given[0])', css), f'{css} has no focus')
 
     def begins(self, button: str = '') -> None:
-        """Presses a button that saves, that of the panel Script if none is named, and waits until a write is held."""
+        """Presses a button that saves, by default the one of the panel Script, and waits until a write is held."""
         self.browser.run('chosen.hold()')
         if button:
             self.press(button)
@@ -186,11 +186,11 @@ class PageTest(unittest.TestCase):
         common.waited(lambda: self.browser.run('return chosen.begun > 0'), 'nothing is written')
 
     def press(self, text: str) -> None:
-        """Presses the first button that is shown and begins with this text."""
+        """Presses the first visible button whose label begins with this text."""
         self.browser.click_found(f'(it => {{ it?.scrollIntoView({{ block: "center" }}); return it; }})((function () {{ {BUTTON} }})(...given))', text)
 
     def press_save(self) -> None:
-        """Presses the button of the panel Script that saves, be it all changes or some."""
+        """Presses the button of the panel Script that applies the script and saves, under either of its labels."""
         self.press(str(common.waited(lambda: self.browser.run(SAVE), 'nothing saves')))
 
     def is_off(self, text: str) -> bool:
@@ -204,7 +204,7 @@ class PageTest(unittest.TestCase):
                                     'return `${card ? card.getAttribute("aria-label") || card.className : ""}: ${it.innerText}`'))
 
     def rows(self) -> list[str]:
-        """The lines of the editor that are drawn, with what is said of them."""
+        """The lines that the editor draws, with their remarks."""
         script = '''return [...document.querySelectorAll('.editor li:not(.why)')].map(it => {
             const area = it.querySelector('textarea');
             return [it.querySelector('.ln').innerText, area ? area.value : it.querySelector('.src').innerText,
@@ -212,7 +212,7 @@ class PageTest(unittest.TestCase):
         return list(self.browser.run(script))
 
     def script_text(self) -> str:
-        """The script, as the page saves it."""
+        """The script as the page saves it."""
         self.press('Save script')
         name = self.browser.text('#panel-script header h2')
         path = self.browser.downloaded('script.txt' if name == 'New script' else name)
@@ -221,7 +221,7 @@ class PageTest(unittest.TestCase):
         return text
 
     def chosen_bytes(self) -> bytes:
-        """What was written to the chosen file."""
+        """The bytes written to the chosen file."""
         script = '''const bytes = await chosen.bytes();
             let text = '';
             for (let at = 0; at < bytes.length; at += 8192) text += String.fromCharCode(...bytes.subarray(at, at + 8192));
@@ -230,14 +230,15 @@ class PageTest(unittest.TestCase):
 
 
 def applied(image: Path, script: Path, *options: str) -> tuple[int, str, bytes]:
-    """What the program prints and writes."""
+    """The program's output and the file that it writes."""
     out = common.folder('out') / 'out.bin'
     status, text = common.run_program('apply', *options, image, script, out)
     return status, text, out.read_bytes()
 
 
 def patcher(image: bytes, made: bytes, script: str, **other: Any) -> bytes:
-    """A patcher as the format is described: the page, a line with version, size and SHA-1, and base64 of what is deflated."""
+    """Builds a patcher from the description of its format: the page, a line with version, size, and SHA-1, and the deflated data in
+    base64."""
     head = {'title': 'Starlit Detective in English', 'author': 'Team Comet', 'note': 'All menus.\nChapter 1.', 'name': 'Starlit (English).bin',
             'cue': '', 'carry': False, 'base': 0, 'image': {'size': len(image), 'sha1': common.sha1(image)}, 'result': common.sha1(made)}
     packed = zlib.compress(json.dumps({**head, **other}).encode() + b'\n' + script.encode())

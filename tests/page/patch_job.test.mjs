@@ -1,4 +1,4 @@
-// Checking and saving a patched image, with a file to choose and without; and saving a repaired one.
+// Checking and saving a patched image, with and without a file to choose, and saving a repaired image.
 
 import assert from 'node:assert/strict';
 import { createHash } from 'node:crypto';
@@ -22,7 +22,7 @@ const given = { downloads: [], chosen: null };
 
 const anchor = () => ({ setAttribute() {}, append() {}, click() { given.downloads.push(this); }, remove() {} });
 
-/** A chosen file, which has what was written before. */
+/** A chosen file. `before` has the properties of an existing one. */
 function chosenFile(before = {}) {
     const chosen = { name: 'out.bin', written: [], state: 'none', removed: false };
     const sink = {
@@ -36,7 +36,7 @@ function chosenFile(before = {}) {
     });
 }
 
-/** As browsers that let a page write to a file. */
+/** Emulates a browser that lets a page write to a file. */
 function choosing(chosen) {
     given.chosen = chosen;
     globalThis.window.showSaveFilePicker = async () => chosen;
@@ -49,7 +49,7 @@ beforeEach(() => {
     globalThis.document = { createElement: anchor, body: { append() {} } };
 });
 
-/** Who gives pieces when the file is chosen. */
+/** A maker of these pieces, called after the file is chosen. */
 const making = pieces => async () => async take => { for (const piece of pieces) await take(piece); };
 
 const work = (more = {}) => ({ reader, base: 0, script, carry: false, ...more });

@@ -1,4 +1,4 @@
-// Patchers: what their data are, how strictly they are read, and how a file is compared with the page.
+// Patchers: the format of their data, how strictly it is read, and the comparison of a file with the page.
 
 import assert from 'node:assert/strict';
 import { createHash } from 'node:crypto';
@@ -17,7 +17,7 @@ const data = {
 };
 const text = await patcherText(calls, data);
 
-/** The text of data that are packed by another hand. */
+/** The text of data packed by other software. */
 function packed(bytes, more = {}) {
     const deflated = deflateSync(bytes);
     const sum = more.sum ?? createHash('sha1').update(deflated).digest('hex');

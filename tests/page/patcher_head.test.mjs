@@ -1,4 +1,4 @@
-// What is taken of the head of a stranger's patcher.
+// The parts of a foreign patcher's head that the page accepts.
 
 import assert from 'node:assert/strict';
 import { test } from 'node:test';

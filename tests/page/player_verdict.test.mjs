@@ -1,4 +1,4 @@
-// What a player's image is to a patcher, as far as its patches say it.
+// A patcher's verdict on a player's image, as far as the patches determine it.
 
 import assert from 'node:assert/strict';
 import { createHash } from 'node:crypto';
@@ -18,7 +18,7 @@ const app = { calls, parts, crew: new Crew([localHand(calls, JOBS)]) };
 const ascii = text => new TextEncoder().encode(text);
 const game = imageOf([ascii('hello'), ascii('world'), ascii('again')]);
 
-/** The image that a script makes. */
+/** The image that a script produces. */
 async function patchedBy(script, image = game) {
     const { pieces, status } = await applyPatches(calls, image.reader, await validScript(calls, [ascii(script)]), { base: 0 });
     assert.equal(status, 0);
@@ -27,7 +27,7 @@ async function patchedBy(script, image = game) {
     return imageOfBytes(Uint8Array.from(parts));
 }
 
-/** The image with another byte in it. */
+/** The image with one changed byte. */
 function changed(image, at, sectors = image.sectors) {
     const bytes = image.bytes.slice(0, sectors * 2352);
     bytes[at] ^= 255;
@@ -82,7 +82,7 @@ test('an image with other bytes may have an older version of the patch, if it is
 globalThis.Node = class {};
 globalThis.document = { createElement: () => ({ text: '', append(...more) { this.text += more.join(''); } }) };
 
-/** A verdict, and what stands under it. */
+/** A verdict and the explanation under it. */
 async function said(image, script, more = {}) {
     const it = await judged(image, script, more);
     const reason = reasonForPlayer(it, image.bytes.length, (more.image ?? { size: image.bytes.length }).size);

@@ -1,4 +1,4 @@
-"""The model of the page for random actions: what is open, what the script is and whether it is in a file, and what is being saved."""
+"""The model of the page for random actions: open images, the script and whether it is saved in a file, and the save in progress."""
 
 import dataclasses
 import functools
@@ -15,12 +15,12 @@ DAMAGED = {'sound.bin': (), 'bad.bin': (40, 60), 'worse.bin': (60, 80, 100)}
 
 @functools.cache
 def images() -> dict[str, bytes]:
-    """A sound dump, and two that are damaged."""
+    """An undamaged dump and two damaged ones."""
     return {name: functools.reduce(common.damaged, blocks, discs.game()) for name, blocks in DAMAGED.items()}
 
 
 def repaired(image: bytes, other: bytes) -> bytes | None:
-    """What a repair gives, or None if it takes nothing."""
+    """The repaired image, or None if the repair copies nothing."""
     [here] = [set(DAMAGED[name]) for name, data in images().items() if data is image]
     [there] = [set(DAMAGED[name]) for name, data in images().items() if data is other]
     made = bytearray(image)
@@ -30,7 +30,7 @@ def repaired(image: bytes, other: bytes) -> bytes | None:
 
 
 def line(dice: random.Random) -> str:
-    """A line of a script, of which some are refused."""
+    """A random line of a script; some of these lines are refused."""
     block = dice.randrange(110, 150)
     return dice.choice([f'fill {block} {dice.randrange(2000)} 4 {dice.randrange(256):02X}', f'rebuild {block}', '# a note', 'set 99999 0 41'])
 
@@ -93,7 +93,7 @@ class Model:
         self.edit(f"{before}{'' if before.endswith(chr(10)) else chr(10)}{added}\n")
 
     def open_script(self, name: str, text: str) -> bool:
-        """Whether a script that is in no file has made way."""
+        """Opens a script, and returns whether it replaces one that is in no file."""
         lost = self.unsaved() and self.text() != text
         if (text, name) != (self.text(), self.name()):
             self.edit(text, name)
@@ -105,14 +105,14 @@ class Model:
         self.undo()
 
     def next_block(self) -> int:
-        """A block in which no byte was typed yet."""
+        """The next block in which no byte was typed yet."""
         self.typed += 1
         return self.typed
 
     # ---- images
 
     def open_image(self, name: str) -> bool:
-        """Whether it was opened."""
+        """Opens an image, and returns whether the page accepts it."""
         if self.saving:
             return False
         if self.image:
@@ -124,7 +124,7 @@ class Model:
         return True
 
     def close(self) -> None:
-        """The image is closed, with all that was done with it."""
+        """Closes the image and all that depends on it."""
         self.image = self.second = self.panel = self.title = ''
         self.edited, self.done, self.undone = False, [], []
 
@@ -132,11 +132,11 @@ class Model:
         self.saving = Saving(card, due)
 
     def publishable(self, images_: dict[str, bytes]) -> bool:
-        """Whether the script can be published: it has a patch, a title, and none that is refused."""
+        """Whether the script can be published: it has a title and a patch, and no patch is refused."""
         return self.title != '' and self.patches() > 0 and 'set 99999' not in self.text() and self.image in images_
 
     def state(self) -> dict[str, object]:
-        """What the page shows of it."""
+        """The state that the page should show."""
         unsaved = self.unsaved()
         bars = {'bars': int(self.saving is not None)}
         return {'panel': self.panel, 'image': self.image, 'second': self.second, 'unsaved': unsaved, 'errors': 0, **bars,

@@ -1,4 +1,4 @@
-// Earlier releases of the page, by their SHA-256.
+// Earlier releases of the page by their SHA-256.
 
 import assert from 'node:assert/strict';
 import { createHash } from 'node:crypto';

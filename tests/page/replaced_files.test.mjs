@@ -8,14 +8,14 @@ const { ReplacedFiles, linesIn, linesReplacing } = await page('app/replaced_file
 const { ScriptLines } = await page('app/script_lines.js');
 
 const image = imageOf(Array.from({ length: 9 }, () => []));
-/** A file in block 5, whose length stands in block 1. */
+/** A file in block 5; block 1 contains its length. */
 const PLACES = [{ block: 5, offset: 0, size: 2048 }, { block: 1, offset: 10, size: 8 }];
 const OWN = ['set 5 0 41 was 00', 'set 1 10 0100 was 0000', 'set 5 2047 41 was 00'];
 const LATER = ['set 5 0 42 was 00', 'set 5 0 43 was 41'];
 const OTHERS = ['set 5 30 44 was 01', 'set 5 9 43', 'set 5 2047 4141 was 0000', 'fill 5 20 2 07'];
 const TEXT = ['cdpatch 1', '# mine', ...OWN, ...LATER, ...OTHERS, 'set 6 0 41 was 00', 'rebuild 5', ''].join('\n');
 
-/** The script, and the same too long to be shown. */
+/** The script, and the same script with a comment that makes it too long to be shown. */
 const scripts = () => ['', '#'.repeat(4000001)].map(comment => {
     const script = new ScriptLines(calls);
     script.take(TEXT + comment, 'mine.txt');

@@ -1,4 +1,4 @@
-// Saving: what goes to a sink or into a Blob, and what is left after a fault or a cancel.
+// Saving: the bytes that go to a sink or into a Blob, and the state after an error or a cancel.
 
 import assert from 'node:assert/strict';
 import { test } from 'node:test';
@@ -14,7 +14,7 @@ const reader = { size: old.length, read: async (at, length) => old.slice(at, at 
 
 const MiB = 2 ** 20;
 
-/** A file of three regions, the second with patched bytes near each other and apart, the third almost wholly patched. */
+/** A file of three regions: the second has patches close together and far apart, the third is almost completely patched. */
 const long = new Blob([Uint8Array.from({ length: 34 * MiB }, (_, i) => i % 251)]);
 const longReader = { size: long.size, file: long, read: async (at, length) => new Uint8Array(await long.slice(at, at + length).arrayBuffer()) };
 const patchAt = (at, size) => ({ at: Math.floor(at * MiB), bytes: new Uint8Array(size).fill(255) });
@@ -25,10 +25,10 @@ const DONE = [16 * MiB, 32 * MiB, 34 * MiB];
 const patched = Buffer.from(await long.arrayBuffer());
 for (const { at, bytes } of [first, near, apart, last]) patched.set(bytes, at);
 
-/** What is written, as it is then: its bytes may change after that. A Blob cannot change, and node 18 loses bytes in a slice of one that was joined. */
+/** Copies a write, since its bytes may change later. A Blob cannot change, and node 18 loses bytes in a slice of a joined Blob. */
 const kept = write => ({ ...write, data: write.data instanceof Blob ? write.data : write.data.slice() });
 
-/** A file that fails at a write (from 0), at the end (`close`), or not. */
+/** A file that fails at a write (counted from 0), at the end (`close`), or never. */
 function sinkOf(failing) {
     const sink = { written: [], state: 'open', writes: 0 };
     sink.write = async write => {
@@ -43,7 +43,7 @@ function sinkOf(failing) {
     return sink;
 }
 
-/** Saves pieces, whose bytes are others when they are taken, and returns how far each write has come. */
+/** Saves pieces whose bytes are overwritten once accepted, and returns the progress after each write. */
 async function saved(sink, watch = {}, source = longReader, parts = longPieces) {
     const done = [];
     const make = async take => {
@@ -71,7 +71,7 @@ test('a region goes out by one write, of parts of the file and what is patched b
     assert.deepEqual(sink.written.map(({ data }) => data.size ?? `${data.length} bytes`), [16 * MiB, 16 * MiB, `${2 * MiB} bytes`]);
     const parts = [0, 16 * MiB, 16 * MiB, first.at, near.at + 9, apart.at, apart.at + 3, 32 * MiB];
     const read = [first.at + 7, near.at, 32 * MiB, last.at];
-    // `kept` makes one slice more of each write.
+    // `kept` makes one more slice of each write.
     assert.deepEqual(slices.mock.calls.flatMap(({ arguments: its }) => its).sort((a, b) => a - b), [...parts, ...read].sort((a, b) => a - b));
     assert.ok(patched.equals(await writtenBy(sink.written)));
     assert.equal(sink.state, 'closed');

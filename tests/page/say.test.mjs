@@ -1,4 +1,4 @@
-// What the page says of an error.
+// The page's messages about errors.
 
 import assert from 'node:assert/strict';
 import { test } from 'node:test';
@@ -36,7 +36,7 @@ test('want of memory is said as that, whichever browser or worker has met it', c
 
 const { shownName, shownPaths, stemOf } = await page('ui/names.js');
 
-/** What stands in elements, each in brackets. */
+/** The text of nodes, with that of elements in angle brackets. */
 const textOf = list => list.map(it => typeof it === 'string' ? it : `<${it.text}>`).join('');
 globalThis.Node = class {};
 globalThis.document = { createElement: () => ({ text: '', append(...parts) { this.text += parts.join(''); } }) };

@@ -1,4 +1,4 @@
-// The lines of the script: what each has, as the module reads it, edits and their undoing, and what is wrong.
+// The lines of the script: their content as the module reads it, edits, undo, and faults.
 
 import assert from 'node:assert/strict';
 import { test } from 'node:test';
@@ -83,7 +83,7 @@ test('a long script is read in parts, with a turn for others between them, as al
         let turns = 0;
         const known = await modelInParts(calls, text, async () => {
             turns += 1;
-            calls.hold(new Uint8Array(9)); // what others do meanwhile
+            calls.hold(new Uint8Array(9)); // as other calls do in the meantime
         });
         assert.equal(turns, 2);
         const [lines, due] = [linesOf('cdpatch 1\nrebuild 1\n'), linesOf(text)];
@@ -157,7 +157,7 @@ test('a line that is refused after another has written its place names that one'
     const differ = [outcome(3, 5, 7, 9), outcome(4, 5, 7, 8), outcome(6, 5, 9, 0)];
     lines.setOutcomes([outcome(2, 0, 7, 8), outcome(5, 0, 7, 8), ...differ]);
     assert.deepEqual(differ.map(it => lines.writerBefore(it)), [2, 2, 0]);
-    // Not if a later check has refused that one too.
+    // No line, if a later check has refused that one too.
     lines.setOutcomes([outcome(2, 5, 7, 8), ...differ]);
     assert.deepEqual(differ.map(it => lines.writerBefore(it)), [0, 0, 0]);
 });

@@ -1,4 +1,4 @@
-// Lines in plain words, and help for faults and refusals.
+// Script lines in plain words, and help for faults and refusals.
 
 import assert from 'node:assert/strict';
 import { test } from 'node:test';

@@ -1,4 +1,4 @@
-// The search of the page is the task of the core: it finds a text over two extents of a file.
+// The page's search is the core's: it finds a text that crosses two extents of a file.
 
 import assert from 'node:assert/strict';
 import { test } from 'node:test';

@@ -1,4 +1,4 @@
-// The bytes of a sector after the script.
+// The bytes of a sector after the script was applied.
 
 import assert from 'node:assert/strict';
 import { test } from 'node:test';

@@ -1,4 +1,4 @@
-// What is said of sectors: the bytes at which broken codes cross, and findings grouped into places.
+// Messages about sectors: the bytes where broken codes cross, and findings grouped into places.
 
 import assert from 'node:assert/strict';
 import { test } from 'node:test';
@@ -22,7 +22,7 @@ test('a place ends if 700 sectors follow without a finding', () => {
     assert.equal(placesOf({ marks, known: 5000 }).length, 3);
 });
 
-/** What is found in ten sectors with these addresses, of which some are damaged. */
+/** The survey of ten sectors with these addresses, some of which are damaged. */
 function marksOf(base, addresses, damaged = []) {
     const records = new Uint8Array(60);
     addresses.forEach((address, i) => records.set([2, Number(address !== base + i), 0, Number(damaged.includes(i)), 0, 0], 6 * i));
@@ -58,13 +58,13 @@ test('a few sectors side by side are called a row, and what has gaps single sect
 
 test('only what is about a turn apart is called a scratch', () => {
     const known = 300000;
-    /** What is guessed of 40 damaged sectors at a distance. */
+    /** The guessed cause of 40 damaged sectors at equal distances. */
     const guessed = (first, distance, count = 40) => {
         const marks = new Uint8Array(known);
         for (let i = 0; i < count; i++) marks[first + i * distance] = MARK.EDC;
         return placesOf({ marks, known }).map(place => [placeGuess(place, false, known), isAllOver(place, known)]);
     };
-    // A turn has 9 sectors at the beginning of a disc, and 21 at its end.
+    // One turn of a disc has 9 sectors at its beginning, and 21 at its end.
     assert.deepEqual(guessed(100, 9), [['a scratch: every 9th sector', false]]);
     assert.deepEqual(guessed(280000, 21), [['a scratch: every 21st sector', false]]);
     for (const [first, distance, words] of [[100, 21, '21st'], [280000, 9, '9th'], [280000, 34, '34th'], [100, 541, '541st']]) {

@@ -1,4 +1,4 @@
-// What is said of failures and remarks of the core, where it is more than a text with facts in it.
+// The sentences for the core's failures and remarks that are more than a text with facts inserted.
 
 import assert from 'node:assert/strict';
 import { test } from 'node:test';

@@ -1,4 +1,4 @@
-// Starts the page from its modules as they are, which a loopback server gives with the repository as its root.
+// Starts the page from its source modules, which a loopback server serves with the repository as its root.
 
 import { startPage } from '/web/page/main.js';
 

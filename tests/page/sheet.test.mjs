@@ -1,4 +1,4 @@
-// Cue sheets in which files get other names.
+// Cue sheets whose files get new names.
 
 import assert from 'node:assert/strict';
 import { test } from 'node:test';

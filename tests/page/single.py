@@ -1,4 +1,4 @@
-"""Runs one test of the page by its name, on a page that is given: tests/wrong/versions.py tries wrong pages this way."""
+"""Runs one test of the page by its name on a given page: tests/wrong/versions.py tries wrong pages this way."""
 
 import functools
 import importlib
@@ -12,14 +12,14 @@ HERE = Path(__file__).resolve().parent
 
 
 def named(kind: str, method: str) -> str:
-    """The name of a test as a person reads it: 'script: it applies what it checked'."""
+    """The readable name of a test, such as 'script: it applies what it checked'."""
     return f"{kind.lower()}: {method.removeprefix('test_').replace('_', ' ')}"
 
 
 @functools.cache
 def all_tests() -> dict[str, tuple[type[unittest.TestCase], str]]:
-    """The class and the method of each test, by its name."""
-    # `pages` is a module of tools/ too.
+    """The class and the method of each test, by its readable name."""
+    # tools/ has a module named `pages` too.
     sys.path.insert(0, str(HERE))
     modules = [importlib.import_module(file.stem) for file in HERE.glob('test_*.py')]
     kinds = [it for module in modules for it in vars(module).values() if isinstance(it, type) and issubclass(it, unittest.TestCase)]
@@ -27,7 +27,7 @@ def all_tests() -> dict[str, tuple[type[unittest.TestCase], str]]:
 
 
 def fails_on(name: str, page: Path) -> bool | None:
-    """Whether a test fails on a page, in the window of this process, or None if it is skipped."""
+    """Whether a test fails on a page, in the window of this process; None if it is skipped."""
     common.PAGE = page
     kind, method = all_tests()[name]
     result = unittest.TestResult()

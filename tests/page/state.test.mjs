@@ -1,4 +1,4 @@
-// What the page knows: typed bytes and lines of the script, and what ends its jobs.
+// The page's state: typed bytes, the script's lines, and the events that end its jobs.
 
 import assert from 'node:assert/strict';
 import { test } from 'node:test';

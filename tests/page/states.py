@@ -14,7 +14,7 @@ FAULTY = ('cdpatch 1\n# Starlit Detective: English, version 1.2\n# title screen\
           'set {0} 35 436F6E74 was 82C282C3\nset {0} 2105 5365742E was 90DD92E8\n# saving\nreplace {0} 85 5361766520\nset {0} 102 5965 was 82CD\n')
 SENTENCES = ['ゲームをはじめからスタートします。', 'セーブしますか？それともつづけますか？', 'ドアは鍵がかかっている。だれかいるのか？', '星空探偵、登場。事件はまだ終わらない。']
 
-# Reads of more than a megabyte take so long, and workers can read nothing, so that the page reads for them.
+# Delays reads of more than a megabyte by `slow` milliseconds. Workers cannot read, so the page reads for them.
 SLOW = '''globalThis.slow = 4000;
 const post = Worker.prototype.postMessage;
 Worker.prototype.postMessage = function (message, ...given) {
@@ -30,13 +30,13 @@ Blob.prototype.arrayBuffer = async function () {
 
 
 def told(times: int = 6) -> bytes:
-    """An image of a volume with so many times four sentences, each with a zero byte at its end, which are told from other bytes."""
+    """An image of a volume with `times` times four sentences, each followed by a zero byte, which are recognised as texts."""
     data = b'\0'.join(text.encode('cp932') for text in SENTENCES * times) + b'\0'
     return common.image_of(common.iso_of({'DATA/MSG00.DAT': data, 'README.TXT': b'Start of the game\n' * 20}))
 
 
 def with_new(table: str, fresh: dict[int, str]) -> str:
-    """A table of texts with new ones in the rows of these numbers, from 2."""
+    """A table of texts with these new texts, by row numbers that start at 2."""
     rows = [line.split('\t') for line in table.splitlines()]
     for number, text in fresh.items():
         rows[number - 1][-1] = text
@@ -44,35 +44,35 @@ def with_new(table: str, fresh: dict[int, str]) -> str:
 
 
 def dat_of(*dumps: tuple[str, bytes, str]) -> str:
-    """A list of known dumps, each with its name, its bytes and more attributes."""
+    """A list of known dumps (DAT), each with its name, its bytes, and additional attributes."""
     rows = ''.join(f'<game name="x"><rom name="{name}" size="{len(data)}" sha1="{common.sha1(data).upper()}" {more}/></game>' for name, data, more in dumps)
     return f'<?xml version="1.0"?><!-- a list --><!DOCTYPE datafile SYSTEM "x.dtd"><datafile>{rows}</datafile>'
 
 
 def another() -> bytes:
-    """Another release: as many blocks as the game, and other texts."""
+    """A different release: as many blocks as the game, with different texts."""
     return common.image_of([bytes([i % 256]) * 2048 for i in range(len(discs.game()) // common.SECTOR_SIZE)])
 
 
 class States(PageTest):
-    """Each method `to_NAME` reaches the state of that name, from the page as it is opened."""
+    """Each method `to_NAME` brings the page, as it is opened, into the state NAME."""
     stub = PICKER
 
     def place(self, **files: bytes | str) -> dict[str, Path]:
-        """Files in a new directory; the image `game` has the name of a dump."""
+        """Writes files to a new directory. The image `game` gets the name of a dump."""
         paths = discs.written(**files)
         if 'game' in paths:
             paths['game'] = paths['game'].rename(paths['game'].with_name(NAME))
         return paths
 
     def sheet(self, files: dict[str, Path]) -> Path:
-        """The cue sheet of the image `game`."""
+        """Writes a cue sheet for the image `game`."""
         cue = files['game'].with_suffix('.cue')
         cue.write_text(discs.sheet_of(**{NAME.removesuffix('.bin'): discs.DATA}))
         return cue
 
     def begin(self, image: bytes, script: str = '') -> dict[str, Path]:
-        """Opens an image, and a script."""
+        """Opens an image and a script."""
         files = self.place(game=image, english=script or '\n')
         self.open_image(files['game'])
         if script:
@@ -174,7 +174,7 @@ class States(PageTest):
     # ---- a second image
 
     def pair(self, first: bytes, second: bytes, answer: str = '') -> None:
-        """Opens two images, and answers what is asked of the second one."""
+        """Opens two images and answers the question what the second one is for."""
         files = self.begin(first)
         other = files['game'].with_name('Hoshizora Tantei (Japan) (Alt).bin')
         other.write_bytes(second)
@@ -341,7 +341,7 @@ class States(PageTest):
         self.browser.wait('#panel-text .say', 'No hit')
 
     def table(self, fresh: dict[int, str]) -> Path:
-        """Opens an image, and imports the table of its texts, with new ones in rows of these numbers."""
+        """Opens an image and imports the table of its texts, with new texts in the rows of these numbers."""
         image = self.begin(told())['game']
         self.browser.click('#tab-text')
         self.import_table(image, fresh)
@@ -390,7 +390,7 @@ class States(PageTest):
         self.browser.wait('#panel-publish', 'all fit')
 
     def play(self, image: bytes | None, words: str = '', script: str = '', with_sheet: bool = True) -> None:
-        """Opens a patcher for the game, and gives it an image, with its cue sheet or without."""
+        """Opens a patcher for the game, and gives it an image, with or without its cue sheet."""
         files = self.place(game=discs.game(), english=script or discs.script())
         made = applied(files['game'], files['english'])[2]
         cue = self.sheet(files)
@@ -480,11 +480,11 @@ class States(PageTest):
 
 
 def each_state(kind: type[States], judge: Callable[[Any, str], None], step: int = 1) -> None:
-    """Gives a class a test of each state, or of one in so many."""
+    """Adds to a class a test for each state, or for every `step`-th one."""
     for name in list(all_states())[::step]:
         setattr(kind, f'test_{name}', lambda self, name=name: judge(self, name))
 
 
 def all_states() -> dict[str, Callable[[States], None]]:
-    """Each state by its name, in the order of the page."""
+    """All states by name, in the order of the page."""
     return {name.removeprefix('to_'): method for name, method in vars(States).items() if name.startswith('to_')}

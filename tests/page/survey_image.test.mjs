@@ -1,4 +1,4 @@
-// The survey of an image that is opened, and again once its hashes are known: its findings are those of the task.
+// The survey of an image when it is opened, and again after hashing: its findings are those of the task.
 
 import assert from 'node:assert/strict';
 import { test } from 'node:test';
@@ -9,7 +9,7 @@ const { imageOfTrack } = await page('open/open.js');
 const { readImage } = await page('open/survey_image.js');
 const { openDisc } = await core('disc/index.js');
 
-/** The image of bytes, as the page opens it. */
+/** The image of these bytes as the page opens it. */
 async function opened(bytes) {
     const reader = { size: bytes.length, read: async (at, length) => bytes.slice(at, at + length) };
     return imageOfTrack(await openDisc(calls, [{ name: 'game.bin', reader }]), '', null);
@@ -17,7 +17,7 @@ async function opened(bytes) {
 
 test('the sectors of an image that begins before block 0 have the addresses that it says', async () => {
     const { bytes } = imageOf(Array.from({ length: 20 }, () => [1]));
-    bytes[2352 * 7 + 14] ^= 1; // an address
+    bytes[2352 * 7 + 14] ^= 1; // breaks an address
     const image = await opened(Buffer.concat([new Uint8Array(2352 * 150), bytes]));
     assert.deepEqual([image.base, image.addressed], [0, -150]);
     const app = new App(calls, summing.crew, summing.parts);

@@ -1,4 +1,4 @@
-"""For everyone: where the focus goes when something is drawn anew, and when a sheet or a note closes. tests/page/test_states.py has the rest."""
+"""Accessibility: where the focus goes after a redraw and after a dialog or a note closes. tests/page/test_states.py tests the rest."""
 
 from collections.abc import Callable
 
@@ -8,11 +8,11 @@ from keys import Keys
 from pages import BUTTON
 from states import States
 
-# What has the focus, by its name for screen readers.
+# The element that has the focus, by its name for screen readers.
 HAS_FOCUS = 'const it = document.activeElement; return it === document.body ? "" : it.id || it.innerText.replace(/\\s+/g, " ").trim()'
 
 
-# Where a finger presses a job of the first screen, beside the note.
+# The point where a finger presses a job of the first screen, beside the note.
 BESIDE = '''const { bottom } = document.querySelector('[data-aim=play]').getBoundingClientRect(), note = document.querySelector(':popover-open');
     scrollBy(0, bottom - note.getBoundingClientRect().top + 20);
     const { left, top } = document.querySelector('[data-aim=play]').getBoundingClientRect();
@@ -24,7 +24,7 @@ class Access(States):
         return str(self.browser.run(HAS_FOCUS))
 
     def press_by_key(self, label: str) -> None:
-        """Presses the first button that begins so by the keyboard."""
+        """Presses the first button whose label begins with this text, by the keyboard."""
         self.browser.run(f'const it = (() => {{ {BUTTON} }})(); it.focus()', label)
         self.browser.press(Keys.ENTER)
 

@@ -1,4 +1,4 @@
-"""How many actions each job takes: to choose files, to drop them, to press a button."""
+"""The number of actions that each job needs: choosing files, dropping them, pressing a button."""
 
 import base64
 import zlib
@@ -11,12 +11,12 @@ from pages import NO_PICKER, PageTest, applied, patcher
 SENTENCES = ['ゲームをはじめからスタートします。', 'セーブしますか？それともつづけますか？', 'ドアは鍵がかかっている。だれかいるのか？',
              '星空探偵、登場。事件はまだ終わらない。', 'この写真をどこで見つけましたか？']
 
-# Buttons that open the browser's picker do no more: a test gives the files.
+# Suppresses the browser's picker: the test provides the files.
 NO_CHOICE = f'{NO_PICKER}; HTMLInputElement.prototype.click = function () {{}};'
 
 
 def changed() -> bytes:
-    """The game as somebody has changed it."""
+    """The game after somebody has changed it."""
     files = discs.written(game=discs.game(), english=discs.script())
     return applied(files['game'], files['english'])[2]
 
@@ -33,7 +33,7 @@ class Actions(PageTest):
         self.browser.drop('#main', files)
 
     def chooses(self, button: str, *files: Path, field: str = '#files') -> None:
-        """Presses a button that opens the picker, and chooses files there."""
+        """Presses a button that opens the picker, and chooses files."""
         self.actions += 1
         self.press(button)
         self.browser.give(field, files)
@@ -51,7 +51,7 @@ class Actions(PageTest):
         self.browser.click(f'#tab-{panel}')
 
     def publishes(self) -> str:
-        """Saves the script as a patcher, and returns it."""
+        """Saves the script as a patcher, and returns its script."""
         self.opens('publish')
         self.types('#patcher-title', 'Starlit')
         common.waited(lambda: not self.is_off('Save as a patcher'), 'the patcher cannot be saved')

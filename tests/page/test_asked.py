@@ -1,4 +1,4 @@
-"""A second image is asked about before it is read, the open one can be closed, and what is dragged over the page is told what a drop does."""
+"""The page asks about a second image before reading it, closes the open image on request, and says during a drag what a drop will do."""
 
 from pathlib import Path
 
@@ -8,7 +8,7 @@ from chromium import WIDTHS
 from keys import Keys
 from pages import PICKER, UNSEEN, PageTest, patcher
 
-# How many bytes of the file `other.bin` the page reads by itself, and how many pieces of it workers are given.
+# Counts the bytes of `other.bin` that the page reads itself, and the pieces of it that workers are given.
 WATCHED = '''Object.assign(globalThis, { bytes: 0, pieces: 0 });
 const { slice } = Blob.prototype, { postMessage } = Worker.prototype;
 Blob.prototype.slice = function (from, to, ...given) {
@@ -86,7 +86,7 @@ class Asked(PageTest):
         self.browser.wait('#second-body .tally', 'can be repaired')
         self.assertFalse(self.is_asked())
         self.assertNotIn('Repair from another dump', self.browser.text('#disc-line'))
-        # Who chooses none is asked about what comes next.
+        # If no file was chosen, the page asks about the next one.
         self.setUp()
         self.open_image(files['game'])
         self.browser.run('HTMLInputElement.prototype.click = function () {}')

@@ -1,4 +1,4 @@
-"""Firefox and WebKit, once each: the page from file://, audit, apply, and a patcher; and what they read in pairs of bytes."""
+"""Firefox and WebKit, once each: opening the page from file://, audit, apply, a patcher, and the decoding of pairs of bytes."""
 
 import unittest
 from pathlib import Path
@@ -20,7 +20,7 @@ class Browsers(unittest.TestCase):
         common.waited(lambda: bool(browser.run(script, text)), f'no button {text}')
 
     def whole(self, browser: Browser) -> None:
-        """Opens, audits, applies; and a patcher, which is a player's."""
+        """Opens an image, audits it, and applies a script; then plays a patcher."""
         self.addCleanup(browser.quit)
         files = discs.written(game=discs.scratched(), other=discs.game(), english=discs.refused())
         out = applied(files['game'], files['english'])[2]

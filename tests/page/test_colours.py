@@ -1,4 +1,4 @@
-"""The colours of the page: each is easy to read on every colour behind it, in both schemes."""
+"""The colours of the page: each is legible on every colour behind it, in both schemes."""
 
 import math
 import re
@@ -11,7 +11,7 @@ MARKS = ['k-mode1', 'k-nosync', 'k-mode2', 'k-mode0', 'k-other']
 FIELDS = ['h-sync', 'h-header', 'h-edc', 'h-zeros', 'h-p', 'h-q']
 GROUNDS = ['panel', 'bg', 'sunk', 'soft', 'good-soft', 'bad-soft', 'warn-soft']
 FINDINGS = ['f-edc', 'f-parity', 'f-address', 'f-lost']
-# What a colour of the style is for, on which others it stands, and the least contrast there: 4.5 of text, 3 of what is no text.
+# The use of each colour, its name, the colours behind it, and the least contrast with them: 4.5 for text, 3 for anything else.
 COLOURS: list[tuple[str, str, list[str], float]] = [
     ('text', 'ink', GROUNDS, 4.5),
     ('second text', 'ink2', GROUNDS, 4.5),
@@ -33,7 +33,7 @@ COLOURS: list[tuple[str, str, list[str], float]] = [
     ('the ring of a byte that may be wrong', 'f-edc', ['panel', *FIELDS], 3),
     ('a byte of the second image', 'f-parity', ['panel'], 4.5),
 ]
-# What only parts one area from another.
+# Colours that only separate areas.
 QUIET = ['line', 'h-user']
 
 
@@ -44,7 +44,7 @@ def style_of(page: Path) -> str:
 
 
 def colours_of(style: str) -> dict[str, tuple[str, str]]:
-    """The colours of a style by their names, in the light and in the dark scheme."""
+    """The colours of a style by name, for the light and the dark scheme."""
     light, dark = (dict(re.findall(r'--([a-z0-9-]+): ?(#[0-9a-f]{3,6}|transparent)\b', part))
                    for part in re.split(r'@media \(prefers-color-scheme: ?dark\)', style)[:2])
     return {name: (colour, dark.get(name, colour)) for name, colour in light.items()}
@@ -58,7 +58,7 @@ def luminance(colour: str) -> float:
 
 
 def contrast(one: str, other: str) -> float:
-    """As WCAG defines it."""
+    """The contrast of two colours as defined by WCAG."""
     low, high = sorted(luminance(colour) for colour in (one, other))
     return (high + 0.05) / (low + 0.05)
 

@@ -1,4 +1,4 @@
-"""The panel Disc: opening, the map, findings, the program's texts, a sector and what is typed there."""
+"""The panel Disc: opening, the map, findings, the program's texts, a sector, and typing into it."""
 
 import math
 import random
@@ -18,7 +18,7 @@ from sector import SYNC
 VERDICT = '#disc-line .lead'
 SECTORS = len(discs.game()) // SECTOR_SIZE
 
-# Counts the bytes of files that the page reads, or has its workers read.
+# Counts the bytes of files that the page reads or has its workers read.
 READ = '''globalThis.bytesRead = 0;
 const { arrayBuffer } = Blob.prototype, { read } = ReadableStreamDefaultReader.prototype, { postMessage } = Worker.prototype;
 Blob.prototype.arrayBuffer = function () {
@@ -35,7 +35,7 @@ Worker.prototype.postMessage = function (message, ...given) {
     return postMessage.call(this, message, ...given);
 };'''
 
-# Reads of one sector, by which the page looks for files, wait once findings are shown.
+# Delays reads of single sectors, by which the page looks for files, once findings are shown.
 HELD_SECTORS = '''const { arrayBuffer } = Blob.prototype, gate = new Promise(done => { globalThis.openGate = done; });
 Blob.prototype.arrayBuffer = async function () {
     if (this.size === 2352 && document.querySelector('#findings tbody td')) await gate;
@@ -44,7 +44,7 @@ Blob.prototype.arrayBuffer = async function () {
 
 
 def scratched(tail: bytes = b'') -> bytes:
-    """The game with nine damaged sectors, one with another address, two without a sync field, a little audio and a tail."""
+    """The game with nine damaged sectors, one with a wrong address, two without a sync field, and then some audio and a tail."""
     image = bytearray(discs.game())
     for block in range(30, 66, 4):
         for at in range(3):
@@ -66,7 +66,7 @@ class Disc(PageTest):
     stub = ''
 
     def opened(self, *paths: Path) -> chromium.Chromium:
-        """The page, which was just opened, with these files, read to the end."""
+        """Opens these files in the new page, and waits until they have been read."""
         browser = self.browser
         browser.give('#files', paths)
         browser.wait(VERDICT, 'Mode 1')
@@ -79,7 +79,7 @@ class Disc(PageTest):
         return int(self.browser.run("return document.querySelector('#map').getAttribute('aria-valuenow')"))
 
     def typed_script(self) -> str:
-        """The script in its panel, as it is saved."""
+        """Saves the script of the panel Script, and returns it."""
         self.browser.click('#tab-script')
         return self.script_text()
 
@@ -232,7 +232,7 @@ class Disc(PageTest):
         self.assertNotIn('shift_jis', self.browser.run('return labels'))
 
     def test_the_style_is_that_of_the_sources(self) -> None:
-        """What esbuild squeezes has the same rules."""
+        """Compares the rules of the packed page, which esbuild has minified, with those of the source."""
         rules = '''const source = new CSSStyleSheet(); source.replaceSync(arguments[0]);
             const text = rule => rule.cssText.replace(/,\\s+/g, ',');
             return [source, document.styleSheets[0]].map(sheet => [...sheet.cssRules].map(text))'''
@@ -357,7 +357,7 @@ class Disc(PageTest):
         self.assertEqual(self.at(), row)
 
     def pixels(self, colour: str) -> list[list[int]]:
-        """The places of the pixels of a colour of the style on the map."""
+        """The pixels of the map that have a colour of the style."""
         found: list[list[int]] = self.browser.run('''const map = document.querySelector('#map');
             const colour = getComputedStyle(document.documentElement).getPropertyValue(arguments[0]).trim();
             const want = [1, 3, 5].map(at => parseInt(colour.slice(at, at + 2), 16));

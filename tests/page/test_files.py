@@ -1,4 +1,4 @@
-"""The tab Files of the panel Disc: what is listed, saved and replaced, beside what cdscript prints and writes; and the tracks of a cue sheet."""
+"""The tab Files of the panel Disc, compared with cdscript: listed, saved, and replaced files, and the tracks of a cue sheet."""
 
 from pathlib import Path
 
@@ -18,7 +18,7 @@ def many() -> bytes:
 
 class Files(PageTest):
     def begin(self, image: bytes) -> Path:
-        """Opens an image, and shows its files."""
+        """Opens an image and shows its files."""
         path = discs.written(game=image)['game']
         self.open_image(path)
         self.browser.click('#findings [data-tab=files]')
@@ -29,19 +29,19 @@ class Files(PageTest):
         return list(self.browser.run(SHOWN))
 
     def choose(self, name: str) -> None:
-        """Chooses a file by its row."""
+        """Selects a file by its row."""
         self.press(name)
         self.browser.wait('#findings .row b', name)
 
     def give(self, data: bytes) -> Path:
-        """Replaces the chosen file."""
+        """Replaces the selected file."""
         path = common.folder('fresh') / 'fresh.dat'
         path.write_bytes(data)
         self.browser.give('#findings input[type=file]', [path])
         return path
 
     def script_of(self, image: Path, fresh: Path) -> str:
-        """What cdscript writes."""
+        """The lines that cdscript prints."""
         return common.cdscript_prints('replace-file', image, MESSAGES, fresh)
 
     def test_the_files_are_those_that_cdscript_lists(self) -> None:

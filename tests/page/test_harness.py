@@ -1,4 +1,4 @@
-"""That the harness does what the tests of the page rely on, with a page of its own."""
+"""Tests the harness itself, with a page of its own."""
 
 import unittest
 from pathlib import Path
@@ -29,7 +29,7 @@ save.onclick = () => {
 
 
 def files() -> tuple[Path, list[Path]]:
-    """The page, and two files."""
+    """Writes the page and two files."""
     place = common.folder('harness')
     page = place / 'harness.html'
     page.write_text(HTML)
@@ -89,7 +89,7 @@ class Harness(unittest.TestCase):
                  'socket': 'new WebSocket("ws://127.0.0.1:9/socket")', 'beacon': 'navigator.sendBeacon("http://127.0.0.1:9/beacon")'}
         browser.open(page)
         self.assertEqual(browser.attempts(), [])
-        # More of a try may be logged while the next one is made, so each is known by its name.
+        # An attempt may be logged while the next one runs, so each has its own name.
         for name, script in tries.items():
             with self.subTest(name):
                 browser.open(page)

@@ -1,4 +1,4 @@
-"""The bytes of a sector: what is selected, copied and pasted, texts that are typed, and how offsets are shown."""
+"""The bytes of a sector: selection, copy and paste, typing of texts, and the display of offsets."""
 
 import chromium
 import discs
@@ -7,7 +7,7 @@ from keys import Keys
 from pages import CLIPBOARD, PageTest
 
 
-# How many rows the tools of a sector take.
+# The number of rows that the tools of a sector occupy, and the number of tools.
 TOOL_ROWS = '''const tools = [...document.querySelector('#go-to').closest('header').querySelectorAll('input, select, button')];
     const middles = tools.filter(it => it.checkVisibility() && !it.matches('.term')).map(it => it.getBoundingClientRect())
         .map(({ top, bottom }) => Math.round((top + bottom) / 8));
@@ -16,7 +16,7 @@ TOOL_ROWS = '''const tools = [...document.querySelector('#go-to').closest('heade
 
 class Hex(PageTest):
     def sector_of(self, block: int, image: bytes) -> chromium.Chromium:
-        """Opens a sector of an image, whose bytes get the focus."""
+        """Opens a sector of an image, and focuses its bytes."""
         browser = self.browser
         self.open_image(discs.written(game=image)['game'])
         self.go_into(block)
@@ -60,7 +60,7 @@ class Hex(PageTest):
         browser.wait('#panel-script .say.good', '2 changes, all fit')
 
     def copied(self) -> str:
-        """What Ctrl+C copies."""
+        """The text that Ctrl+C copies."""
         script = '''const data = new DataTransfer();
             document.activeElement.dispatchEvent(new ClipboardEvent('copy', { clipboardData: data, cancelable: true, bubbles: true }));
             return data.getData('text/plain')'''

@@ -1,4 +1,4 @@
-"""Hostile patchers: none runs a script, asks for anything, ends the page or leaves a file, opened or given to the genuine page."""
+"""Hostile patchers, opened or given to the genuine page: none runs a script, sends a request, ends the page, or leaves a file."""
 
 from collections.abc import Iterable
 
@@ -23,14 +23,14 @@ class Hostile(PageTest):
         cls.server.close()
 
     def opened(self, files: Iterable[tuple[str, bytes]]) -> None:
-        """Opens patchers with the genuine page, each by itself."""
+        """Opens each patcher with the genuine page by itself."""
         walk = hostile.Walk(self.browser, self.server)
         for name, text in files:
             walk.open(name, common.PAGE.read_bytes() + text)
         self.judged(walk)
 
     def given(self, files: Iterable[tuple[str, bytes]]) -> None:
-        """Gives files to the genuine page."""
+        """Gives the files to the genuine page."""
         walk = hostile.Walk(self.browser, self.server)
         for number, (name, text) in enumerate(files):
             if number % OPENED_ANEW == 0:
@@ -65,7 +65,7 @@ class Hostile(PageTest):
         self.given(hostile.pages(self.server.url))
 
     def test_the_corpus_is_seen_where_it_runs(self) -> None:
-        """A page whose script runs is not quiet: so the corpus would show it."""
+        """A page whose script runs is detected, so the corpus would detect it."""
         path = common.folder('ran') / 'ran.html'
         path.write_bytes(dict(hostile.pages(self.server.url))['page-bare'])
         browser = chromium.shared()

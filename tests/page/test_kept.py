@@ -1,4 +1,4 @@
-"""Nothing is lost: what runs is ended only by its own Cancel, a script in no file stays unsaved, and a bar stays until its job ends."""
+"""Nothing is lost: only its own Cancel ends a job, an unsaved script stays unsaved, and a progress bar stays until its job ends."""
 
 from pathlib import Path
 
@@ -9,11 +9,11 @@ from pages import GATE, HELD, PICKER, PageTest, applied, patcher
 
 
 def repairable() -> tuple[bytes, bytes]:
-    """A dump with two damaged sectors, and a sound one."""
+    """A dump with two damaged sectors, and an undamaged dump."""
     return common.damaged(common.damaged(discs.game(), 40), 60), discs.game()
 
 
-# Presses the button that closes the open image or the second one, in the part of the page with this name.
+# Presses the button that closes the open image or the second one, in the part of the page with this id.
 CLOSE = 'document.getElementById(arguments[0]).querySelectorAll("button").forEach(it => { if (it.textContent.startsWith("Close")) it.click(); })'
 
 
@@ -24,7 +24,7 @@ class Kept(PageTest):
         return str(self.browser.run('return chosen.state'))
 
     def repairs(self) -> dict[str, Path]:
-        """Opens two dumps, and begins to save the repaired one."""
+        """Opens two dumps, and starts saving the repaired one."""
         first, second = repairable()
         files = discs.written(first=first, second=second, third=common.damaged(second, 90))
         self.open_image(files['first'])
@@ -42,7 +42,7 @@ class Kept(PageTest):
         return files
 
     def ends_well(self, due: bytes) -> None:
-        """The save that was begun ends with the right bytes."""
+        """Lets the save end, and compares the bytes."""
         self.browser.run('chosen.release()')
         common.waited(lambda: self.state() in ('closed', 'aborted'), 'the save does not end')
         self.assertEqual(self.state(), 'closed')

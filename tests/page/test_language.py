@@ -1,5 +1,5 @@
-"""A translation of the page is one file: the page is packed with another english.js, in which each letter has a mark, and taken through its
-states (tests/page/states.py). A word without marks stands in code, and is none of those that no translation changes."""
+"""Packs the page with another english.js, in which each letter has a mark, and visits its states (tests/page/states.py): a translation is
+one file. A word without marks is a text in the code, unless it is one of those that no translation changes."""
 
 import functools
 import os
@@ -17,16 +17,16 @@ import pack  # noqa: E402
 
 MARK = '\u0323'
 
-# Each state is a test, or one in so many.
+# Tests every `STEP`-th state.
 STEP = int(os.environ.get('LANGUAGE_STEP', '1'))
 
-# Code, lines of a script, commands, tables of bytes, what the program prints, and names of files.
+# Code, lines of a script, commands, tables of bytes, the program's output, and names of files.
 SKIPPED = 'script, style, #data, .src, .line-out, .hex, .log, .report, .notices, bdi'
 
-# What stands there in whole: names, words of a script, and commands.
+# Complete texts without marks: names, words of a script, and commands.
 WHOLE = {'cdpatch', 'carry', 'rebuild', 'was', 'cdpatch check', 'cdpatch apply', 'cdpatch audit', 'cdpatch list', 'Big5', 'Shift-JIS (CP932)'}
 
-# What stands in a text: names, hashes, lines of a script, what is of the browser, and what the tests give.
+# Parts of texts without marks: names, hashes, lines of a script, the browser's own words, and input from the tests.
 WITHIN = [
     r'\b(?=[a-f]*\d)[0-9a-f]{8,}\b', r'\b(esbuild|zlib|wasm-opt|cdpatch) [\d.]+', '^cdpatch: ', 'Shift-JIS', r'\baudit\b', r'\bset \d+ \d+ [0-9A-F]+ was [0-9A-F]+',
     r'\d and \d',  # Intl.ListFormat
@@ -34,7 +34,7 @@ WITHIN = [
     '^Continue␣*$', '^New game␣*$', r'^Set\.$', '^Cont$', '^much too long .*', '^also too long .*',
 ]
 
-# What the module and the sentences of the core say in English, by what says it.
+# English texts from the module and the core's sentences, by their source.
 CORE = {
     'Calls.faultLine': 'bad hex|offset over 2047|unknown verb|no cdpatch 1 line',
     'Calls.outcomeLine': r'(refused: )?old bytes differ at block \d+ offset \d+|no block \d+|block \d+ is damaged',
@@ -43,7 +43,7 @@ CORE = {
     'replace/no-room of sentences/english.js': r'the new text has \d+ bytes in CP932, and there is room for \d+: \d+ too many',
 }
 
-# The tests look for English, and find it as if there were no marks, in what is shown and in selectors.
+# Removes the marks from displayed text, and adds them to selectors, so that the tests can look for English.
 AS_ENGLISH = f'''const {{ get }} = Object.getOwnPropertyDescriptor(HTMLElement.prototype, 'innerText');
 Object.defineProperty(HTMLElement.prototype, 'innerText', {{ get() {{ return get.call(this).replaceAll('{MARK}', ''); }} }});
 for (const name of ['querySelector', 'querySelectorAll']) {{
@@ -53,7 +53,7 @@ for (const name of ['querySelector', 'querySelectorAll']) {{
     }};
 }}'''
 
-# All texts of the page, those that are hidden too, and what names its parts: of them those with two small letters without a mark.
+# All texts of the page, also hidden ones, and names of its parts that contain two lower-case letters in a row, that is without a mark.
 PLAIN = '''const [skipped, found] = [arguments[0], new Set()], named = ['aria-label', 'aria-valuetext', 'title', 'placeholder', 'alt', 'data-l'];
 const note = text => { if (/[a-z]{2}/.test(text)) found.add(text.trim().replace(/\\s+/g, ' ')); };
 note(document.title);
@@ -68,7 +68,7 @@ return [...found]'''
 
 
 def marked(english: str) -> str:
-    """The texts of english.js with a mark after each letter. The language stays, and names in braces."""
+    """Adds a mark to each letter in the texts of english.js, but not in LANGUAGE or in names in braces."""
     def with_marks(found: re.Match[str]) -> str:
         return found[0] if found[1] is None else re.sub(r'\{\w+\}|\\(?:u\w{4}|x\w\w|.)|([A-Za-z])', lambda it: it[0] + (MARK if it[1] else ''), found[0], flags=re.DOTALL)
 
@@ -77,7 +77,7 @@ def marked(english: str) -> str:
 
 @functools.cache
 def in_another_language(page: Path) -> Path:
-    """The page of the sources that lie beside this one, or else of this tree, in another language."""
+    """The page in another language, packed from the sources beside this page, or else from this tree."""
     web, room = page.with_name('web'), common.folder('language')
     shutil.copytree(web if web.is_dir() else common.TOP / 'web', room / 'web')
     english = room / 'web/page/texts/english.js'

@@ -11,11 +11,11 @@ import discs
 from chromium import WIDTHS
 from pages import PICKER, PageTest, patcher
 
-# 640 pixels are a screen of 1280 at 200 %.
+# 640 pixels are a screen of 1280 pixels at a zoom of 200 %.
 ALL_WIDTHS = (*WIDTHS, 640)
 LONG_NAME = f"Hoshizora Tantei - The Starlit Detective and the Case of the Missing Comet ({'Japan, ' * 4}Disc 1) (Rev 2) (Alt).bin"
 
-# The height of the facts of the open image in lines of their two rows.
+# The number of rows that the facts of the open image occupy, and the number of facts.
 FACTS = '''const dl = document.querySelector('#disc-line dl');
     return [new Set([...dl.children].map(it => Math.round(it.getBoundingClientRect().top))).size, dl.children.length]'''
 

@@ -1,4 +1,5 @@
-"""What is said stands beside what was pressed, is seen on a phone, and ends with its panel; copy buttons say so; notes open beside their word."""
+"""A message appears beside the pressed button, is visible on a phone, and ends with its panel. Copy buttons confirm; notes open beside
+their word."""
 
 import common
 import discs
@@ -6,9 +7,9 @@ from chromium import WIDTHS
 from keys import Keys
 from pages import CLIPBOARD, GATE, UNSEEN, PageTest
 
-# The words of the notes that are seen now, by their numbers among all.
+# The numbers of the words with a note that are visible now, among all such words.
 WORDS = '''return [...document.querySelectorAll('.term')].flatMap((it, i) => it.checkVisibility() && !it.closest('[popover]') ? i : [])'''
-# Opens the note of a word, and says how far it is from the word and how far out of the window.
+# Opens the note of a word, and measures how far it is from the word and outside the window.
 OPENED = '''const [number] = arguments, word = document.querySelectorAll('.term')[number];
     word.scrollIntoView({ block: 'end' });
     word.click();
@@ -73,7 +74,7 @@ class Messages(PageTest):
     # ---- copying
 
     def copies(self, css: str, label: str, begins: str) -> None:
-        """A button copies, says so, and has its own label again; also if it is drawn anew meanwhile."""
+        """Presses a copy button, which confirms and then gets its label back, even if it is drawn again meanwhile."""
         self.browser.wait(css)
         box = 'const { x, y, width, height } = document.querySelector(arguments[0]).getBoundingClientRect(); return [x + scrollX, y + scrollY, width, height]'
         self.browser.run('copied = ""')

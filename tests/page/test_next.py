@@ -1,4 +1,4 @@
-"""The next step: a script and its image are checked at once, and what was found is seen with the button that saves."""
+"""The next step: a script and its image are checked at once, and the result is visible together with the button that saves."""
 
 from pathlib import Path
 
@@ -142,7 +142,7 @@ class Next(PageTest):
             self.assertLessEqual(self.browser.run(UNSEEN, '#panel-script .side .say'), 0, width)
 
     def wait_for_saved(self) -> None:
-        """Waits until the image was saved, and its hashes are known."""
+        """Waits until the image was saved and its hashes are known."""
         saved = self.browser.downloaded('game (patched).bin')
         self.browser.wait('#saved-sha1', common.sha1(saved.read_bytes()))
         saved.unlink()
@@ -194,6 +194,6 @@ class Next(PageTest):
         common.waited(lambda: self.browser.run('return reads') > 0, 'nothing is read')
         self.browser.run('held = 0')
         self.open_script(files['english'])
-        # The check of the second script is asked for when it is drawn, some turns later.
+        # The check of the second script is requested when the script is drawn, some turns later.
         self.browser.run('await new Promise(done => setTimeout(done, 500)); openGate()')
         self.browser.wait(f'{SAID}.good', ALL_FIT)

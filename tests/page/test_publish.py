@@ -1,4 +1,4 @@
-"""Publish, and the patcher as players have it: its bytes, the four answers, what is saved, and what hostile or broken ones do."""
+"""Publish, and the patcher as players see it: its bytes, the four verdicts, the saved files, and hostile or broken patchers."""
 
 import base64
 import json
@@ -12,20 +12,20 @@ from pages import GATE, PICKER, UNSEEN, PageTest, applied, patcher
 CUE = discs.sheet_of(game=discs.DATA)
 HOSTILE = '<img src=x onerror=alert(1)>'
 
-# What an extension does that gives pages a style of its own: before all others, or after them.
+# Adds a style to the page as a browser extension does, before or after the page's own.
 FOREIGN = '''const it = document.createElement('style');
     it.textContent = 'body { filter: invert(1) }';
     document.head[arguments[0]](it)'''
 
 
 def result() -> bytes:
-    """What the author's script makes of the game."""
+    """The game after the author's script was applied."""
     files = discs.written(game=discs.game(), english=discs.script())
     return applied(files['game'], files['english'])[2]
 
 
 def data_of(saved: bytes) -> dict[str, Any]:
-    """What stands after the page in a patcher."""
+    """The data after the page in a patcher."""
     packed = saved[len(common.PAGE.read_bytes()):].split(b'\n')[1]
     head, script = zlib.decompress(base64.b64decode(packed)).split(b'\n', 1)
     return {**json.loads(head), 'script': script.decode()}
@@ -33,7 +33,7 @@ def data_of(saved: bytes) -> dict[str, Any]:
 
 class Publish(PageTest):
     def publish(self, *files: str) -> None:
-        """Opens the game with a script, and writes the title."""
+        """Opens the game with a script, and types the title."""
         paths = discs.written(game=discs.game(), english=discs.script())
         cue = paths['game'].with_suffix('.cue')
         cue.write_text(CUE)
@@ -104,7 +104,7 @@ class Publish(PageTest):
         self.assertEqual([it.name for it in self.browser.downloads.iterdir()], ['img src=x onerror=alert(1).html'])
 
     def refuses_changed(self, change: str, *given: str) -> None:
-        """A page that a script has changed saves no patcher, and says why."""
+        """Checks that a page changed by a script saves no patcher, and says why."""
         self.publish()
         self.browser.run(change, *given)
         self.press('Save as a patcher')
@@ -222,7 +222,7 @@ class Player(PageTest):
         self.assertEqual(common.waited(saved.read_text, 'the cue sheet is empty'), sheet.read_text())
 
     def saves_sheet(self, label: str, file: str) -> None:
-        """Patches the image, and saves a cue sheet that names the new one by its stem."""
+        """Patches the image, and saves a cue sheet that names the patched image by its stem."""
         self.press('Patch and save')
         self.press(label)
         saved = self.browser.downloaded('Starlit (English).cue')
@@ -403,7 +403,7 @@ class Player(PageTest):
         self.assertTrue(self.browser.asks_before_leaving())
 
     def republished(self) -> bytes:
-        """What the full page saves of the patcher that is open, as the file of its image."""
+        """The patcher that the full page saves again from the open one, for the same image."""
         self.press('Open this in the full cdpatch')
         self.browser.wait('#disc-line .name', 'mine.bin')
         self.wait_for_hash()

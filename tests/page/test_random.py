@@ -19,7 +19,7 @@ from test_publish import data_of
 
 ACTIONS = int(os.environ.get('RANDOM_ACTIONS', '300'))
 SEED = int(os.environ.get('RANDOM_SEED', '1'))
-# The page is opened anew after so many.
+# The page is opened again after this many actions.
 EPISODE = 50
 
 STATE = '''const text = css => document.querySelector(css)?.textContent ?? '';
@@ -33,7 +33,7 @@ STATE = '''const text = css => document.querySelector(css)?.textContent ?? '';
         second: second && !second.closest('[hidden]:not(.panel)') ? second.textContent.replace('Second image: ', '') : '', unsaved: tag,
         asks: asked.defaultPrevented, bars: document.querySelectorAll('.progress').length, errors: caught.length,
         name: text('#panel-script header h2') }'''
-# Whether a script that fits in part was checked.
+# Whether the page offers to save with a script of which only some lines fit.
 SAVES = "[...document.querySelectorAll('#panel-script .side button')].some(it => it.checkVisibility() && it.innerText.startsWith('Save with'))"
 SPOTS = {'disc': ['#map', '.hex', '#findings button'], 'text': ['#find-text'], 'script': ['.editor textarea'],
          'publish': ['#patcher-title', '#patcher-note']}
@@ -67,7 +67,7 @@ class Random(PageTest):
             self.release()
 
     def possible(self) -> list[Callable[[], None]]:
-        """What can be done now, the likely things more than once."""
+        """The possible actions, with likely ones listed more than once."""
         model = self.model
         if model.panel == 'player':
             return [self.back_to_publish, self.leave_player]
@@ -108,13 +108,13 @@ class Random(PageTest):
             differing = {key: (found[key], value) for key, value in due.items() if found[key] != value}
             raise AssertionError(f'the page has, and the model: {differing}') from error
         if self.model.panel == 'script':
-            # A script that is opened again, with the name of the last one, takes a moment.
+            # Opening a script again under the name of the last one needs a moment.
             common.waited(lambda: '\n'.join(row.split('|')[1] for row in self.rows()) == self.model.text(), 'the lines of the script differ')
 
     # ---- opening
 
     def another(self) -> str:
-        """The name of an image that is not open: only then it is seen when it has come, and can repair the open one."""
+        """The name of an image that is not open: opening it has a visible effect, and it can repair the open one."""
         return self.dice.choice(sorted(set(self.images) - {self.model.image, self.model.second}))
 
     def give_image(self) -> None:
@@ -127,7 +127,7 @@ class Random(PageTest):
         self.browser.drop('main', [self.paths[name]])
         self.after_image(name)
 
-    # A new text for the first place of スタート.
+    # The line for a new text at the first place of スタート.
     TABLE_LINE = f"set {discs.first_block()} 0 {'Start   '.encode().hex().upper()} was {discs.START.hex().upper()}"
 
     def give_table(self) -> None:
@@ -272,7 +272,7 @@ class Random(PageTest):
         path.unlink()
 
     def back_to_check(self) -> None:
-        """Closes what is said of the last save."""
+        """Closes the message about the last save."""
         self.browser.run('''[...document.querySelectorAll("#panel-script .side button")].forEach(it => {
             if (it.innerText.startsWith("Back")) it.click() })''')
 
@@ -310,7 +310,7 @@ class Random(PageTest):
             self.assertEqual(self.browser.run('return chosen.asked'), 1)
 
     def release(self) -> None:
-        """The save that runs ends, with what the program makes."""
+        """Ends the running save, and compares the file with that of the program."""
         saving = self.model.saving
         assert saving is not None
         self.browser.run('chosen.release()')

@@ -1,4 +1,4 @@
-"""The panel Script: what is typed, faults, Check, Apply and save, and the undo script, beside what the program prints and writes."""
+"""The panel Script, compared with the program: typing, faults, Check, Apply and save, and the undo script."""
 
 import zlib
 from pathlib import Path
@@ -9,7 +9,7 @@ from keys import Keys
 from messages import MESSAGES
 from pages import BUTTON, GATE, PICKER, PageTest, applied
 
-# Counts the characters that the page encodes, the texts that it decodes, the elements that it makes, and the pieces of files that it reads.
+# Counts the characters that the page encodes, the texts it decodes, the elements it creates, and the pieces of files it reads.
 COUNTED = '''globalThis.counted = {};
 const count = (owner, name, key, size) => {
     const real = owner[name];
@@ -38,7 +38,7 @@ class Script(PageTest):
         self.assertIn('english.txt: 5 of 8 changes fit game.bin, 3 do not.', self.browser.text('#panel-script .side'))
 
     def texts(self) -> list[str]:
-        """What the lines of the editor that are drawn set, as texts."""
+        """The texts that the drawn lines of the editor set."""
         return list(self.browser.run("return [...document.querySelectorAll('.editor .texts')].map(it => it.textContent)"))
 
     def test_each_line_has_its_old_and_its_new_text_beside_it(self) -> None:
@@ -203,7 +203,7 @@ class Script(PageTest):
         self.assertEqual(self.script_text(), 'cdpatch 1\nrebuild 1\nrebuild 2\n# end')
 
     def type_script(self) -> None:
-        """Writes a script of one patch."""
+        """Types a script of one patch."""
         self.edit(Keys.ARROW_DOWN, 'rebuild 1')
 
     def test_a_script_that_is_opened_does_not_lose_the_one_before_it(self) -> None:
@@ -276,7 +276,7 @@ class Script(PageTest):
         self.assertEqual(self.browser.attempts(), [])
 
     def test_a_key_in_65535_lines_asks_about_its_own_line_alone(self) -> None:
-        """What the page encodes for the module and hears from it, what it makes, and what it reads of the image."""
+        """Counts what the page exchanges with the module, the elements it creates, and the pieces of the image it reads."""
         files = discs.written(game=discs.game(), large='cdpatch 1\n' + ''.join(f'set {i % 180} {i % 2048} 4A was 4B\n' for i in range(65535)))
         self.open_image(files['game'])
         self.open_script(files['large'])
@@ -286,7 +286,7 @@ class Script(PageTest):
         self.browser.click('.editor textarea')
         self.browser.press(Keys.HOME, Keys.ARROW_DOWN)
         self.browser.run(COUNTED)
-        # The first key ends what Check has said of all lines; the third makes a fault of the line, and the last one ends it.
+        # The first key ends the results of Check for all lines; the third makes the line faulty, and the last one mends it.
         for digits in ('4A', '4C', '4', '4D'):
             counts = self.browser.run('''const area = document.querySelector('.editor textarea');
                 Object.assign(counted, { characters: 0, texts: 0, elements: 0, sectors: 0 });
@@ -395,7 +395,7 @@ class Streaming(PageTest):
     stub = PICKER
 
     def begin(self, copies: int = 1) -> dict[str, Path]:
-        """Opens a game, or copies of it one after the other, and its script."""
+        """Opens a game, or consecutive copies of it, and its script."""
         files = discs.written(game=discs.game() * copies, english=discs.script())
         self.open_image(files['game'])
         self.open_script(files['english'])

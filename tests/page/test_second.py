@@ -1,4 +1,4 @@
-"""A second image: repair from it, compare with it, or open it instead. What is saved is compared with what the program says of it."""
+"""A second image: repair from it, compare with it, or open it instead. Saved files are compared with the program's output."""
 
 import math
 import random
@@ -15,7 +15,7 @@ BUTTON = "[...document.querySelectorAll('#panel-disc button')].find(it => it.che
 
 
 def with_faults(*faults: tuple[int, int]) -> bytes:
-    """The game with audio after it, and a wrong byte at each of these offsets of blocks."""
+    """The game, followed by audio, with a wrong byte at each of these block offsets."""
     image = discs.game()
     for block, offset in faults:
         image = damaged(image, block, offset)
@@ -23,13 +23,13 @@ def with_faults(*faults: tuple[int, int]) -> bytes:
 
 
 def audited(path: Path) -> set[int]:
-    """The blocks that the program's audit names."""
+    """The blocks that the program's audit lists."""
     return {int(line.split()[0]) for line in run_program('audit', path)[1].splitlines()[:-1]}
 
 
 class Second(PageTest):
     def asked(self, first: bytes, second: bytes) -> dict[str, Path]:
-        """Two files, game.bin and other.bin, which are opened one after the other."""
+        """Writes two files, game.bin and other.bin, and opens one after the other."""
         files = discs.written(game=first, other=second)
         self.open_files(files['game'])
         self.browser.wait('#disc-line .lead', 'Mode 1')
@@ -37,7 +37,7 @@ class Second(PageTest):
         return files
 
     def pair(self, first: bytes, second: bytes, shown: tuple[str, str] = ('#second-title', 'other.bin')) -> Path:
-        """Two files, and what the main button of the sheet does with them; the first one."""
+        """Opens two files, and presses the main button of the dialog. Returns the first file."""
         files = self.asked(first, second)
         self.browser.answer()
         self.browser.wait(*shown)
@@ -103,7 +103,7 @@ class Second(PageTest):
         self.browser.wait('#disc-line .name', 'game (repaired).bin')
 
     def sees_swapped(self) -> None:
-        """The one that was the second is repaired from the one that was open."""
+        """Checks that the second image is being repaired from the one that was open."""
         self.browser.wait('#disc-line .name', 'other.bin')
         self.browser.wait('#second-title', 'game.bin')
         self.browser.wait('.tally', 'can be repaired')
@@ -149,7 +149,7 @@ class Second(PageTest):
         self.browser.wait('#second-body .say.bad', said)
 
     def sees_what_differs(self, first: bytes, second: bytes, block: int) -> None:
-        """Opens the sector of a row, in which the bytes that differ are marked and those of the second image stand."""
+        """Opens the sector of a row, and checks that different bytes are marked, with those of the second image beside them."""
         self.press(str(block))
         self.browser.wait('#sector-title', f'block {block}')
         differ = [at for at in range(SECTOR_SIZE) if first[block * SECTOR_SIZE + at] != second[block * SECTOR_SIZE + at]]
@@ -292,7 +292,7 @@ class Second(PageTest):
         self.sees_second(40, 'other.bin has a sound copy: it will be taken.')
 
     def sees_second(self, block: int, words: str) -> None:
-        """Opens a sector, of which this is said."""
+        """Opens a sector, and waits for this message about it."""
         self.go_to(block)
         self.browser.wait('#panel-disc .say', words)
 

@@ -1,4 +1,4 @@
-"""That the page sends nothing: what the browser saw of a whole walk through it, its policy, and the words of its text."""
+"""The page sends nothing: the browser's log of a complete walk, the policy, and the words of the page's own text."""
 
 import base64
 import hashlib
@@ -15,7 +15,7 @@ POLICY = ("default-src 'none'; script-src 'sha256-{script}' 'wasm-unsafe-eval'; 
           "img-src data: blob:; connect-src 'none'; form-action 'none'; base-uri 'none'; require-trusted-types-for 'script'; "
           "trusted-types cdpatch")
 
-# What the policy does not stop, or what nothing here needs. The page's own text has none of it.
+# Ways to send that the policy does not stop, or that the page does not need. Its own text has none of them.
 SENDING = [r'\bfetch\s*\(', 'XMLHttpRequest', 'WebSocket', 'EventSource', 'WebTransport', 'RTCPeerConnection', 'sendBeacon', 'importScripts',
            r'\blocation\s*=', r'location\.(href|replace|assign)\b', r'window\.open\b', r'\.submit\s*\(', r'\.src\s*=', r'\.action\s*=',
            'serviceWorker', r'\beval\s*\(', r'new Function\b', 'innerHTML', 'outerHTML', 'insertAdjacentHTML', r'document\.write\b',
@@ -29,7 +29,7 @@ def page() -> str:
 
 
 def part(tag: str) -> str:
-    """What stands in the page's one script, or style."""
+    """The content of the page's one script or style."""
     found = re.findall(rf'<{tag}>(.*?)</{tag}>', page(), re.DOTALL)
     assert len(found) == 1, f'{len(found)} of {tag}'
     return str(found[0])
@@ -43,7 +43,7 @@ class Sending(PageTest):
     stub = NO_PICKER
 
     def walk(self) -> None:
-        """Opens, searches, replaces, checks, saves and publishes."""
+        """Opens, searches, replaces, checks, saves, and publishes."""
         self.open_image(discs.written(game=discs.game())['game'])
         self.find()
         self.browser.type('#new-text', 'Start')
@@ -107,7 +107,7 @@ class Sending(PageTest):
 
 class Policy(PageTest):
     def test_it_stops_what_an_altered_page_would_send(self) -> None:
-        """A copy whose script may not run makes no request, whatever it says."""
+        """A copy whose script must not run sends no request, whatever the script contains."""
         tries = b'fetch("http://127.0.0.1:9/");new Image().src="http://127.0.0.1:9/";new RTCPeerConnection();location="http://127.0.0.1:9/";'
         path = common.folder('altered') / 'altered.html'
         path.write_bytes(patcher(discs.game(), b'', 'cdpatch 1\nrebuild 0\n').replace(b"'use strict';", tries + b"'use strict';", 1))

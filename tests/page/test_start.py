@@ -1,4 +1,4 @@
-"""The first screen: it is seen whole, says nothing twice, and its three jobs lead to their panels."""
+"""The first screen: it is completely visible, says nothing twice, and its three jobs lead to their panels."""
 
 from pathlib import Path
 
@@ -7,13 +7,13 @@ import discs
 from chromium import WIDTHS
 from pages import PageTest, applied, patcher
 
-# What is below the window, and what stands twice among the sentences that are shown.
+# The texts below the window, and those that occur twice among the visible sentences.
 BELOW = '''return [...document.querySelectorAll('header *, main *, footer *')].filter(it => it.checkVisibility() && it.children.length === 0 &&
     it.getBoundingClientRect().bottom > innerHeight && !it.closest('.hide, [popover]')).map(it => it.innerText)'''
 TWICE = '''const sentences = [...document.querySelectorAll('h1, p, b, button, span')].filter(it => it.checkVisibility() && !it.closest('.hide'))
         .flatMap(it => [...it.childNodes]).filter(it => it.nodeType === 3).flatMap(it => it.nodeValue.split(/[.:;]/)).map(it => it.trim().toLowerCase());
     return sentences.filter((it, i) => it.length > 2 && sentences.indexOf(it) < i)'''
-# Counts how often the browser is asked to let the user choose files.
+# Counts how often the page opens the picker for files.
 ASKED = 'globalThis.asked = 0; HTMLInputElement.prototype.click = function () { globalThis.asked += Number(this.id === "files"); }'
 
 
@@ -46,7 +46,7 @@ class Start(PageTest):
                 self.browser.wait('#wanted', words)
                 self.assertIn(words, self.browser.text('#announced'))
                 self.assertEqual(self.browser.run('return asked'), 1)
-        # The job stays, for who presses the button below it.
+        # The job stays selected when the button below it is pressed.
         self.press('Open files')
         self.assertEqual(self.browser.run('return [...document.querySelectorAll(".job[aria-pressed=true]")].map(it => it.dataset.aim)'), ['repair'])
         self.assertEqual(self.browser.run('return asked'), 2)

@@ -13,23 +13,23 @@ from chromium import WIDTHS
 from keys import Keys
 from states import States, all_states, each_state
 
-# How many stops of the Tab key a state has at most, the bar and the footer among them, by the first word of its name.
+# The maximum number of Tab stops of a state, including the bar and the footer, by the first word of the state's name.
 MOST_STOPS = {'start': 13, 'publish': 28, 'player': 14}
 MOST_OF_OTHERS = 34
 
-# The lists that are shown and are more than one stop.
+# The visible lists that have more than one Tab stop.
 LISTS = '''return [...document.querySelectorAll('tbody, [role=tablist], .legend, .fields, .hex')].filter(it => it.checkVisibility()).flatMap(list => {
     const stops = [list, ...list.querySelectorAll('a, button, input, select, textarea, [tabindex]')].filter(it => it.tabIndex >= 0 && it.checkVisibility());
     return stops.length > 1 ? `${list.tagName} ${list.className} ${list.getAttribute('aria-label')}: ${stops.length}` : [];
 })'''
 
-# Puts the focus before all that can have it.
+# Moves the focus before all elements that can have it.
 FIRST = '''const first = document.createElement('button');
     (document.querySelector('dialog[open], :popover-open') || document.body).prepend(first);
     first.focus();
     first.remove();'''
 
-# What has the focus: what it is called, whether it or what it stands in has a ring, and how far it is out of the window.
+# The element that has the focus: its name, whether it or an ancestor has a ring, and how far it is outside the window.
 FOCUSED = '''const it = document.activeElement;
     if (it === document.body) return null;
     let ringed = it;
@@ -39,7 +39,7 @@ FOCUSED = '''const it = document.activeElement;
     const name = it.id || it.getAttribute('aria-label') || it.innerText || it.tagName;
     return [name, ringed !== null, width < 2 ? Infinity : Math.max(top - innerHeight, -bottom, left - innerWidth, -right)]'''
 
-# The texts whose contrast with what is behind them is less than WCAG asks for: 4.5, or 3 of large ones.
+# The texts with less contrast to their background than WCAG requires: 4.5, or 3 for large text.
 FAINT = '''const part = value => value <= 0.04045 ? value / 12.92 : ((value + 0.055) / 1.055) ** 2.4;
     const luminance = colour => [0.2126, 0.7152, 0.0722].reduce((sum, weight, i) => sum + weight * part(colour[i] / 255), 0);
     const colourOf = text => { const [red, green, blue, alpha = 1] = text.match(/[\\d.]+/g).map(Number); return [red, green, blue, alpha]; };
@@ -57,17 +57,17 @@ FAINT = '''const part = value => value <= 0.04045 ? value / 12.92 : ((value + 0.
     }
     return found'''
 
-# Roles of controls and of what a reader goes to by its name.
+# Roles that need a name: controls, and elements that a screen reader lists by name.
 NAMED = {'button', 'link', 'tab', 'textbox', 'searchbox', 'combobox', 'checkbox', 'radio', 'slider', 'spinbutton', 'listbox', 'option', 'dialog',
          'tablist', 'progressbar', 'heading', 'image', 'group', 'region', 'DisclosureTriangle'}
 
 
 class State(States):
     def judge_tree(self) -> None:
-        """Each control has a name, and each group of tabs one that is chosen."""
+        """Checks that each control has a name, and that each group of tabs has a selected one."""
         nodes = self.browser.tree()
         nameless = [node for node in nodes if node['role']['value'] in NAMED and not node.get('name', {}).get('value')]
-        # What opens by a word of its own has its name by that.
+        # An element that is opened by a labelled word gets its name from that word.
         elements = [self.browser.cdp('DOM.describeNode', backendNodeId=node['backendDOMNodeId'])['node'] for node in nameless]
         self.assertEqual([it['nodeName'] for it in elements if it['nodeName'] != 'DETAILS'], [], 'has no name')
         self.assertEqual(self.browser.nameless(nodes), [])
@@ -78,7 +78,7 @@ class State(States):
             self.assertEqual(len(chosen), 1, tabs['name']['value'])
 
     def judge_stops(self, most: int) -> None:
-        """A list is one stop; each stop is seen, with its ring; and they are few."""
+        """Checks that a list is one stop, that each stop is visible and has a ring, and that there are few."""
         self.assertEqual(self.browser.run(LISTS), [], 'are more than one stop')
         stops: list[str] = []
         self.browser.run(FIRST)

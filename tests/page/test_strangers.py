@@ -1,4 +1,4 @@
-"""What strangers send: patches that may not fit, names that mean harm, patchers that come slowly, pages that are none of cdpatch."""
+"""Input from strangers: patches that may not fit, malicious names, patchers that load slowly, and pages that are not from cdpatch."""
 
 import base64
 import hashlib
@@ -15,7 +15,7 @@ from pages import PICKER, PageTest, applied, patcher
 
 RELEASED = '6c5603e75746b25dadbf16f82d9bf4906f7eab61faa8ab702e77117f1818b872'
 FORBIDDEN = r'/[\p{Cc}\p{Cf}\p{Zl}\p{Zp}]/u'
-# What is on the page that no text of a stranger may bring there: controls and direction characters, but for the ends of lines.
+# The number of control and direction characters on the page, other than ends of lines and tabs: no foreign text may add any.
 UNSEEN = f'return [...document.body.innerText].filter(it => it !== "\\n" && it !== "\\t" && {FORBIDDEN}.test(it)).length'
 
 
@@ -25,7 +25,7 @@ def result(script: str) -> bytes:
 
 
 def bomb(size: int) -> bytes:
-    """The data of a patcher that inflate to so many bytes, a multiple of a megabyte: one deflated block again and again."""
+    """Patcher data that inflate to this size in bytes, a multiple of a megabyte: one deflated block repeated."""
     step = zlib.compressobj(9, zlib.DEFLATED, -15)
     piece = step.compress(bytes(1 << 20)) + step.flush(zlib.Z_FULL_FLUSH)
     packed = b'\x78\xda' + piece * (size >> 20)
@@ -33,7 +33,7 @@ def bomb(size: int) -> bytes:
 
 
 class SlowServer:
-    """A loopback server of one page, which comes in two parts, as over a slow line."""
+    """A loopback server for one page, which it sends in parts as over a slow connection."""
 
     def __init__(self, first: bytes, rest: bytes, seconds: float) -> None:
         class Handler(http.server.BaseHTTPRequestHandler):

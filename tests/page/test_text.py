@@ -1,4 +1,4 @@
-"""The panel Text: hits, their tags, the length gauge, and replacing into the script."""
+"""The panel Text: hits, their tags, the length gauge, and replacements in the script."""
 
 import re
 import subprocess
@@ -12,7 +12,7 @@ from pages import CLIPBOARD, PageTest, applied
 
 
 def places(text: bytes) -> list[str]:
-    """Where some bytes stand in the user data of the game, as 'block offset'."""
+    """The places of these bytes in the game's user data, as 'block offset'."""
     user = b''.join(discs.game()[at + 16:at + 2064] for at in range(0, len(discs.game()), 2352))
     found = [match.start() for match in re.finditer(b'(?=' + re.escape(text) + b')', user)]
     return [f'{at // 2048} {at % 2048}' for at in found]
@@ -20,7 +20,7 @@ def places(text: bytes) -> list[str]:
 
 class Text(PageTest):
     def find_in_game(self, text: str = 'スタート') -> None:
-        """Opens the game and finds a text by the keyboard."""
+        """Opens the game and searches for a text by the keyboard."""
         self.files = discs.written(game=discs.game())
         self.open_image(self.files['game'])
         self.browser.click('#tab-text')
@@ -158,12 +158,12 @@ class Text(PageTest):
         self.assertTrue(self.is_off('Replace'))
 
     def texts(self, texts: dict[str, str]) -> None:
-        """Opens an image with a block for each text, in the encoding by which it stands here."""
+        """Opens an image with one block for each text; the keys are their encodings."""
         self.open_image(discs.written(texts=common.image_of([text.encode(name) for name, text in texts.items()]))['texts'])
         self.browser.click('#tab-text')
 
     def replaced(self, block: int, encoding: str, old: str, new: str) -> str:
-        """The line that replaces a text at the beginning of a block, with what fills it up by default."""
+        """The line that replaces a text at the beginning of a block, with the default filler."""
         self.choose(encoding)
         self.browser.type('#find-text', old)
         self.browser.press(Keys.ENTER)
@@ -209,7 +209,7 @@ class Text(PageTest):
         self.assertEqual(decoders.differing(self.browser.run), [])
 
     def test_hits_that_may_begin_inside_a_character_are_not_added_for_all(self) -> None:
-        # In CP932 殻 is 8A6B, so that only the second and the third 'kz' begin a character.
+        # In CP932 殻 is 8A6B, so only the second and the third 'kz' begin a character.
         self.open_image(discs.written(inside=common.image_of([b'\0' + '殻z'.encode('cp932') + b'\0kz\0kz', b'', b'']))['inside'])
         self.browser.click('#tab-text')
         self.browser.click('#find-text')
@@ -222,7 +222,7 @@ class Text(PageTest):
         self.assertEqual(self.script_text(), 'cdpatch 1\nset 0 5 7878 was 6B7A\nset 0 8 7878 was 6B7A\n')
 
     def said_of_hits(self) -> list[str]:
-        """Of each hit that is shown its place, its file, and whether it may begin in the middle of a character."""
+        """The place and the file of each visible hit, and whether it may begin in the middle of a character."""
         return list(self.browser.run('''return [...document.querySelectorAll('.hits tbody tr')].map(row => {
             const doubt = [...row.querySelectorAll('.tag')].map(it => it.textContent).find(it => it.startsWith('perhaps')) || '';
             return [row.cells[0].textContent.replace(/,.*/, ''), ...[1, 2].map(i => row.cells[i].textContent), doubt].join(' ') })'''))
@@ -232,7 +232,7 @@ class Text(PageTest):
         return node.stdout.decode()
 
     def test_the_page_says_of_each_hit_what_cdscript_says_and_replaces_all_by_the_same_script(self) -> None:
-        # In CP932 殻 is 8A6B, and in UTF-16 and EUC-JP a space is not what it is there.
+        # In CP932 殻 is 8A6B; in UTF-16 and EUC-JP a space has other bytes than in ASCII.
         texts = b'\0' + '殻z'.encode('cp932') + b'\0kz\0kz'.ljust(2048, b'.') * 2 + 'スタート'.encode('utf-16-le') + 'スタート'.encode('euc-jp')
         image = discs.written(hits=common.image_of(common.iso_of({'ONE.BIN': texts, 'TWO.BIN': texts})))['hits']
         self.open_image(image)
@@ -255,7 +255,7 @@ class Text(PageTest):
         self.assertEqual(self.script_text(), script)
 
     def test_a_long_run_of_characters_says_which_hits_begin_inside_one(self) -> None:
-        # Each byte of a run of 亜 (889F) may begin a character, but the last one of 殻 (8A6B).
+        # Each byte of a run of 亜 (889F) may begin a character, but not the last byte of 殻 (8A6B).
         run = ('殻' + '亜' * 60).encode('cp932').replace(b'\x88\x9f', b'\x89\x89') + 'あ'.encode('cp932')
         self.open_image(discs.written(run=common.image_of([b'.' + run]))['run'])
         self.browser.click('#tab-text')

@@ -1,4 +1,4 @@
-"""The table of all texts of a disc, beside what cdscript prints and writes of it, and the lists of known dumps that name a disc."""
+"""The table of a disc's texts, compared with cdscript, and the lists of known dumps that name a disc."""
 
 import zlib
 from pathlib import Path
@@ -22,7 +22,7 @@ class TextsTable(PageTest):
         return common.cdscript_prints('texts', image)
 
     def table(self, image: Path, fresh: dict[int, str]) -> Path:
-        """That table with new texts in rows of these numbers, from 2."""
+        """Writes that table with new texts in the rows of these numbers, from 2."""
         path = common.folder('table') / 'mine.tsv'
         path.write_text(with_new(self.printed(image), fresh))
         return path
@@ -88,7 +88,7 @@ class TextsTable(PageTest):
             self.assertIn(words, said)
 
     def test_many_rows_leave_the_page_free(self) -> None:
-        """No task takes most of the time."""
+        """Checks that no task takes most of the time."""
         texts, rows = [], ['block\toffset\troom\tencoding\ttext\tnew']
         for number in range(6000):
             rows.append(f'{number // 64}\t{number % 64 * 32}\t31\tCP932\tゲームを始める{number:05}\tStart {number}')
@@ -141,7 +141,7 @@ class TextsTable(PageTest):
         self.give(self.table(image, {}))
         self.browser.wait('#panel-text .say.warn', common.text('discNothingAdded'))
         self.browser.wait('#panel-text .say.warn', 'The table has no new text for the lines 2, 3, 4, 5 of the script.')
-        # One that does not fit has a new text, and so has what a second row of the place does not name.
+        # A row whose new text does not fit has one all the same, and so has a row whose place occurs again without a new text.
         mine = self.table(image, {2: 'The game begins.', 3: 'much too long ' * 9})
         mine.write_text(mine.read_text() + self.printed(image).splitlines()[1] + '\n')
         self.give(mine)

@@ -1,4 +1,4 @@
-"""What the page says is so: counts, names and places; and it shows what it was asked for."""
+"""The page is right about counts, names, and places, and shows what was asked for."""
 
 import random
 import subprocess
@@ -9,7 +9,7 @@ import discs
 from keys import Keys
 from pages import GATE, HELD, NO_PICKER, PageTest
 
-# The reading of the open image's volume descriptor, at sector 16, waits until the gate is opened.
+# Delays reading the open image's volume descriptor, at sector 16, until `openFiles`.
 LATE_FILES = '''const { slice, arrayBuffer } = Blob.prototype, held = new WeakSet();
 const open = new Promise(done => { globalThis.openFiles = done; });
 Blob.prototype.slice = function (from, ...given) {
@@ -24,7 +24,7 @@ Blob.prototype.arrayBuffer = async function () {
 
 
 def with_lost(image: bytes, block: int) -> bytes:
-    """An image in which a sector has lost its sync field."""
+    """An image with one sector that has lost its sync field."""
     return image[:block * 2352] + bytes(12) + image[block * 2352 + 12:]
 
 

@@ -1,4 +1,4 @@
-"""What a real file of the browser becomes: the page from a loopback server, whose chosen file lies in the private files of its origin."""
+"""Files that a browser really writes: the page from a loopback server saves to its origin's private files."""
 
 from typing import Any
 
@@ -7,7 +7,7 @@ import common
 import discs
 from pages import PageTest, applied
 
-# The chosen file. Writes after the first wait for `release`, if they are held.
+# The chosen file. If writes are held, those after the first wait for `release`.
 PICKER = '''
 globalThis.chosen = { held: null, writes: 0, hold() { this.held = new Promise(done => { this.release = done; }); } };
 globalThis.showSaveFilePicker = async () => {
@@ -51,7 +51,7 @@ class Written(PageTest):
         self.open_script(self.files['script'])
 
     def run_here(self, script: str) -> Any:
-        """Runs a script that knows the private files of the origin."""
+        """Runs a script that can access the origin's private files."""
         return self.browser.run(f'return (async () => {{ {NAMES} {script} }})()')
 
     def kept(self) -> list[str]:

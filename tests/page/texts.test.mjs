@@ -1,4 +1,4 @@
-// Names, numbers and parts that are put into the texts of the page.
+// Names, numbers, and elements inserted into the page's texts.
 
 import assert from 'node:assert/strict';
 import { cpSync, mkdtempSync, readFileSync, rmSync, writeFileSync } from 'node:fs';

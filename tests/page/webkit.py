@@ -1,4 +1,4 @@
-"""WebKit (Safari's engine), by WebKitGTK's driver: it wants an X server, and saves downloads in the home directory."""
+"""Drives WebKit (Safari's engine) through WebKitGTK's driver. It needs an X server, and saves downloads in the home directory."""
 
 import importlib.util
 import os
@@ -13,13 +13,13 @@ BROWSERS = sorted(Path('/usr/lib').glob('*/webkit2gtk-4.1/MiniBrowser'))
 
 
 def wanted(test: Test) -> Test:
-    """Skips a test where WebKit can't be driven."""
+    """Skips a test where WebKit cannot be driven."""
     driven = unittest.skipUnless(importlib.util.find_spec('selenium'), "wants Debian's package python3-selenium")
     return wants('WebKitWebDriver', 'webkit2gtk-driver')(wants('Xvfb', 'xvfb')(driven(test)))
 
 
 class WebKit:
-    """One window. `downloads` is where it saves files."""
+    """One browser window. `downloads` is the directory where it saves files."""
 
     def __init__(self) -> None:
         from selenium import webdriver
@@ -54,7 +54,7 @@ class WebKit:
             self.driver.find_element('css selector', css).send_keys(str(file))
 
     def downloaded(self, name: str, seconds: float = PATIENCE) -> Path:
-        """A file that was downloaded under this name, when its size stays."""
+        """Waits until a download's size no longer changes and returns its path."""
         found: list[Path] = waited(lambda: [it for it in self.downloads.rglob(name) if it.is_file()], f'no download {name}', seconds)
         sizes = [-1]
 

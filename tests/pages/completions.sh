@@ -1,4 +1,5 @@
-# What each completion offers, asked of bash by its function and of fish by `complete -C`. `terminals.sh` types into the shells.
+# Tests the offers of each completion, requested from bash by its function and from fish by `complete -C`. `terminals.sh` types into the
+# shells.
 
 mkdir "$scratch/completing"
 cd "$scratch/completing" || exit 1
@@ -7,14 +8,14 @@ touch image 'an image' script
 commands='apply audit check list'
 everything='an image folder image script'
 
-# offers WANTED WORD..: what is offered for the last of these words, sorted.
+# offers WANTED WORD..: judges the sorted offers for the last of these words.
 offers() {
     local wanted=$1
     shift
     judge "$shell completes: $*" test "$(offered "$@" | sort | paste -sd ' ')" = "$wanted"
 }
 
-# options_of COMMAND [USED]: the options that its help has, without one that is used already.
+# options_of COMMAND [USED]: prints the options in its help, except one that is used already.
 options_of() {
     cdpatch "$1" --help | sed -nE 's/^  (-.,|   ) (--[a-z-]+).*/\2/p' | grep -vxe "${2-}" | sort | paste -sd ' '
 }
@@ -50,7 +51,7 @@ asked_at_each_position() {
     offers 'folder' apply image script ''
     offers '' apply image script out ''
     offers '' frobnicate ''
-    # A name that begins with a dash would be an option, but after `--`.
+    # A name that begins with a dash would be an option, except after `--`.
     touch ./-dash.bin
     mkdir ./-dir
     for command in list audit check apply; do
@@ -101,7 +102,7 @@ offers "$everything" list ''
 rm $'words\n--help'
 judge 'bash knows the completion' test "$(complete -p cdpatch)" = 'complete -F _cdpatch cdpatch'
 
-# offered_by_fish PROGRAM WORD..: what fish offers for the last of these words.
+# offered_by_fish PROGRAM WORD..: prints the offers of fish for the last of these words.
 offered_by_fish() {
     fish --no-config -c 'source $argv[1]; complete -C (string join " " -- $argv[2] (string escape -- $argv[3..-2]) $argv[-1])' \
         "$completions/$1.fish" "$@" | sed -e 's/\t.*//' -e 's/\/$//' -e '/^-[hV]$/d' -e '/^$/d'
@@ -112,7 +113,7 @@ if ! missing fish fish 'the completion for fish'; then
     asked_at_each_position
 fi
 
-# The completions of cdscript: its jobs and options, what repeats, values, and which names are files.
+# Tests the completions of cdscript: jobs, options, repeated options, values, and names that are files.
 asked_of_cdscript() {
     offers "$(jobs_of_cdscript | sort | paste -sd ' ')" ''
     offers '--help --notices --version' --

@@ -1,8 +1,8 @@
 #!/usr/bin/env bash
-# By hand, before a release: Debian's packages in a clean root, by apt. `bash tests/pages/debian_root.sh ROOT DIRECTORY [OLD]` installs
-# those of a directory in a root that `debootstrap --variant=minbase bookworm ROOT` made, uses each, removes and purges them, and upgrades
-# to them from OLD, the single package of 1.3.0. Nothing may be left. It needs root and a network, and prints what it finds; the last line
-# is 'N passed, M failed'.
+# Tests Debian's packages in a clean root with apt; run it by hand before a release. `bash tests/pages/debian_root.sh ROOT DIRECTORY [OLD]`
+# installs the packages of DIRECTORY in ROOT, which `debootstrap --variant=minbase bookworm ROOT` has created. It uses, removes, and purges
+# each, and upgrades to them from OLD, the single package of 1.3.0. Nothing may be left. It needs root and a network, and prints its
+# findings; the last line is 'N passed, M failed'.
 set -u
 root=$(realpath "$1")
 directory=$(realpath "$2")
@@ -14,7 +14,7 @@ all=(cdpatch cdscript libcdpatch1 libcdpatch-dev python3-cdpatch)
 inside() { chroot "$root" env -i HOME=/root PATH=/usr/sbin:/usr/bin:/sbin:/bin LC_ALL=C.UTF-8 DEBIAN_FRONTEND=noninteractive "$@"; }
 apt() { inside apt-get -qq -y --no-install-recommends "$@" > "$scratch/log" 2>&1 || { tail -n 5 "$scratch/log"; false; }; }
 
-# What is there, but what apt and dpkg note of their work.
+# The files in the root, except records of apt and dpkg.
 paths() {
     (cd "$root" && find . -xdev -print |
         grep -vE '^\./((proc|dev|tmp|root|use|packages|var/cache|var/log|var/lib/(apt|dpkg))(/.*)?|etc/ld\.so\.cache)$' | LC_ALL=C sort)
@@ -22,7 +22,7 @@ paths() {
 is_as_before() { paths > "$scratch/after" && diff "$scratch/before" "$scratch/after"; }
 is_gone() { ! inside dpkg -l "${all[@]}" 2> "$scratch/log" | grep -E '^(ii|rc) '; }
 
-# The README's example, as it stands there, on a disc of zeros, with what it says that is printed.
+# Runs the example of the README unchanged on a disc of zeros, and compares its output.
 used_by_its_readme() {
     local readme=$root/usr/share/doc/cdpatch/README.md
     rm -rf "$root/use"

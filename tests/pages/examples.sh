@@ -1,13 +1,13 @@
-# The examples of the README, the man page and the pages in docs/, as a reader pastes them: here, and from an unpacked tarball.
+# Runs the examples of the README, the man page, and the pages in docs/ as a reader pastes them: here, and from an unpacked tarball.
 
-# Runs one command of a transcript, and compares what it prints with what the transcript shows.
+# transcript_step NAME COMMAND: runs one command of a transcript, and compares its output with that in the transcript.
 transcript_step() {
     local name=$1 command=$2
     PATH=$scratch/plain:$PATH $plain -c "$command" > got 2>&1 < /dev/null
     same "$name: $command" wanted got
 }
 
-# transcript NAME: runs the transcript on the standard input, of lines '$ COMMAND' each followed by what it prints.
+# transcript NAME: runs the transcript on the standard input: lines '$ COMMAND', each followed by its output.
 transcript() {
     local name=$1 line command='' steps=0
     : > wanted
@@ -25,8 +25,8 @@ transcript() {
     judge "$name has steps" [ "$steps" -gt 0 ]
 }
 
-# blocks_of PAGE: the fenced blocks of a page, as files NUMBER.sh with what each is to print in NUMBER.wanted, which is that of the
-# block of text after it, or nothing. A block that needs commands, as in '```sh pv', has them in NUMBER.needs.
+# blocks_of PAGE: writes the fenced blocks of a page to NUMBER.sh, and the expected output of each to NUMBER.wanted: the block of text after
+# it, or nothing. The commands that a block needs, as in '```sh pv', go to NUMBER.needs. Prints the number of blocks.
 blocks_of() {
     awk '
         /^```sh/ { number++; file = sprintf("%03d.sh", number); printf "" > file
@@ -39,7 +39,7 @@ blocks_of() {
         END { print number + 0 }' "$1"
 }
 
-# packaged COMMAND: the Debian package that has a command.
+# packaged COMMAND: prints the Debian package of a command.
 packaged() {
     case $1 in
         chdman) echo mame-tools ;;
@@ -49,7 +49,7 @@ packaged() {
     esac
 }
 
-# data_disc: a disc as a reader of the README has one: in block 16 the descriptor of a volume begins as ISO 9660 says.
+# data_disc: creates a disc as a reader of the README has one: block 16 begins with a volume descriptor according to ISO 9660.
 data_disc() {
     local n
     for ((n = 0; n < 17; n++)); do
@@ -64,8 +64,8 @@ data_disc() {
     cdpatch apply blank format disc.bin > /dev/null
 }
 
-# page NAME PAGE: runs the blocks of a page in one shell, in a new directory, and compares what each prints. A reader of the README of the
-# sources has a checkout with a program that is proved already; a reader of the README of the tarball has a disc.
+# page NAME PAGE: runs the blocks of a page in one shell, in a new directory, and compares the output of each. A reader of the sources'
+# README has a checkout with a proved program; a reader of the tarball's README has a disc.
 page() {
     local name=$1 block needs command commands
     local -A lacking=()
@@ -102,13 +102,13 @@ page() {
     PATH=$scratch/plain:$PATH $plain -u whole < /dev/null
     for block in blocks/*.sh; do
         block=${block%.sh}
-        # Other programs may say on standard error how far they have come.
+        # Other programs may report their progress on standard error.
         [ -e "$block.needs" ] || cat "$block.errors" >> "$block.got"
         same "$name, block ${block#blocks/}: $(head -n 1 "$block.sh")" "$block.wanted" "$block.got"
     done
 }
 
-# manual NAME PAGE: runs the examples of the man page in a new directory, where its reader has a disc.
+# manual NAME PAGE: runs the examples of the man page in a new directory with a disc.
 manual() {
     mkdir "$scratch/$1"
     cd "$scratch/$1" || exit 1
@@ -118,7 +118,7 @@ manual() {
     transcript "the man page of $1" < example
 }
 
-# pages NAME DIRECTORY MANUAL: pastes all pages for users that are in a directory.
+# pages NAME DIRECTORY MANUAL: runs all user pages of a directory, and the man page.
 pages() {
     local name
     page "$1-readme" "$2/README.md"
@@ -131,7 +131,7 @@ pages() {
 pages sources "$top" "$top/man/cdpatch.1"
 judge 'make try can be run again' eval "$scratch/plain/make -s -C $scratch/sources-readme try > again" && rm -f "$scratch/plain/make"
 
-# The image and the scripts of bench/SPEED.md, a hundredth as long, and the commands of its table.
+# The image and the scripts of bench/SPEED.md at a hundredth of their length, and the commands in its table.
 sed -e 's/330000/3300/g' -e 's/329999/3299/' -e 's/327670/3270/' "$top/bench/SPEED.md" > "$scratch/short_speed"
 page speed "$scratch/short_speed"
 if [ -e long.bin ]; then
@@ -155,7 +155,7 @@ if ! missing make make 'the pages of the tarball'; then
     rm -r cdpatch-*-linux
     installed=$PWD/prefix
     path=$PATH
-    # The tools that the pages name, those that every system has, and the shell.
+    # The tools that the pages need, those that every system has, and the shell.
     mkdir "$scratch/named"
     for name in awk bash cat cmp cp cut dash date dd diff dirname find grep gunzip gzip head iconv ls ln mkdir mktemp mv od rm sed sh \
         seq sha256sum sort tail test touch tr uniq wc yes genisoimage node perl; do
@@ -164,7 +164,7 @@ if ! missing make make 'the pages of the tarball'; then
     PATH=$installed/bin:$scratch/named
     judge 'the program is the installed one' test "$(command -v cdpatch)" = "$installed/bin/cdpatch"
     pages tarball "$installed/share/doc/cdpatch" "$installed/share/man/man1/cdpatch.1"
-    # The patch of the README is for any disc with ISO 9660, and not for others.
+    # The README's patch fits any disc with ISO 9660, and no others.
     cd "$scratch/tarball-readme" || exit 1
     made='../sources-TRANSLATE/Game (Track 1).bin'
     [ ! -e "$made" ] || judge 'the patch of the README is right for a disc of genisoimage' cdpatch check "$made" changes > log
@@ -173,7 +173,7 @@ if ! missing make make 'the pages of the tarball'; then
     cdpatch check new.bin changes > log
     judge 'and where it was applied' test "$(head -n 1 log)" = 'line 2: refused: old bytes differ at block 16 offset 1395'
     PATH=$path
-    # Its pages name no command and no file that is only in the sources.
+    # The installed pages name no command and no file that only the sources have.
     cd "$installed/share/doc/cdpatch" || exit 1
     grep -nE 'crates/cd_low_tests/data|make (check|test|dist|quick)|^ *make( |$)|sources -->' README.md docs/{SCRIPTS,TRANSLATE,REPAIR,FAQ,INSTALL}.md > only
     judge "the installed pages have only what works there: $(head -n 1 only)" test ! -s only

@@ -1,4 +1,4 @@
-# Help, and what is made of it: parts of the man pages and of the README, and completions.
+# Tests help, and the parts of the man pages and of the README and the completions that are generated from it.
 
 enter help
 cdpatch --help > help
@@ -18,7 +18,7 @@ for word in --version -V; do
     judge "$word is refused" test $? = 2
 done
 
-# What repeats help is as tools/options.py makes it, of this program and this cdscript; pages of other programs are found.
+# The parts that repeat help are up to date for this program and this cdscript; pages for a different program are detected.
 if ! missing python3 python3 'what is made of help'; then
     check() { python3 -B "${3-$top}/tools/options.py" "$1" "$2"; }
     for made in "${programs[@]}"; do
@@ -27,7 +27,7 @@ if ! missing python3 python3 'what is made of help'; then
         judge "the pages are as tools/options.py makes them of $name: $(cat said)" test $? = 0 -a ! -s said
     done
 
-    # A program with one more option and one more command: the pages of today are refused, and those that are made have both.
+    # A program with one more option and one more command: the current pages are refused, and regenerated pages have both.
     cat > wider << 'END'
 #!/usr/bin/env bash
 cdpatch "${@/repair/apply}" | sed -e 's/^  -h, --help .*/      --another   Print nothing\n&/' \

@@ -1,10 +1,10 @@
-# `make install` and `make uninstall`: for a package, below other directories, over earlier releases, and of nothing.
+# Tests `make install` and `make uninstall`: for a package, below other directories, over earlier releases, and with nothing built.
 
-# built WORD..: a run of make in `tree`, which has what was built.
+# built WORD..: runs make in `tree`, which has the built files.
 built() { make --no-print-directory -s -C tree "$@"; }
 files() { [ ! -d "$1" ] || (cd "$1" && find . ! -type d | LC_ALL=C sort); }
 
-# A tree `other` in which sed's expression has changed a file of what installs.
+# changed_tree FILE EXPRESSION: creates a tree `other` in which a sed expression has changed a file.
 changed_tree() {
     rm -rf other
     mkdir other
@@ -14,10 +14,10 @@ changed_tree() {
     sed -E "$2" "tree/$1" > "other/$1"
     judge "a make install of which $1 is changed by $2 is another" test "$(sha256sum < "tree/$1")" != "$(sha256sum < "other/$1")"
 }
-# built_otherwise WORD..: the same there.
+# built_otherwise WORD..: runs make in `other`.
 built_otherwise() { make --no-print-directory -s -C other "$@"; }
 
-# A make install that copies what it makes writes over what a link names.
+# A make install that uses cp writes through a link at the target.
 writes_through_links() {
     changed_tree tools/files.sh 's/\$INSTALL -m 644 "\$room\/text"/cp "$room\/text"/'
     ln -sf "$PWD/victim" root/usr/lib/pkgconfig/cdpatch.pc
@@ -27,8 +27,8 @@ writes_through_links() {
     built install DESTDIR="$PWD/root" PREFIX=/usr
 }
 
-# is_complete ROOT: whether it has every file that 1.2.0 or 1.3.0 installed below its /usr, but the one that is gone, and a man page for
-# each call.
+# is_complete ROOT: whether it has every file that 1.2.0 or 1.3.0 installed below its /usr, except the removed one, and a man page for each
+# call.
 is_complete() {
     files "$1/usr" > got
     { grep -vx ./share/cdpatch/python/cdpatch/_scripts.py "$top/tests/pages/installed.txt"
@@ -38,7 +38,7 @@ is_complete() {
     [ ! -s lacking ]
 }
 
-# In which directories an installation has what, and that its bytes are those of what was built.
+# The places of installed files, which must have the bytes of the built files.
 has_what_was_built() {
     while read -r path source <&3; do
         judge "$path is $source" cmp -s "$source" "root/usr/$path"
@@ -60,7 +60,7 @@ END
         cmp root/usr/share/cdpatch/cdpatch.wasm "$library/cdpatch.wasm" && cmp root/usr/share/cdpatch/cdpatch-wasm64.wasm "$library/cdpatch-wasm64.wasm"'
 }
 
-# What is filled in: places, and the version.
+# The files in which places and the version are filled in.
 is_filled_in() {
     local cdpatch_version
     cdpatch_version=$(cdpatch --help | sed -n '$s/cdpatch //p')
@@ -109,7 +109,7 @@ installed_for_a_package() {
     judge 'make uninstall of nothing' built uninstall DESTDIR="$PWD/root" PREFIX=/usr
 }
 
-# Python keeps there what it compiles: of the package when a program imports it, and of what makes a wheel of it when pip installs it.
+# Python keeps compiled files there: of the package when a program imports it, and of the builder of its wheel when pip installs it.
 used_by_python() {
     local package=root/usr/share/cdpatch/python
     find root -type d | sort > directories
@@ -121,7 +121,7 @@ used_by_python() {
     judge 'pip installs the package, and leaves what makes its wheel compiled' eval "[ -f site/cdpatch/_numbers.py ] && [ -d $package/__pycache__ ]"
 }
 
-# A root in which the directories below the prefix are others', as those of Debian's base-files are.
+# A root in which the directories below the prefix belong to others, such as Debian's base-files.
 uninstalled_among_others() {
     mkdir -p others/usr/share/{man/man1,zsh/site-functions} others/usr/lib/{pkgconfig,cmake} others/python/__pycache__
     find others | sort > others.before
@@ -133,7 +133,7 @@ uninstalled_among_others() {
     judge 'and none that is called cdpatch' test -z "$(find others -name '*cdpatch*')"
 }
 
-# earlier ROOT: what 1.2.0 or 1.3.0 installed below its /usr, and what Python compiled of it.
+# earlier ROOT: creates the files that 1.2.0 or 1.3.0 installed below its /usr, and their compiled files.
 earlier() {
     local file
     while read -r file; do
@@ -143,7 +143,7 @@ earlier() {
     mkdir "$1/usr/share/cdpatch/python/cdpatch/__pycache__"
     echo earlier > "$1/usr/share/cdpatch/python/cdpatch/__pycache__/_scripts.cpython-311.pyc"
 }
-# replaces_all BUILT: whether a make install over them leaves none of their files, and a make uninstall none at all.
+# replaces_all BUILT: whether a make install over an earlier release leaves none of its files, and a make uninstall none at all.
 replaces_all() {
     rm -rf earlier
     earlier earlier

@@ -1,4 +1,4 @@
-# Each message of the man page is produced once, by the cause that the page names; and each that the program has is in the page.
+# Produces each message of the man page by the cause that the page gives, and checks that the page has each message of the program.
 
 enter messages
 printf 'cdpatch 1\nset 1 16 48454C4C4F\n' > script
@@ -7,7 +7,7 @@ printf 'cdpatch 1\r# a comment\r' > carriage_returns
 printf 'cdpatch 1\n' | sed 's/./&\x0/g' > utf_16
 : > produced
 
-# produces WANTED STATUS COMMAND..: whether the last line of what a command prints, but for the parser's text the first, is this one.
+# produces WANTED STATUS COMMAND..: judges the status and the last line that a command prints; for an error of the parser, its first line.
 produces() {
     local wanted=$1 status=$2 line got
     shift 2
@@ -21,12 +21,12 @@ produces() {
     judge "$* has status $status, not $got" test "$got" = "$status"
 }
 
-# patch LINE: a script with this line as its third.
+# patch LINE: writes a script whose third line is this one.
 patch() {
     printf '%s\n' 'cdpatch 1' '# the third line' "$1" > ./patch
 }
 
-# decides WANTED STATUS LINE [IMAGE [ARGUMENT..]]: what `check` prints for a script with this line.
+# decides WANTED STATUS LINE [IMAGE [ARGUMENT..]]: judges the output of `check` for a script with this line.
 decides() {
     patch "$3"
     produces "$1" "$2" cdpatch check "${@:5}" "${4-long.bin}" patch
@@ -46,7 +46,7 @@ decides 'line 3: refused: block 9 is damaged' 1 'set 9 0 41' damaged.bin
 decides 'line 3: applied' 0 'set 9 0 41' damaged.bin --carry
 decides 'line 3: refused: old bytes differ at block 9 offset 16' 1 'set 9 16 00 was 01'
 
-# Images of other sectors.
+# Images that are not raw.
 tail -c +17 disc.bin | head -c 16352 > iso
 decides 'line 3: refused: block 1 is not mode 1' 1 'set 1 0 41' iso
 for ((n = 0; n < 8; n++)); do
@@ -105,7 +105,7 @@ rm longest endless
 produces "$no_text" 2 cdpatch list $'\xe9.bin'
 produces 'error:' 2 cdpatch frobnicate
 
-# out_of_memory LINE COMMAND..: a line for want of memory, by the first limit on the room of the process at which it comes.
+# out_of_memory LINE COMMAND..: produces a line about missing memory with the first limit of address space that causes it.
 out_of_memory() {
     local line=$1 room
     shift
@@ -119,7 +119,7 @@ out_of_memory "$no_memory" cdpatch list disc.bin
 out_of_memory "$no_script_memory" cdpatch check disc.bin large
 rm large
 
-# The page's messages: each was produced.
+# Each message of the page was produced.
 number() { sed 's/^script line [0-9N]*/script line N/'; }
 {
     sed -n '/^\.Ss Invalid scripts/,/^\.Ss/s/^\.It Li /script line N: /p' "$top/man/cdpatch.1"
@@ -132,9 +132,9 @@ while IFS= read -r message <&3; do
     judge "produced: $message" grep -qxF -- "$message" numbered
 done 3< page
 
-# The program's messages: each is in the page.
+# Each message of the program is in the page.
 {
-    # In a program nothing stands between what comes before a number and the next text.
+    # In the program file nothing separates the text before a number from the next text.
     LC_ALL=C grep -aoE 'cdpatch: [a-zA-Z0-9 ]+' "$program" | sed -E 's/ than .*/ than /'
     sed -n 's/^ *ScriptFault::.* => "\(.*\)",$/\1/p' "$top/crates/cd_script/src/fault.rt" | grep -vx 'no memory'
 } | sort -u > messages

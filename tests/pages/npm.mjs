@@ -1,4 +1,4 @@
-// A client of the package for npm, beside the program: `node npm.mjs PROGRAM`, where the package is installed and disc.bin stands.
+// Compares the npm package with the program: `node npm.mjs PROGRAM`, in a directory with the installed package and disc.bin.
 
 import assert from 'node:assert/strict';
 import { spawnSync } from 'node:child_process';
@@ -13,13 +13,13 @@ damaged[2352 * 3 + 2070] ^= 1;
 damaged[2352 * 5 + 12] ^= 1;
 writeFileSync('damaged.bin', damaged);
 
-/** What the program prints, its status, and the image that it makes. */
+/** Runs the program, and returns its output and its status. */
 function programs(job, ...more) {
     const { status, stdout } = spawnSync(program, [job, ...more]);
     return { status, text: stdout.toString() };
 }
 
-/** Bytes in many pieces, some of which are shorter than asked for. */
+/** A source of bytes with many short reads. */
 const short = bytes => ({ size: bytes.length, read: async (at, length) => bytes.slice(at, at + Math.min(length, 1 + at % 5000)) });
 
 const cdpatch = await load();
@@ -64,7 +64,7 @@ await assert.rejects(cdpatch.patches(faulty), refused);
 await assert.rejects(cdpatch.apply(sound, faulty, () => assert.fail()), refused);
 await assert.rejects(patchedStream(cdpatch, sound, faulty).report, refused);
 
-// An argument of another kind, and a script in all kinds.
+// Arguments of wrong types, and a script in all its types.
 const handle = await open('disc.bin');
 const read = async () => new Uint8Array(0);
 const others = [handle, new DataView(sound.buffer), new Uint16Array(sound.buffer), null, undefined, 7, { size: 7 }, { size: '7', read },
@@ -92,7 +92,7 @@ class Slow {
 }
 assert.deepEqual(await cdpatch.check(new Slow(), script), await cdpatch.check(damaged, script));
 
-// What errors and results are called.
+// The names of errors and results.
 const { outcomes } = await cdpatch.check(damaged, script);
 assert.deepEqual(outcomes.map(({ result }) => result), [RESULT.OK, RESULT.DIFFERS, RESULT.DAMAGED, RESULT.OK]);
 await assert.rejects(cdpatch.check(sound, 'cdpatch 1\n\nset 0 0 XY\n'), { name: 'ScriptError', line: 3 });
@@ -103,7 +103,7 @@ for (const job of [() => cdpatch.survey(early), () => cdpatch.apply(early, scrip
     await assert.rejects(job(), error => error instanceof Fault && error.code === 'image ended');
 }
 
-// A script that says another base is refused with cdscript's words.
+// A script for a different base is refused with cdscript's message.
 const based = 'cdpatch 1\n# base 100\nset 101 5 0102\n';
 writeFileSync('based', based);
 const { stderr } = spawnSync(process.execPath, ['node_modules/cdpatch/cdscript.cjs', 'check', 'disc.bin', 'based']);
@@ -112,7 +112,7 @@ await assert.rejects(cdpatch.check(sound, based), error => error instanceof Scri
 await assert.rejects(cdpatch.apply(sound, based, () => assert.fail(), { base: 150 }), ScriptError);
 assert.equal((await cdpatch.check(sound, based, { base: 100 })).status, 0);
 
-// A stream ends well only if the whole image was made.
+// A stream succeeds only if the whole image was written.
 const long = { size: 2352 * 1000001, read: async (_, length) => new Uint8Array(length) };
 const cut = patchedStream(cdpatch, long, script);
 const tooLong = { name: 'Fault', message: 'cdpatch: the image has more than 1000000 sectors' };
@@ -122,7 +122,7 @@ assert.equal((await cut.report).status, 2);
 const ended = patchedStream(cdpatch, sound, script, { signal: AbortSignal.abort() });
 await assert.rejects(new Response(ended.stream).arrayBuffer(), { name: 'AbortError' });
 
-// Who hears of a job, and ends it.
+// Progress of a job, and its cancellation.
 const many = new Uint8Array(2352 * 4000);
 for (let at = 0; at < many.length; at += sound.length) many.set(sound, at);
 const far = 'cdpatch 1\nset 0 5 01\nset 2000 5 01\nset 3999 5 01\n';

@@ -1,5 +1,5 @@
-"""A bundle with the package for npm, in Chromium: `python3 npm_bundle.py DIRECTORY MODULE`. Its page says why the module cannot be loaded,
-if it is not there and if the server answers with a page, and runs if it is."""
+"""Tests a bundle with the npm package in Chromium: `python3 npm_bundle.py DIRECTORY MODULE`. Its page must say why the module cannot be
+loaded, if it is missing or the server answers with a page, and run if it is there."""
 
 import shutil
 import sys
@@ -17,7 +17,7 @@ def main() -> None:
         for name in ('index.html', 'bundle.js'):
             (directory / place).mkdir(exist_ok=True)
             shutil.copy(directory / name, directory / place / name)
-    # The server lists a directory, in HTML.
+    # The server answers with an HTML list of the directory.
     (directory / 'page/cdpatch.wasm').mkdir()
     shutil.copy(module, directory / 'whole/cdpatch.wasm')
     server, browser = common.Server(directory), chromium.Chromium()

@@ -1,5 +1,6 @@
-"""The example page of the package for npm, in Chromium: `python3 npm_page.py PACKAGE IMAGE SCRIPT PATCHED`. It is served from PACKAGE, the
-script is typed, the image is dropped on it, and what it saves has to be PATCHED; a script with an error is named, and nothing is offered."""
+"""Tests the example page of the npm package in Chromium: `python3 npm_page.py PACKAGE IMAGE SCRIPT PATCHED`. The page is served from
+PACKAGE, SCRIPT is typed, IMAGE is dropped on it, and the saved file must equal PATCHED. For a script with an error the page must name the
+error and offer nothing."""
 
 import sys
 from pathlib import Path

@@ -1,4 +1,5 @@
-// What the package for npm refuses, as the program does: `node npm_refused.mjs PROGRAM`, where the package is installed and disc.bin is.
+// Input that the npm package must refuse as the program does: `node npm_refused.mjs PROGRAM`, in a directory with the installed package and
+// disc.bin.
 
 import assert from 'node:assert/strict';
 import { spawn, spawnSync } from 'node:child_process';
@@ -10,10 +11,10 @@ const cdpatch = await load();
 const sound = Uint8Array.from(readFileSync('disc.bin'));
 const script = 'cdpatch 1\nset 1 0 41\nset 2999 0 41\n';
 
-/** What the program prints. */
+/** The output of the program. */
 const printed = (...words) => spawnSync(program, words).stdout.toString();
 
-// A source that gives other than it was asked for: no image is made of it.
+// A source that returns something other than the requested bytes gives no image.
 const image = new Uint8Array(2352 * 3000);
 for (let at = 0; at < image.length; at += sound.length) image.set(sound.subarray(0, image.length - at), at);
 const jobs = {
@@ -29,14 +30,14 @@ const others = [
     [async () => undefined, { name: 'TypeError', message: 'read(at, length) gives a Uint8Array, and not undefined' }],
 ];
 for (const [name, job] of Object.entries(jobs)) {
-    // One byte more than the image has, so that the last read can give it too.
+    // The size is one byte less than the image, so that the last read can return too much.
     for (const [read, error] of others) await assert.rejects(job({ size: image.length - 1, read }), error, name);
     await job({ size: image.length, read: async (at, length) => Buffer.from(image.subarray(at, at + length)) });
 }
 const source = { size: script.length, read: async () => new TextEncoder().encode(`${script}# more`) };
 for (const job of [cdpatch.check(image, source), cdpatch.patches(source)]) await assert.rejects(job, { name: 'RangeError' });
 
-// Not a regular file: a device, a directory, and a pipe into which somebody writes an image.
+// Files that are not regular: a device, a directory, and a pipe to which a process writes an image.
 spawnSync('mkfifo', ['pipe']);
 const writer = spawn('sh', ['-c', 'exec cat disc.bin > pipe']);
 for (const name of ['/dev/zero', '.', 'pipe']) {
@@ -45,7 +46,7 @@ for (const name of ['/dev/zero', '.', 'pipe']) {
 writer.kill();
 await assert.rejects(openFile('nothing'), { code: 'ENOENT' });
 
-// An image that is too long, and one of the longest.
+// An image that is too long, and one of the maximum length.
 const blank = size => ({ size, read: async (at, length) => new Uint8Array(length) });
 writeFileSync('long.bin', '');
 truncateSync('long.bin', 2352000001);
@@ -68,7 +69,7 @@ for (const job of ['list', 'audit']) {
     assert.equal((await cdpatch[job](sound, { base: 449849 })).text, printed(job, '--base', '449849', 'disc.bin'));
 }
 
-// A script with more patches or bytes than the program takes.
+// Scripts with more patches or bytes than the program accepts.
 const rebuilds = count => `cdpatch 1\n${'rebuild 1\n'.repeat(count)}`;
 const long = [[rebuilds(65536), 'script line 65537: more than 65535 patches'],
     [new Uint8Array(67108865).fill(10), 'cdpatch: the script is longer than 67108864 bytes']];

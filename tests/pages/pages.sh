@@ -1,8 +1,8 @@
-# The pages against the sources: what tools/pages.py prints, links, files that pages name, and what the program is linked to.
+# Compares the pages with the sources: the output of tools/pages.py, links, named files, and the functions that the program is linked to.
 
 enter pages
 
-# What the sources say of themselves. A file or a call that says nothing is refused.
+# The descriptions in the sources. A file or a call without one is refused.
 if ! missing python3 python3 'what the sources say of themselves'; then
     for page in map contracts audit; do
         judge "make $page prints a page" eval 'python3 -B "$top/tools/pages.py" $page > $page && grep -q "^| " $page'
@@ -17,7 +17,7 @@ if ! missing python3 python3 'what the sources say of themselves'; then
     grep -oE '^\| `[a-z_0-9]+`' contracts | tr -d '|` ' | sort -u > got
     judge "make contracts has each law, and not only some: $(comm -23 wanted got | paste -sd ' ')" test -z "$(comm -23 wanted got)"
 
-    # No definition of a crate that a clause or a condition of its public functions cites is left out: looked for in another way.
+    # Finds, in a different way, every definition that a clause or a condition of a crate's public functions cites: none may be left out.
     declared() {
         cat "$top/crates/$1"/specs/*.antt 2> /dev/null |
             sed -nE 's/^ *(abbrev pub|unfoldable pub|pub record|pub data) +([A-Za-z_]+).*/\2/p' | sort -u
@@ -60,7 +60,7 @@ if ! missing make make 'what make help prints'; then
     done
 fi
 
-# The pages' links lead to files, and to headings that are there.
+# The links of the pages lead to existing files and headings.
 heading() { tr '[:upper:]' '[:lower:]' <<< "$1" | sed -e 's/[^a-z0-9 -]//g' -e 's/ /-/g'; }
 while IFS=: read -r page link <&3; do
     file=${link%%#*}
@@ -75,18 +75,18 @@ while IFS=: read -r page link <&3; do
     judge "$page: $link is a heading" $found
 done 3< <(cd "$top" && grep -oE '\]\([^) ]*\)' README.md CONTRIBUTING.md SECURITY.md CHANGELOG.md docs/*.md | sed -e 's/](//' -e 's/)$//' | grep -v ':http')
 
-# The contract that docs/CONTRACTS.md shows is that of the sources.
+# The contract in docs/CONTRACTS.md is that of the sources.
 sed -n 's/^    //p' "$top/docs/CONTRACTS.md" | sed 's/^ *//' > example
 sed 's/^ *//' "$top/crates/cd_sector/src/encoding.rt" | grep -xFf - example | cmp -s - example
 judge 'the contract that docs/CONTRACTS.md shows is that of encode' test $? = 0 -a -s example
 
-# docs/TRUST.md explains no clause of `apply` that is not there.
+# docs/TRUST.md explains only clauses of `apply` that exist.
 sed -n '/^pub fn apply</,/^{/s/^ *ensures \([a-z_]*\) .*/\1/p' "$top/crates/cd_image/src/applying.rt" | sort > clauses
 sed -n '/^| Clause | In words/,/^$/s/^| \(`[^|]*`\) | .*/\1/p' "$top/docs/TRUST.md" | grep -o '[a-z_]*' | sort > rows
 gone=$(comm -23 rows clauses | paste -sd ' ')
 judge "each clause of apply that docs/TRUST.md explains is there: ${gone:-all}" test -s rows -a -z "$gone"
 
-# What the program calls is nothing but what docs/TRUST.md says.
+# The program calls only functions that docs/TRUST.md lists.
 if ! missing nm binutils 'what the program is linked to'; then
     nm -D --undefined-only "$program" | sed -e 's/.* //' -e 's/@.*//' | sort > linked
     sed -nE '/^\| (Functions|Names) \| (Trusted|What) for/,/^$/s/^\| (`[^|]*`) \| .*/\1/p' "$top/docs/TRUST.md" |

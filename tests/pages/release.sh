@@ -1,5 +1,5 @@
-# `make dist`: the tarball and the packages install without a toolchain, and their bytes follow from those of their files, wherever,
-# whenever, and by whom they are made.
+# Tests `make dist`: the tarball and the packages install without a toolchain, and their bytes depend only on those of the packed files, not
+# on the place, the time, or the user.
 
 released() {
     local name
@@ -17,7 +17,7 @@ released() {
     mkdir unpacked
     tar -C unpacked -xzf "one/made/$name"
     judge 'it unpacks into one directory of its own name' test "./$(ls unpacked).tar.gz" = "$name"
-    # Neither the toolchain nor the program of these tests is on the path.
+    # Neither the toolchain nor the tested program is on the path.
     PATH=/usr/bin:/bin make --no-print-directory -s -C unpacked/* install DESTDIR="$PWD/root" PREFIX=/usr
     make --no-print-directory -s -C one install DESTDIR="$PWD/wanted" PREFIX=/usr
     judge 'make install in it installs what make install in the sources does' diff -r wanted root
@@ -32,8 +32,8 @@ released() {
     mv away one/library
 }
 
-# made_elsewhere: what another user makes in another directory, of files that only this user may read, of another time and with one that is
-# not packed, with another umask and language, and on another file system.
+# made_elsewhere: runs make dist as a different user in a different directory, with files that only this user can read, with a different
+# time and one that is not packed, with a different umask and language, and on a different file system.
 made_elsewhere() {
     local user=()
     (umask 077 && copied "$PWD/another place")
@@ -53,7 +53,7 @@ made_elsewhere() {
     differs_if python/backend.py 's/, mtime=0)/)/' 'the archive for pip has the time' 'cdpatch-*[0-9].tar.gz'
 }
 
-# differs_if FILE EXPRESSION WHAT PATTERN: judges that a make dist is refused of whose tree sed's expression changes a file.
+# differs_if FILE EXPRESSION WHAT PATTERN: judges that make dist with a file changed by a sed expression gives different packages.
 differs_if() {
     rm -rf open
     cp -r 'another place' open
@@ -67,21 +67,21 @@ differs_if() {
 }
 differ() { ! (cd open/made && for file in $1; do cmp -s "$file" "../../one/made/$file" || exit; done); }
 
-# listed DIRECTORY: its files and links.
+# listed DIRECTORY: prints its files and links.
 listed() { (cd "$1" && find . -type f -o -type l) | LC_ALL=C sort; }
 
-# What `make install` installs, by the names that Debian's packages have for it: pages in the directory of their package.
+# The files of `make install`, by their names in Debian's packages: pages are in the directory of their package.
 debian_names() {
     listed root | sed -E "s,lib/(libcdpatch|glibc|pkgconfig|cmake),lib/x86_64-linux-gnu/\1,; s,zsh/site-functions,zsh/vendor-completions,
         s,share/cdpatch/python/cdpatch,lib/python3/dist-packages/cdpatch,; s,share/man/.*,&.gz,; s,share/doc/cdpatch/,share/doc/*/,
         \,cdpatch/python/|/NOTICES|/CHANGELOG.md|docs/INSTALL.md|docs/page.png,d" | LC_ALL=C sort
 }
-# The names of what is unpacked in a root, without what each package of Debian has.
+# The files unpacked in a root, without those that every package of Debian has.
 unpacked_names() {
     listed "$1" | grep -v '^\./var/' | sed -E 's,share/doc/[^/]*/,share/doc/*/,; \,doc/\*/(changelog|copyright)|lintian/|dist-info/,d' | LC_ALL=C sort -u
 }
 
-# debian COMMAND..: dpkg in the root `system`, which has nothing else. Nothing is configured there, so no script runs.
+# debian COMMAND..: runs dpkg on the root `system`, which has nothing else. Nothing is configured there, so no script runs.
 debian() {
     dpkg --root="$PWD/system" --force-depends --force-not-root --force-bad-path --force-script-chrootless --log="$PWD/log" "$@" > log 2>&1
 }
@@ -91,14 +91,14 @@ fresh_system() {
     touch system/var/lib/dpkg/status
 }
 
-# single_package: a package like the one of 1.3.0, which had every file.
+# single_package: builds a package that has every file, like that of 1.3.0.
 single_package() {
     mkdir -p single/DEBIAN
     cp -r system/usr single
     printf '%s\n' 'Package: cdpatch' 'Version: 1.3.0-1' 'Architecture: amd64' 'Maintainer: nobody <a@localhost>' 'Description: all' > single/DEBIAN/control
     dpkg-deb --root-owner-group --build single single.deb > log
 }
-# replaces_single PACKAGE..: whether these can be unpacked over that package, and own every file afterwards.
+# replaces_single PACKAGE..: whether these packages can be unpacked over that package, and own every file afterwards.
 replaces_single() {
     fresh_system
     debian --unpack single.deb && debian --unpack "$@" && [ -z "$(grep -l . system/var/lib/dpkg/info/*.list | while read -r list; do cat "$list"; done |
@@ -120,7 +120,7 @@ upgraded_from_single() {
     done
 }
 
-# astray DIRECTORY: the places of a Debian root there that pages name and that it lacks: all below /usr, and what pages link to.
+# astray DIRECTORY: prints the places that pages name and that a Debian root lacks: all below /usr, and the targets of links.
 astray() {
     local page path
     { cat "$1"/usr/share/doc/*/{README.md,docs/*.md} && gzip -dc "$1"/usr/share/man/man[13]/*.gz; } 2> errors | grep -oE '/usr(/[a-z0-9_.-]+)+' |
@@ -145,7 +145,7 @@ pages_of_debian() {
     judge 'a man page with the places of make install is refused' test -n "$(astray elsewhere)"
 }
 
-# has_symbols PACKAGE: whether its list of symbols has each call of the library, under the release that it came with.
+# has_symbols PACKAGE: whether its list of symbols has each call of the library with the release that introduced it.
 has_symbols() {
     rm -rf about
     dpkg-deb --control "$1" about
@@ -153,7 +153,7 @@ has_symbols() {
     [ -s wanted.symbols ] && grep '^ cdpatch_' about/symbols | sort | cmp -s - wanted.symbols
 }
 
-# Their sources, with what was built put there, give the same packages.
+# The source packages, together with the built files, give the same packages.
 sources_for_debian() {
     missing git git "Debian's source package" && return
     dpkg-source --extract one/made/*.dsc sources > log 2>&1
@@ -198,7 +198,7 @@ packaged_for_debian() {
     sources_for_debian
 }
 
-# What lintian finds but that there is no address.
+# The findings of lintian, except the missing address.
 found_by_lintian() { lintian --no-cfg --allow-root one/made/*.deb one/made/*.dsc 2>&1 | grep -v ' <>'; }
 
 packaged_for_pip() {
@@ -210,7 +210,7 @@ packaged_for_pip() {
         "$(cd site && python3 -B -c 'import cdpatch; print(cdpatch.listing(open("../disc.bin", "rb").read()).split("\n")[-2].replace(" ", "_"))')"
 }
 
-# patches_what_is_dropped PACKAGE: whether its example page makes what the program makes of the image and the script in `npm`.
+# patches_what_is_dropped PACKAGE: whether its example page gives the program's result for the image and the script in `npm`.
 patches_what_is_dropped() {
     SCRATCH=$PWD/npm /usr/bin/python3 -B "$top/tests/pages/npm_page.py" "$1" npm/readme/disc.bin npm/script \
         npm/wanted.bin > log 2>&1
@@ -226,10 +226,10 @@ example_page() {
     judge 'and is refused' eval '! PATIENCE=5 patches_what_is_dropped npm/wrong'
 }
 
-# refuses_as_program: whether the package for npm that is installed refuses what the program refuses.
+# refuses_as_program: whether the installed npm package refuses what the program refuses.
 refuses_as_program() { (cd npm && timeout 120 node npm_refused.mjs "$(command -v cdpatch)") > log 2>&1; }
 
-# wrong_package WHAT EXPRESSION: the package as sed's expression changes it is refused.
+# wrong_package WHAT EXPRESSION: judges that the package changed by a sed expression is refused.
 wrong_package() {
     local file=npm/node_modules/cdpatch/cdpatch.js
     cp $file npm/right.js
@@ -250,10 +250,10 @@ limits_of_npm() {
     wrong_package 'reads a script that is too long' 's/async function validScript(.*/&\n  const source = scriptSource(script);\n  return { text: await readBytes(source, 0, source.size), bases: [] };/'
 }
 
-# bundle OUT ENTRY WORD..: a bundle of a program in `npm`, by esbuild.
+# bundle OUT ENTRY WORD..: bundles a program in `npm` with esbuild.
 bundle() { (cd npm && esbuild "$2" --bundle --log-level=error --outfile="$1" "${@:3}") > log 2>&1; }
 
-# bundles_for_browsers: whether a program is bundled for browsers without a word of node, and says in Chromium what is wrong, or runs.
+# bundles_for_browsers: whether a bundle for browsers contains no import of node, and in Chromium reports an error or runs.
 bundles_for_browsers() {
     rm -rf npm/page
     mkdir npm/page
@@ -288,7 +288,7 @@ bundled_packages() {
     missing chromium chromium 'wrong bundles' || wrong_bundle browser.js 's/response.ok \&\& !isPage/response.ok/' 'takes a page for its module'
 }
 
-# wrong_bundle FILE EXPRESSION WHAT: judges that the package is refused of which sed's expression changes a file.
+# wrong_bundle FILE EXPRESSION WHAT: judges that the package with a file changed by a sed expression is refused.
 wrong_bundle() {
     local file=npm/node_modules/cdpatch/$1
     cp "$file" npm/right
@@ -299,7 +299,7 @@ wrong_bundle() {
 }
 refuses_same() { ! cmp -s "$1" "$2"; }
 
-# A program that uses the package as its README says, on the image of the tests and one that is damaged; and what it prints.
+# Runs the example of the npm package's README on the image of the tests and on a damaged one, and compares the output.
 packaged_for_npm() {
     missing npm npm 'the package for npm' && return
     missing tsc node-typescript 'the package for npm' && return
@@ -316,7 +316,7 @@ packaged_for_npm() {
     same "its README's example prints what it says" npm/readme/wanted npm/readme/got
     cdpatch apply npm/readme/disc.bin npm/script npm/wanted.bin > log
     judge 'and makes what the program makes' cmp -s npm/wanted.bin npm/readme/new.bin
-    # The limit cuts the last piece that is written.
+    # The limit truncates the last piece that is written.
     rm npm/readme/new.bin
     (cd npm/readme && trap '' XFSZ && ulimit -f 40 && node readme.mjs > ../log 2>&1)
     judge 'and fails if a file can have no more bytes' test "$? $(grep -o 'code:.*' npm/log)" = "1 code: 'EFBIG',"
@@ -333,7 +333,7 @@ packaged_for_npm() {
     judge 'its module is the library'"'"'s' cmp -s "$library/cdpatch.wasm" npm/node_modules/cdpatch/cdpatch.wasm
 }
 
-# What two builds in different directories could differ in.
+# Possible differences between builds in two directories.
 judge 'the program has no path of the directory that it was built in' \
     test -z "$(LC_ALL=C grep -aoE '(crates|home|tmp|root)/[a-z_/.]*|[a-z_]*\.rt\b' "$program")"
 

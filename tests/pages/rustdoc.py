@@ -1,5 +1,5 @@
-"""The examples in the rustdoc of crates: `rustdoc.py CRATE..` prints a line for each crate, with the places of those
-that no test runs."""
+"""Finds the examples in the rustdoc of crates: `rustdoc.py CRATE..` prints a line for each crate, with the places of those that no test
+runs."""
 
 import re
 import sys
@@ -12,7 +12,7 @@ import contracts  # noqa: E402
 
 
 def examples(crate: str) -> Iterator[tuple[str, list[str]]]:
-    """Where each example begins, and its lines."""
+    """The place and the lines of each example."""
     for file in contracts.code_of(crate):
         begun, lines = '', list[str]()
         for number, line in enumerate(file.read_text(encoding='utf-8').splitlines(), 1):
@@ -26,7 +26,7 @@ def examples(crate: str) -> Iterator[tuple[str, list[str]]]:
 
 
 def unspaced(text: str) -> str:
-    """A text as it stays, however a formatter breaks its lines."""
+    """A text without white space, so that line breaks do not matter."""
     return re.sub(r'\s', '', text)
 
 

@@ -1,4 +1,4 @@
-# The rustdoc of the crates: a test of cd_low_tests or cd_example_tests runs each example as it is printed there.
+# Checks the rustdoc of the crates: a test of cd_low_tests or cd_example_tests runs each example exactly as it is printed.
 
 enter rustdoc
 if ! missing python3 python3 'the rustdoc of the crates'; then

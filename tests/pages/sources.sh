@@ -1,14 +1,14 @@
-# The sources: what docs/TRUST.md says is not in the crates, shell scripts as shellcheck reads them, and the crates and files that pages name.
+# Checks the sources: nothing that docs/TRUST.md excludes, no complaint of shellcheck, and no page that names a missing crate or file.
 
 enter sources
 
-# Nothing in the crates is taken on trust, and nothing is in another language.
+# The crates have no unsafe code and no code in other languages.
 foreign=$(grep -rnwE --include='*.rt' --exclude-dir=out 'unsafe|extern' "$top/crates" |
     grep -vE '^[^:]*/cd_c(_[a-z]*)?/src/[a-z_]*\.rt:[0-9]*:(#\[unsafe\(no_mangle\)\]$|pub extern "C" fn cdpatch_[a-z0-9_]*\()' |
     grep -vE '^[^:]*/cd_c/src/state\.rt:[0-9]*: *unsafe \{ ptr::read\(&raw const [a-z]* as \*const [A-Za-z0-9]*\) \}$')
 judge 'no unsafe code and no functions of C in the crates, but exports, and the state of a digest' test -z "$foreign"
 
-# Nothing that C has to see to stands in a contract.
+# No contract of an export has a condition, which a caller in C would have to meet.
 conditions() {
     awk '/^pub extern "C" fn / { export = 1 } /^\{/ { export = 0 } export && /^ *requires / { print FILENAME ": " $0 }' "$@"
 }
@@ -20,19 +20,19 @@ judge 'no file of C in the crates' test -z "$(find "$top/crates" -name out -prun
 judge 'no check that lets holes pass' test -z "$(grep -rn --include='run' --include='*.sh' --include=Makefile allow-holes "$top/.ci" "$top/tests" \
     "$top/Makefile" | grep -v sources.sh)"
 
-# No page and no crate names a crate or a file that is not there.
+# No page and no crate names a crate or a file that does not exist.
 sed -nE 's/^([a-z_]+)( staticlib)?:.*/\1/p' "$top/crates.txt" | sort - <(echo cd_bench) > all_crates
 mapfile -d '' -t texts < <(find "$top" \( -name out -o -name .git \) -prune -o \( -name '*.md' -o -name '*.rt' \) -print0)
 gone=$(grep -ohwE 'cdpatch|cd_[a-z_]*[a-z]' "${texts[@]}" | sort -u | comm -13 all_crates - | paste -sd ' ')
 judge "no page and no crate names a crate that is not there: $gone" test -z "$gone"
-# The changelog may name what is gone, and `make` makes the program of bench/ and each out/.
+# The changelog may name removed files. `make` creates the program of bench/ and each out/.
 gone=$(grep -oHE '(^|[^][A-Za-z0-9_./@-])(crates|tests|tools|web|docs|python|include|man|examples|bench|\.ci)/[A-Za-z0-9_./*-]*[A-Za-z0-9_*]' "${texts[@]}" |
     grep -vE '^[^:]*/CHANGELOG\.md:|/cd_bench$|/out$' | sed -E 's,:[^a-z.],:,' | sort -u | while IFS=: read -r page path; do
         compgen -G "$top/${path//NAME/*}" > /dev/null || echo "${page#"$top/"} $path"
     done)
 judge "no page and no crate names a file that is not there: $(head -n 3 <<< "$gone" | paste -sd ';')" test -z "$gone"
 
-# Each script of the sources, by its name or by its first line; those without one are sourced by bash.
+# Each script of the sources, by its name or its first line. Scripts without a first line are sourced by bash.
 while IFS= read -r -d '' file; do
     case $file in
         *.sh | *.bash) echo "$file" ;;

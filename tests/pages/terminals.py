@@ -1,8 +1,8 @@
 #!/usr/bin/env python3
-"""Types lines into a real shell on a pseudo-terminal, and prints what they become.
+"""Types lines into a real shell on a pseudo-terminal, and prints the completed lines.
 
-`terminals.py SHELL FILE` starts the shell, has it load the completion from FILE, types each line of standard input with a TAB after
-it, and prints the line that the shell then has. Nothing is sent before the shell has answered what came before.
+`terminals.py SHELL FILE` starts the shell, loads the completion from FILE, types each line of standard input followed by a TAB, and
+prints the resulting line. Nothing is sent before the shell has answered.
 """
 
 import os
@@ -21,7 +21,7 @@ COMMANDS = {
     "fish": ["fish", "--no-config", "-i"],
 }
 
-# How each shell loads the completion, and shows its line between << and >> at Ctrl-G.
+# The commands by which each shell loads the completion, and prints its line between << and >> at Ctrl-G.
 SETUP = {
     "bash": """source {file}; bind -x '"\\C-g": printf "\\n<%s%s>>\\n" "<" "$READLINE_LINE"'""",
     "zsh": """fpath=({folder} $fpath); autoload -Uz compinit; compinit -u -d {folder}/dump; """
@@ -31,7 +31,7 @@ SETUP = {
 
 
 def wait_for(descriptor, pattern, seconds=120):
-    """What the shell prints until the pattern, which has to come in this time."""
+    """Waits until the shell prints a pattern, at most for this many seconds, and returns the match."""
     printed = ""
     end = time.monotonic() + seconds
     while time.monotonic() < end:

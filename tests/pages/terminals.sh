@@ -1,6 +1,6 @@
-# The completions as a person types: lines with a TAB in the real bash, zsh and fish, on a pseudo-terminal.
+# Tests the completions as a person types: lines with a TAB in the real bash, zsh, and fish, on a pseudo-terminal.
 
-# What is typed before TAB, and what the line is then; with nothing after the bar it stays as it is.
+# The text typed before TAB, and the resulting line. If nothing follows the bar, the line stays as it is.
 cat > "$scratch/typed" << 'END'
 cdpatch au|cdpatch audit
 cdpatch fr|
@@ -54,7 +54,7 @@ cdscript diff --track 2 image im|cdscript diff --track 2 image image
 cdscript replace-file image path sc|cdscript replace-file image path script
 END
 
-# in_terminal SHELL FILE TYPED: types the lines into the shell, and compares what they become.
+# in_terminal SHELL FILE TYPED: types the lines into the shell, and compares the resulting lines.
 in_terminal() {
     local shell=$1 typed wanted got name=$1_${2##*/}
     mkdir "$scratch/typing_$name"
@@ -66,7 +66,7 @@ in_terminal() {
     python3 "$top/tests/pages/terminals.py" "$shell" "$scratch/load_$name/${2##*/}" < lines > ../became 2> ../errors
     judge "$shell answers on a terminal: $(tail -n 1 ../errors)" test $? = 0
     while IFS='|' read -r typed wanted <&3 && IFS= read -r got <&4; do
-        # A shell may put a space or, to an option with an argument, `=` after what it completed.
+        # A shell may append a space or, to an option with an argument, `=`.
         got=${got%"${got##*[! ]}"}
         [[ $wanted == *--base || $wanted == *--dat ]] && got=${got%=}
         judge "$shell on a terminal: '$typed' becomes '${wanted:-$typed}', not '$got'" test "$got" = "${wanted:-$typed}"

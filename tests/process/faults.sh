@@ -1,9 +1,9 @@
 #!/usr/bin/env bash
-# Each call of the system fails in turn, or does less than it was asked for: `bash tests/process/faults.sh [PROGRAM]`. The last line is
-# 'N passed, M failed'.
+# Makes each system call fail in turn, or do less than requested: `bash tests/process/faults.sh [PROGRAM]`. The last line is 'N passed, M
+# failed'.
 #
-# A call that fails is not made again, and no byte follows a failed write. What was written is a prefix of the right bytes, and
-# the status is 2.
+# A failed call must not be repeated, and nothing may be written after a failed write. The written bytes must be a prefix of the right ones,
+# and the status must be 2.
 set -u
 . "$(dirname "$0")/../lib/helpers.sh"
 
@@ -12,13 +12,13 @@ image=$here/image
 script=$here/large.script
 out=$here/out
 buffer=65856
-# Each patch meets one block, so no more than one sector is in hand.
+# Each patch is in one block, so at most one sector is in hand.
 in_hand=1
 prepare_large
 make_large 2351
 
-# struck CALLS FILE FAULT WORD..: the program with these words. A fault is put into its calls on a file, or none if FAULT is
-# empty; those calls are in `trace`, a line each. `$input` is its standard input.
+# struck CALLS FILE FAULT WORD..: runs the program with these arguments, and injects FAULT, unless it is empty, into its calls on a file.
+# These calls are in `trace`, one in a line. `$input` is the standard input.
 struck() {
     local calls=$1 file=$2 fault=$3
     shift 3
@@ -29,13 +29,13 @@ struck() {
     status=$?
 }
 
-# The number of bytes that the calls before the one that failed have moved.
+# The number of bytes moved by the calls before the failed one.
 moved_before() {
     awk -v at="$at" 'NR < at { sum += $NF } END { print sum + 0 }' trace
 }
 
-# each CALLS FILE FAULTS CHECK WORD..: the program with these words, as often as it makes such calls on the file; in each run
-# another one of them has a fault, and a check looks at what came of it.
+# each CALLS FILE FAULTS CHECK WORD..: runs the program with these arguments once for each such call on the file. In each run a different
+# call has a fault, and CHECK judges the result.
 each() {
     local calls=$1 file=$2 faults=$3 check=$4 name="${*:5}" count fault
     shift 4
@@ -51,18 +51,18 @@ each() {
     done
 }
 
-# The run had this status, and said nothing on standard error; the call that failed was the last one on its file.
+# Whether the run had status 2 and printed nothing on standard error, and the failed call was the last one on its file.
 ended_at_fault() {
     [ "$status" = 2 ] && [ ! -s errors ] && [ "$(wc -l < trace)" = "$at" ]
 }
 
-# says LINE: the last line is this one; those before it are `before`.
+# says LINE: whether the last line of the log is this one. Writes the lines before it to `before`.
 says() {
     head -n -1 log > before
     [ "$(tail -n 1 log)" = "$1" ]
 }
 
-# How many lines the log has for the patches on the first blocks.
+# lines_of_blocks COUNT: prints the number of log lines for the patches on the first blocks.
 lines_of_blocks() {
     if (($1 <= 0)); then
         echo 0
@@ -75,12 +75,12 @@ lines_of_blocks() {
     fi
 }
 
-# logged NUMBER: what was logged before the last line is a prefix of the right log, and has the lines of so many blocks at least.
+# logged NUMBER: whether the log before the last line is a prefix of the right log, and has at least the lines of this many blocks.
 logged() {
     within before "$right_log" && [ "$(wc -l < before)" -ge "$(lines_of_blocks "$1")" ]
 }
 
-# sent LEAST: the output is a prefix of the right one, and has so many bytes at least.
+# sent LEAST: whether the output is a prefix of the right one, and has at least this many bytes.
 sent() {
     within out "$right_out" && [ "$(stat -c %s out)" -ge "$1" ]
 }
@@ -90,7 +90,7 @@ right_out=patched
 
 # ---- the image
 
-# A failed read of the image: all that is known by then has been printed.
+# A failed read of the image: everything known by then has been printed.
 image_failed() {
     local moved sectors
     moved=$(moved_before)
@@ -104,7 +104,7 @@ image_failed() {
     esac
 }
 
-# A read that moves no byte ends the image: the answer is that for an image cut there.
+# A read of no bytes ends the image: the result is that for an image that ends there.
 image_cut() {
     local struck_status=$status
     head -c "$(moved_before)" image > cut_image
@@ -115,14 +115,14 @@ image_cut() {
     [ "$2" != apply ] || cmp -s out out.struck
 }
 
-# An image that was not opened.
+# An image that could not be opened.
 image_refused() {
     ended_at_fault && [ ! -e out ] && [ "$(cat log)" = "$no_image" ]
 }
 
 # ---- the script
 
-# A read that moves no byte ends the script too, although the next one would give more.
+# A read of no bytes ends the script too, although the next read would return more.
 script_cut() {
     local struck_status=$status
     head -c "$(moved_before)" large.script > cut_script
@@ -144,7 +144,7 @@ out_failed() {
     logged $((moved / 2352)) && sent "$moved" && [ "$(stat -c %s out)" = "$moved" ]
 }
 
-# A failed sync: all is written, and printed.
+# A failed sync: everything was written and printed.
 sync_failed() {
     ended_at_fault && says "$write_failed" && cmp -s before "$right_log" && cmp -s out "$right_out"
 }
@@ -155,7 +155,7 @@ out_refused() {
 
 # ---- standard output
 
-# A failed write of the log: what was sent to the output by then is written, so many bytes at least.
+# A failed write of the log: the bytes sent to the output by then are written, at least this many.
 sent_by_then=0
 log_failed() {
     ended_at_fault && within log "$right_log" && [ "$(stat -c %s log)" = "$(moved_before)" ] || return
@@ -164,14 +164,14 @@ log_failed() {
 
 # ---- short counts
 
-# without FILE FROM COUNT: the bytes of a file but for so many.
+# without FILE FROM COUNT: prints a file without these bytes.
 without() {
     head -c "$2" "$1"
     tail -c +$(($2 + $3 + 1)) "$1"
 }
 
-# The system took fewer bytes than it was given, and says so: those after them follow. The injected call writes none, so the
-# file lacks just those that were taken.
+# A write that reports fewer bytes than it was given: the program must write the rest. The injected call writes none, so exactly these bytes
+# are missing in the file.
 taken_in_part() {
     local count=${1#retval=} file=$2 right=$3 moved
     moved=$(moved_before)
@@ -187,7 +187,7 @@ as_ever() {
     [ "$2" != apply ] || cmp -s out "$right_out"
 }
 
-# The lines of the trace that have a sync.
+# syncs FILE: prints the number of syncs in a trace.
 syncs() {
     grep -c '^f\(data\)\?sync(' "$1"
 }
@@ -227,7 +227,7 @@ outputs_fail() {
     each openat out "error=EIO error=ENOSPC error=EROFS" out_refused apply "$image" "$script" "$out"
     each write out "$errors retval=0" out_failed apply "$image" "$script" "$out"
     each write out 'retval=1 retval=2351' out_taken_in_part apply "$image" "$script" "$out"
-    # This log is written when the output is finished.
+    # This log is written after the output is finished.
     sent_by_then=$(stat -c %s patched)
     each write log "$errors retval=0" log_failed apply "$image" "$script" "$out"
     each write log 'retval=1 retval=100' log_taken_in_part apply "$image" "$script" "$out"
@@ -236,14 +236,14 @@ outputs_fail() {
     each close large.script "$errors" as_ever apply "$image" "$script" "$out"
 }
 
-# Status 0 means that the system has it: the last call on the output before it is closed is a sync. Standard output has none.
+# With status 0 the data are on the disk: the last call on the output before it is closed is a sync. Standard output is never synced.
 syncs_come_last() {
     struck write,fsync,fdatasync,close out '' apply "$image" "$script" "$out"
     judge 'the output is synced once' test "$(syncs trace)" = 1
     judge 'the sync comes last' test "$(grep -v '^close(' trace | tail -n 1 | grep -c sync)" = 1
     judge 'a write for each buffer' test "$(grep -c '^write(' trace)" -le 4
     each fsync,fdatasync out 'error=EIO error=ENOSPC error=EDQUOT' sync_failed apply "$image" "$script" "$out"
-    # std makes an interrupted sync again.
+    # std repeats an interrupted sync.
     each fsync,fdatasync out error=EINTR as_ever apply "$image" "$script" "$out"
     for command in list audit check apply; do
         case $command in
@@ -256,7 +256,7 @@ syncs_come_last() {
     done
 }
 
-# Texts of several buffers. The image is of noise and blank sectors in turn, the script rebuilds one sector over and over.
+# Texts of several buffers. The image alternates noise and blank sectors; the script rebuilds one sector repeatedly.
 long_texts_fail() {
     {
         head -c 12 sector.0
@@ -298,7 +298,7 @@ long_texts_fail() {
     right_out=patched
 }
 
-# On a terminal each line is a write, and a failed one is the last.
+# On a terminal each line is written separately, and a failed write is the last.
 terminals_fail() {
     local number lines=9
     for ((number = 0; number < lines - 1; number++)); do
@@ -341,7 +341,7 @@ fi
 
 # ---- few bytes a call
 
-# few NUMBER WORD..: the program with these words, whose reads and writes move at most so many bytes.
+# few NUMBER WORD..: runs the program with these arguments, with reads and writes that move at most this many bytes.
 few() {
     rm -f out
     SHORT_READS=$1 SHORT_WRITES=$1 LD_PRELOAD=$here/short.so "$program" "${@:2}" > log 2> errors < /dev/null

@@ -1,6 +1,6 @@
 #!/usr/bin/env python3
-"""Writes a file to the standard output, a pipe, in chunks of a number of bytes: `feed.py SIZE FILE`. The next chunk goes out
-when the pipe's reader has taken the last, so that no read gets two of them. A reader that goes away ends it."""
+"""Writes a file to standard output, a pipe, in chunks of a fixed size: `feed.py SIZE FILE`. It waits until the reader has read a chunk
+before it writes the next, so that no read returns two. It ends when the reader does."""
 
 import array
 import fcntl
@@ -13,14 +13,14 @@ PIPE = 1
 
 
 def taken():
-    """Whether the reader has taken all that the pipe held."""
+    """Whether the reader has read all bytes in the pipe."""
     held = array.array("i", [0])
     fcntl.ioctl(PIPE, termios.FIONREAD, held)
     return held[0] == 0
 
 
 def feed(size, name):
-    """Gives the reader the file, chunk by chunk."""
+    """Writes the file chunk by chunk."""
     reader = select.poll()
     reader.register(PIPE, 0)
     with open(name, "rb") as file:

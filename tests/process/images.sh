@@ -1,22 +1,22 @@
 #!/usr/bin/env bash
-# Images of several buffers through files, pipes and the standard input into new files, byte for byte:
-# `bash tests/process/images.sh [PROGRAM]`. The last line is 'N passed, M failed'.
+# Patches and lists images of several buffers through files, pipes, and standard input, byte for byte: `bash tests/process/images.sh
+# [PROGRAM]`. The last line is 'N passed, M failed'.
 #
-# The right bytes are made without the program: those of the large image as `helpers.sh` says, and an image without patches
-# comes out as it went in.
+# The expected bytes are computed without the program: those of the large image as described in `helpers.sh`, and an image without patches
+# must stay the same.
 set -u
 . "$(dirname "$0")/../lib/helpers.sh"
 
 prepare_large
 
-# printed STATUS TEXT NAME: judges that the last run had this status, wrote the text of this file, and nothing to standard error.
+# printed STATUS TEXT NAME: judges that the last run had this status, printed the text in this file, and nothing on standard error.
 printed() {
     judge "$3: the status" test "$status" = "$1"
     judge "$3: the text" cmp -s "$2" log
     judge "$3: nothing on standard error" test ! -s errors
 }
 
-# made IMAGE NAME: judges that `out` is this image, and clears it away.
+# made IMAGE NAME: judges that `out` equals this image, and removes it.
 made() {
     judge "$2: the output" cmp -s out "$1"
     rm -f out
@@ -73,9 +73,9 @@ for size in 0 1 2351; do
     rm fifo
 done
 
-# ---- a pipe in chunks of all sizes, each read by itself
+# ---- a pipe in chunks of all sizes, each read separately
 
-# fed SIZE WORD..: the program with these words; its standard input is a pipe that gets the image in chunks.
+# fed SIZE WORD..: runs the program with these arguments. Its standard input is a pipe that delivers the image in chunks.
 fed() {
     local size=$1
     shift
@@ -86,7 +86,7 @@ fed() {
 if ! missing python3 python3 'a pipe in chunks, and lines on a terminal'; then
     for size in 1 7 2351 2352 2353 4096 65535 65536; do
         if [ $size = 1 ]; then
-            # Each chunk waits for the reader, so these are few.
+            # Each chunk waits for the reader, so there are few.
             joined 0 1 2 > image
             joined 3 1 2 > patched
             printf 'cdpatch 2\naddress 0 00:02:03\nset 0 0 %s\n' "${user[3]}" > small
@@ -106,7 +106,7 @@ if ! missing python3 python3 'a pipe in chunks, and lines on a terminal'; then
     done
 fi
 
-# ---- sectors patched one at a time give the same as all of them in one image
+# ---- sectors patched one at a time give the same result as all of them in one image
 
 make_large 100
 echo 'cdpatch 1' > script
@@ -126,7 +126,7 @@ done
 cat sector.end >> wanted_image
 judge 'fills: the output is that of the sectors one at a time' cmp -s filled wanted_image
 
-# ---- images without patches, of lengths about those of sectors and buffers, whose bytes lie across both
+# ---- images without patches, with lengths near those of sectors and buffers, and bytes across both
 
 echo 'cdpatch 1' > script
 echo 'applied 0 refused 0' > none.log
@@ -156,11 +156,11 @@ for size in 0 1 2351 2352 2353 65535 65536 65537 65855 65856 65857 131071 131072
     printed 0 list.log "list, $size bytes"
 done
 
-# ---- disks that get full, before and after the end of a buffer
+# ---- disks that become full, before and after the end of a buffer
 
 make_large 2351
 
-# full ROOM NAME: judges the last run, after which `out` has this number of bytes of the patched image and no more.
+# full ROOM NAME: judges the last run, after which `out` must have exactly this many bytes of the patched image.
 full() {
     judge "$2: the status" test "$status" = 2
     judge "$2: the last line" test "$(tail -n 1 log)" = "$write_failed"
@@ -173,7 +173,7 @@ full() {
 }
 
 for blocks in 0 1 2 64 65 128 129 194; do
-    # The limit is for each file that the program writes, so its text goes through a pipe.
+    # The limit applies to each file that the program writes, so its text goes through a pipe.
     (
         trap '' XFSZ
         ulimit -f $blocks
@@ -193,15 +193,15 @@ else
     skip 'a full disk, which wants a user who may mount one'
 fi
 
-# ---- lines on a terminal, which show while the image still waits
+# ---- lines on a terminal, which are shown while the program waits for the rest of the image
 
-# shows LINES WORD..: the program with these words on a terminal. Its standard input gets `image` and stays open. When so many
-# lines were shown they are `first`, then comes Ctrl-C, and all that was shown is `log`.
+# shows LINES WORD..: runs the program with these arguments on a terminal. Its standard input gets `image` and stays open. After this many
+# lines, which are written to `first`, Ctrl-C is sent. `log` has everything that was shown.
 shows() {
     python3 "$tests/process/terminal.py" image "$1" first end "$program" "${@:2}" > log 2> errors
 }
 
-# seen NAME TEXT: judges that these lines were shown while the image waited, and that Ctrl-C, which ended the run, took none away.
+# seen NAME TEXT: judges that these lines were shown while the program waited, and that Ctrl-C, which ended the run, lost none.
 seen() {
     printf '%b' "$2" > wanted
     judge "$1: the lines show" cmp -s first wanted
@@ -237,7 +237,7 @@ if command -v python3 > /dev/null; then
     judge 'an output is there' test -f out
     rm -f out
 
-    # To the end, with no Ctrl-C.
+    # To the end, without Ctrl-C.
     shows 0 apply - script out
     printf 'line 3: applied\nline 4: refused: old bytes differ at block 0 offset 0\nline 2: applied\n%s\n%s\n' \
         'line 5: refused: no block 6' 'applied 2 refused 2' > wanted

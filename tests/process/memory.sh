@@ -1,9 +1,9 @@
 #!/usr/bin/env bash
-# Memory is refused: under a falling limit of address space, and each growth in turn: `bash tests/process/memory.sh [PROGRAM]`. The last
-# line is 'N passed, M failed'.
+# Refuses memory, under a falling limit of address space, and for each allocation in turn: `bash tests/process/memory.sh [PROGRAM]`. The
+# last line is 'N passed, M failed'.
 #
-# Each run gives the right answer, or one of the two lines for want of memory and status 2; the same run afterwards, with
-# nothing refused, gives the right answer.
+# Each run must give the right answer, or one of the two lines about missing memory and status 2. The same run afterwards, with enough
+# memory, must give the right answer.
 set -u
 . "$(dirname "$0")/../lib/helpers.sh"
 
@@ -11,15 +11,14 @@ prepare_large
 make_large 2351
 declare -A lines_told=()
 
-# right_answer COMMAND: the last run was right.
+# right_answer COMMAND: whether the last run gave the right answer.
 right_answer() {
     [ "$status" = "$right_status" ] && cmp -s log "$right_log" && [ ! -s errors ] || return
     [ "$1" != apply ] || cmp -s out "$right_out"
 }
 
-# refused COMMAND: the last run said just that it found no memory, by a line that is kept in `lines_told`, and an output that was
-# made is empty. The script's line comes only where there is a script, and it has no fault: a fault is printed whatever memory
-# there is.
+# refused COMMAND: whether the last run printed only that it has no memory, and an output, if created, is empty. The line is recorded in
+# `lines_told`. The line about the script may occur only if there is a script without a fault: a fault is printed in any case.
 refused() {
     mapfile -t said < log
     [ "$status" = 2 ] && [ ${#said[@]} = 1 ] && [ ! -s errors ] && [ ! -s out ] || return
@@ -35,7 +34,7 @@ right_or_refused() {
     right_answer "$1" || refused "$1"
 }
 
-# limited KILOBYTES WORD..: the program with these words and so much address space.
+# limited KILOBYTES WORD..: runs the program with these arguments and this much address space.
 limited() {
     rm -f out
     (
@@ -45,12 +44,12 @@ limited() {
     status=$?
 }
 
-# Whether the program was not begun: the system's loader found no room for it, and says so by this status.
+# Whether the program was not started: the loader had no memory, which it reports by this status.
 not_begun() {
     [ "$status" = 127 ] && [ ! -s log ]
 }
 
-# falling WORD..: the program with these words under limits that fall from 100 MB until it isn't begun any more.
+# falling WORD..: runs the program with these arguments under limits that fall from 100 MB until it cannot be started.
 falling() {
     local limit=100000 name="$*" refusals=0
     while [ $limit -gt 1000 ]; do
@@ -70,16 +69,16 @@ falling() {
     judge "$name with memory again" right_answer "$1"
 }
 
-# refusing WORD..: the program with these words. The shim refuses it memory when it asks for the `number`th time, and from then
-# on if `REFUSE_REST` is set.
+# refusing WORD..: runs the program with these arguments. The shim refuses its `number`th request for memory, and all later ones if
+# `REFUSE_REST` is set.
 refusing() {
     rm -f out refused
     local -x REFUSE=$number REFUSED=refused LD_PRELOAD=$scratch/refuse.so
     run "$@"
 }
 
-# in_turn WORD..: the program with these words, as often as it asks for memory; another one of these calls is refused each time,
-# and then that call and all after it.
+# in_turn WORD..: runs the program with these arguments once for each of its requests for memory. In each run a different one is refused;
+# then that one and all later ones.
 in_turn() {
     local number refusals name="$*" rest
     for rest in '' rest; do
@@ -99,7 +98,7 @@ in_turn() {
     done
 }
 
-# commands CHECK: each command, by `falling` or `in_turn`.
+# commands CHECK: tests each command with `falling` or `in_turn`.
 commands() {
     right_status=0
     right_log=list.log
@@ -121,7 +120,7 @@ commands() {
 echo "script line 150: $bad_hex" > faulty.log
 commands falling
 
-# A large script. Its text of blank lines finds no memory to be read into, or its patches none to be kept.
+# A large script: there is no memory for its text of blank lines, or for its patches.
 { echo 'cdpatch 1'; yes 'set 3 0 4142' | head -n 20000; } > many
 for ((line = 2; line < 20002; line++)); do
     echo "line $line: applied"

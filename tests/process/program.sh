@@ -1,6 +1,6 @@
 #!/usr/bin/env bash
-# The program as a process, on real files, and what it says of files that are not there, are no files or hold no script:
-# `bash tests/process/program.sh [PROGRAM]`. The last line is 'N passed, M failed'.
+# Tests the program as a process on real files, and its messages about files that are missing, are not files, or contain no script: `bash
+# tests/process/program.sh [PROGRAM]`. The last line is 'N passed, M failed'.
 set -u
 . "$(dirname "$0")/../lib/helpers.sh"
 
@@ -15,9 +15,9 @@ judge 'the audit of the first example' ended 0 'sectors 8 mode1 8 damaged 0 tail
 judge 'the bytes of the first example' test "$(tail -c +2385 out | head -c 5)" = HELLO
 rm out
 
-# Three sectors of zeros, sync field and all: no patch of them is accepted.
+# Three sectors of zeros, including the sync field: no patch on them is accepted.
 head -c 7056 /dev/zero > blank
-# The sectors of an image that other software wrote, from block 0 on.
+# The sectors of an image by other software, from block 0.
 head -c 7056 "$vectors" > image
 printf 'cdpatch 1\nset 1 0 41\n' > script
 keep
@@ -78,7 +78,7 @@ rm ./-
 status=$?
 judge 'a script is no standard input' ended_without_output 2 "$no_script\n"
 
-# says LINE WORD..: with these arguments the program prints just this line, with status 2, and makes no file.
+# says LINE WORD..: judges that the program with these arguments prints only this line, has status 2, and creates no file.
 says() {
     local line=$1
     shift
@@ -97,7 +97,7 @@ ln image same_image
 echo kept > there
 ln -s there to_there
 
-# The script is read before the image is opened, and the image is opened before OUT is made.
+# The script is read before the image is opened, and the image is opened before OUT is created.
 for script in missing directory - ''; do
     says "$no_script" check image "$script"
     says "$no_script" apply missing "$script" out
@@ -123,7 +123,7 @@ judge 'apply directory script out' ended 2 "$read_failed\n"
 judge 'OUT is made before the image is read' test -e out -a ! -s out
 rm out
 
-# Whatever stands in OUT's place stays as it was.
+# An existing file at the place of OUT is not changed.
 for out in there image script directory nowhere/out dangling to_image same_image to_there '' /dev/null /dev/full /dev/stdout; do
     says "$no_output" apply image script "$out"
 done
@@ -132,7 +132,7 @@ judge 'nothing is made at the end of a link' test ! -e nothing
 judge 'no directory is made' test ! -e nowhere
 rm long same_image
 
-# This shell holds both ends of the FIFO, so that no one waits to open it.
+# The shell holds both ends of the FIFO, so that nothing waits to open it.
 mkfifo fifo
 exec 5<> fifo
 run apply image script fifo
@@ -152,7 +152,7 @@ for mask in 000:666 002:664 022:644 027:640 077:600; do
     rm -f out
 done
 
-# An image and a script that may only be read, by a user that has no other right to them.
+# A read-only image and script, for a user without any other right to them.
 mkdir shelf
 cp "$program" shelf/cdpatch
 cp image script shelf
@@ -182,7 +182,7 @@ if [ "$(id -u)" != 0 ] || [ ${#reader[@]} != 0 ]; then
     judge 'an output in a directory that may only be read' ended 2 "$no_output\n"
 fi
 
-# A limit on the size of a file stands for a disk that has room for so much.
+# A limit on file sizes emulates a disk with this much room.
 (
     trap '' XFSZ
     ulimit -f 4
@@ -214,7 +214,7 @@ judge 'help of a command' eval '[ "$status" = 0 ] && grep -q "Usage: cdpatch" lo
 "$program" --help > /dev/full 2> errors
 judge 'help to a full device has status 2' test $? = 2
 
-# Arguments that the parser refuses: its text is only on standard output, and no file is made.
+# refused WORD..: judges arguments that the parser refuses. Its text is only on standard output, and no file is created.
 refused() {
     run "$@"
     judge "refused: $*" told_by_parser
@@ -222,7 +222,7 @@ refused() {
 told_by_parser() {
     [ "$status" = 2 ] && grep -q '^error: ' log && [ ! -s errors ] && [ ! -e out ]
 }
-# explains PART WORD..: it prints this part too.
+# explains PART WORD..: the same, and the text contains this part.
 explains() {
     refused "${@:2}"
     judge "and prints $1" grep -q -- "$1" log
@@ -246,7 +246,7 @@ refused apply image script out --base 449850
 explains 449850 list image --base 449850
 refused apply image script out --base -1
 refused apply image script out --base 0 --base 0
-# The flags of a command, as its help has them.
+# flags_of COMMAND: prints the flags in its help.
 flags_of() {
     "$program" "$1" --help | sed -nE 's/^ +(--[a-z-]+)  .*/\1/p'
 }
@@ -266,7 +266,7 @@ judge 'a word that is no text' ended 2 "$no_text\n"
 run list image --base 449849
 judge 'the largest base' ended 0 '449849-449851 mode1\nsectors 3 tail 0\n'
 
-# With a standard stream closed, no message goes into a file.
+# With a closed standard stream, no message is written to a file.
 for closed in 0 1 2 01 02 12 012; do
     rm -f out
     : > log
@@ -295,7 +295,7 @@ judge 'the standard input closed' ended 2 "$read_failed\n"
 judge 'no output of that' test ! -s out
 rm -f out
 
-# A pipe whose reader is gone, which it says first.
+# A pipe whose reader has ended, which it reports first.
 mkfifo gone
 {
     read -r _ < gone

@@ -40,7 +40,7 @@ static uint64_t chance(void)
     return state >> 16;
 }
 
-/* The error of this call, or 0. */
+/* The error for this call, or 0. */
 static int fault(void)
 {
     const char *text = getenv("FAULTS");
@@ -56,7 +56,7 @@ static int fault(void)
     return 0;
 }
 
-/* How many bytes of `count` a call moves. */
+/* The number of bytes that a call moves, at most `count`. */
 static size_t part(size_t count)
 {
     const char *text = getenv("SHORT");

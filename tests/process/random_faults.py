@@ -1,12 +1,12 @@
 #!/usr/bin/env python3
-"""Calls of the program that fail, move fewer bytes than asked for, or are interrupted, by a seed:
+"""Runs the program with random faults selected by a seed: calls fail, move fewer bytes than requested, or are interrupted.
 `random_faults.py PROGRAM LIBRARY SECTORS FIRST COUNT`, in a scratch directory. LIBRARY is random_faults.c, SECTORS the file of
 the eight sectors.
 
-Each of COUNT seeds from FIRST on is two runs of one command on one image. In the first, reads and writes move a part of what they
-were asked for, and nothing fails; in the second one call, two calls, or all from one call on fail as well. The right bytes and
-texts are made without the program: the patches give a sector the address and the user data of another sector of the encoder. The
-first seed that shows the program wrong is printed, and can be run again. The last line is 'N passed, M failed'."""
+Each of COUNT seeds from FIRST on makes two runs of one command on one image. In the first, reads and writes move a part of the requested
+bytes, and nothing fails. In the second, one call, two calls, or all from one call on fail as well. The right bytes and texts are computed
+without the program: the patches give a sector the address and the user data of a different sector of the encoder. The first seed that shows
+a defect is printed, and can be run again. The last line is 'N passed, M failed'."""
 
 import errno
 import functools
@@ -38,17 +38,17 @@ LINES = {
 
 
 class Wrong(Exception):
-    """What the program did wrong."""
+    """A description of what the program did wrong."""
 
 
 def expect(condition, text):
-    """Says what is wrong if a condition does not hold."""
+    """Raises Wrong unless a condition holds."""
     if not condition:
         raise Wrong(text)
 
 
 class Case:
-    """An image, its script and the right answers of each command."""
+    """An image, its script, and the right answers of each command."""
 
     def __init__(self, sectors, blocks, tail):
         kinds = [None if block in BLANK else block % 8 for block in range(blocks)]
@@ -81,13 +81,13 @@ class Case:
 
     @staticmethod
     def runs(blocks):
-        """The runs of a list."""
+        """The runs in the output of `list`."""
         borders = [(0, BLANK.start, "mode1"), (BLANK.start, BLANK.stop, "nosync"), (BLANK.stop, blocks, "mode1")]
         return "".join(f"{first}-{min(end, blocks) - 1} {kind}\n" for first, end, kind in borders if first < min(end, blocks))
 
 
 class Run:
-    """One run of the program: its status, texts, OUT and calls."""
+    """One run of the program: its status, texts, OUT, and calls."""
 
     def __init__(self, program, library, case, command, piped, plan):
         words = [program, command, "-" if piped else case.name]
@@ -111,11 +111,11 @@ class Run:
             self.calls = [(call, name, int(answer)) for call, name, answer in map(str.split, trace)]
 
     def moved(self, call, name):
-        """How many bytes such calls on a file have moved."""
+        """The number of bytes that these calls on a file have moved."""
         return sum(answer for kind, file, answer in self.calls if (kind, file) == (call, name) and answer > 0)
 
     def faults(self):
-        """The calls that failed. A close that fails changes nothing, and std makes an interrupted open or sync again."""
+        """The calls that failed, except a failed close, which changes nothing, and an interrupted open or sync, which std repeats."""
         return [(at, call, name) for at, (call, name, answer) in enumerate(self.calls)
                 if answer < 0 and call != "close" and not (answer == -errno.EINTR and call in ("open", "sync"))]
 
@@ -127,12 +127,12 @@ def contents(name):
 
 
 def is_beginning(some, whole):
-    """Whether these bytes are a prefix of those."""
+    """Whether some bytes are a prefix of others."""
     return whole[:len(some)] == some
 
 
 def is_printed(log, right, line, log_failed):
-    """Whether a log is some first lines of the right one and then this line; of a log that failed, whether it is a prefix of that."""
+    """Whether a log consists of first lines of the right one and then this line. If writing the log failed, a prefix of that is enough."""
     borders = [0] + [at + 1 for at, byte in enumerate(log) if byte == ord("\n")]
     ends = [(log[at:], right[at:]) for at in borders if is_beginning(log[:at], right)]
     if log_failed:
@@ -141,7 +141,7 @@ def is_printed(log, right, line, log_failed):
 
 
 def judge(run, case, command):
-    """Raises what is wrong with a run."""
+    """Raises Wrong if a run is wrong."""
     right = case.texts[command].encode("ascii")
     faults = run.faults()
     expect(run.errors == b"", "standard error has a text")
@@ -164,7 +164,7 @@ def judge(run, case, command):
 
 
 def judge_fault(run, right, faults, command):
-    """Raises what is wrong with a run in which calls failed. The first of them says which line comes."""
+    """Raises Wrong if a run with failed calls is wrong. The first failed call determines the line."""
     expect(run.status == 2, f"a call failed, and the status is {run.status}")
     _, call, name = faults[0]
     log_failed = any(file == "log" for _, _, file in faults)
@@ -175,7 +175,7 @@ def judge_fault(run, right, faults, command):
 
 
 def faults_among(chance, calls):
-    """One or two of so many calls, or all from one on, with an error each."""
+    """One or two of `calls` calls, or all from one on, each with an error."""
     kind = chance.randrange(4)
     if kind == 3:
         first = chance.randint(1, calls)
@@ -188,7 +188,7 @@ def faults_among(chance, calls):
 
 
 def try_seed(program, library, make_case, seed):
-    """Raises what is wrong with the two runs of a seed."""
+    """Raises Wrong if one of the two runs of a seed is wrong."""
     chance = random.Random(seed)
     case = make_case(chance.choice(SIZES), chance.choice(TAILS))
     command = chance.choice(["list", "audit", "check", "apply", "apply", "apply"])
@@ -201,7 +201,7 @@ def try_seed(program, library, make_case, seed):
 
 
 def main(program, library, sectors, first, count):
-    """Tries the seeds, up to the first that shows the program wrong."""
+    """Tries the seeds until one shows that the program is wrong."""
     whole = contents(sectors)
     sectors = [whole[at:at + SECTOR] for at in range(0, len(whole), SECTOR)]
     make_case = functools.cache(lambda blocks, tail: Case(sectors, blocks, tail))

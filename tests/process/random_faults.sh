@@ -1,11 +1,11 @@
 #!/usr/bin/env bash
-# A thousand runs whose calls fail, move few bytes or are interrupted, by seeds: `bash tests/process/random_faults.sh [PROGRAM [SEED]]`.
-# With a SEED it runs that seed again, and no other. The last line is 'N passed, M failed'.
+# Makes a thousand runs whose calls fail, move few bytes, or are interrupted, by seeds: `bash tests/process/random_faults.sh [PROGRAM
+# [SEED]]`. With a SEED it runs only that seed. The last line is 'N passed, M failed'.
 set -u
 . "$(dirname "$0")/../lib/helpers.sh"
 . "$tests/wrong/program/programs.sh"
 
-# tried PROGRAM FIRST COUNT: what seeds show of a program. Its last line is a count.
+# tried PROGRAM FIRST COUNT: tries these seeds on a program. Prints a count in the last line.
 tried() {
     python3 "$tests/process/random_faults.py" "$1" "$scratch/random_faults.so" "$vectors" "$2" "$3" > shown
 }

@@ -1,8 +1,8 @@
 #!/usr/bin/env bash
-# Code without a contract: how the program opens, reads, writes and syncs the files and streams of a process:
-# `bash tests/process/system.sh [PROGRAM]`. The last line is 'N passed, M failed'.
+# Tests the code without a contract, by which the program opens, reads, writes, and syncs files and streams: `bash tests/process/system.sh
+# [PROGRAM]`. The last line is 'N passed, M failed'.
 #
-# Beside each check stand wrong programs that it must refuse, as must-fail edits are for proofs (`tests/wrong/program/wrong.c`).
+# Each check must also refuse wrong programs, as must-fail edits do for proofs (`tests/wrong/program/wrong.c`).
 set -u
 . "$(dirname "$0")/../lib/helpers.sh"
 . "$tests/wrong/program/programs.sh"
@@ -23,8 +23,8 @@ if ! missing strace strace 'calls of the system'; then
     fi
 fi
 
-# row NAME CHECK WRONG..: counts whether a check holds of the program, and whether it refuses each of these wrong programs. That it
-# holds with a launcher that changes nothing shows that it refuses only what is wrong.
+# row NAME CHECK WRONG..: judges that a check passes for the program, and fails for each of these wrong programs. It must also pass with a
+# launcher that changes nothing, which shows that it refuses only wrong programs.
 row() {
     local name=$1 check=$2 wrong
     judge "$name" checked "$check"
@@ -38,7 +38,7 @@ row() {
     program=$right_program
 }
 
-# What a shell says of a run that a signal ended, and a tool of a file that a wrong program did not make, is dropped.
+# Runs a check. Messages of the shell about a signal, and of tools about a missing file, are discarded.
 checked() {
     rm -rf out log errors rest trace
     "$1" 2> /dev/null
@@ -48,12 +48,12 @@ refused() {
     ! checked "$1"
 }
 
-# traced NAME..: a row that strace is wanted for.
+# traced NAME..: a row that needs strace.
 traced() {
     [ -z "$has_strace" ] || row "$@"
 }
 
-# answers COMMAND: whether the last run gave the right status and text, OUT, and nothing on standard error.
+# answers COMMAND: whether the last run gave the right status, text, and OUT, and nothing on standard error.
 answers() {
     case $1 in
         list) [ "$status" = 0 ] && cmp -s log list.log ;;
@@ -65,7 +65,7 @@ answers() {
 
 # ---- IMAGE and SCRIPT
 
-# The standard input is read from its place on.
+# Standard input is read from its current position.
 standard_input_from_its_place() {
     {
         dd bs=2352 count=1 of=/dev/null status=none
@@ -74,7 +74,7 @@ standard_input_from_its_place() {
     printf '0-38 mode1\n39-48 nosync\n49-82 mode1\nsectors 83 tail 2351\n' | cmp -s - log
 }
 
-# If IMAGE is a file, the standard input is as it was: a loop that reads names from it goes on.
+# If IMAGE is a file, standard input is not read, so that a loop that reads names from it continues.
 standard_input_left_alone() {
     local command words
     for command in list audit check apply; do
@@ -90,7 +90,7 @@ standard_input_left_alone() {
     done
 }
 
-# Two runs read one image and one script at once. The first waits with both read: its text does not fit into a full pipe.
+# Two runs read one image and one script at the same time. The first waits after reading both: its text does not fit into a full pipe.
 two_runs_at_once() {
     local first ended
     mkfifo full
@@ -111,7 +111,7 @@ two_runs_at_once() {
     answers check && [ $ended = 0 ] && [ ! -s first_errors ]
 }
 
-# Names that are links, and a directory that is one.
+# Links to files and to a directory are followed.
 links_are_followed() {
     ln -sf image linked
     ln -sf large.script linked_script
@@ -123,7 +123,7 @@ links_are_followed() {
     mv room/out out && answers apply
 }
 
-# Names with blanks and line feeds at their ends.
+# Names may begin or end with blanks and line feeds.
 names_are_taken_as_they_are() {
     local blank
     for blank in ' ' $'\t' $'\n'; do
@@ -135,7 +135,7 @@ names_are_taken_as_they_are() {
     done
 }
 
-# The image takes no memory, however long it is.
+# Memory does not grow with the length of the image.
 images_take_no_memory() {
     (
         ulimit -v 8000
@@ -154,7 +154,7 @@ images_take_no_memory() {
     echo 'applied 0 refused 0' | cmp -s - log && cmp -s out long
 }
 
-# resident WORD..: prints the largest resident size, in kB, of the program with these words, measured after it has read 47 MB of standard
+# resident WORD..: prints the maximum resident size in kB of the program with these arguments, measured after it has read 47 MB of standard
 # input, except for the last bytes, which the pipe may still hold.
 resident() {
     local size
@@ -169,8 +169,8 @@ resident() {
     rm -f out
 }
 
-# No command keeps the image that it reads. A limit on memory does not show this: a program may keep what it reads, and continue when it gets
-# no more memory.
+# No command keeps the image in memory. A limit on memory cannot test this: a program may keep what it reads, and continue when it gets no
+# more memory.
 images_are_not_kept() {
     local image
     for image in - /dev/stdin; do
@@ -179,13 +179,13 @@ images_are_not_kept() {
     done
 }
 
-# A block device, such as a drive's.
+# A block device, such as a drive.
 block_device() {
     run list "$device"
     printf '0-31 mode1\nsectors 32 tail 0\n' | cmp -s - log && [ "$status" = 0 ]
 }
 
-# Files are read 65,856 bytes at a time, and so is the standard input.
+# Files and standard input are read 65,856 bytes at a time.
 reads_are_large() {
     local given
     for given in image -; do
@@ -215,21 +215,21 @@ else
     skip 'a block device as image, which wants losetup and a user who may use it'
 fi
 
-# ---- OUT, and files that nobody asked for
+# ---- OUT, and files that nobody requested
 
-# OUT is made if there is none, in one call, only to be written; who else may use it is said by the umask.
+# OUT is created in one call, and opened only for writing. The umask decides who else may use it.
 out_is_made_new() {
     strace -qq -o trace -P "$here/out" -e trace=open,openat "$program" apply image large.script "$here/out" > log 2> errors
     grep -qF '/out", O_WRONLY|O_CREAT|O_EXCL|O_NOCTTY|O_CLOEXEC, 0666) = ' trace && [ "$(wc -l < trace)" = 1 ]
 }
 
-# OUT has the right bytes, whose last are fewer than a buffer.
+# OUT has the right bytes; the last of them are less than a buffer.
 out_is_written() {
     run apply image large.script out
     answers apply
 }
 
-# No file but OUT is left in the working directory, the temporary one or at home.
+# No file other than OUT is left in the working directory, in the temporary directory, or at home.
 no_other_file_is_left() {
     rm -rf work temporary home
     mkdir work temporary home
@@ -240,7 +240,7 @@ no_other_file_is_left() {
     [ "$(find work temporary home | sort | paste -sd ' ')" = 'home temporary work work/out' ]
 }
 
-# No other is opened to be written, made, removed or renamed meanwhile.
+# No other file is opened for writing, created, removed, or renamed.
 no_other_file_is_touched() {
     strace -qq -o trace -e trace=%file,ftruncate,fchmod,fchown "$program" apply image large.script out > log 2> errors
     grep -E 'O_WRONLY|O_RDWR|O_CREAT|O_TRUNC|^(unlink|rename|mkdir|rmdir|link|symlink|mknod|f?truncate|f?chmod|[fl]?chown|utime)' \
@@ -248,7 +248,7 @@ no_other_file_is_touched() {
     [ "$(wc -l < touched)" = 1 ] && grep -q '"out"' touched
 }
 
-# A limit on file sizes as every shell has it, with the signal that comes with it: it kills, as the man page says.
+# A limit on file sizes as a shell sets it, with its signal: the program is killed, as the man page says.
 size_limit_kills() {
     (
         ulimit -f 4
@@ -257,7 +257,7 @@ size_limit_kills() {
     [ $? = 153 ] && [ ! -s log ] && [ ! -s errors ] && within out patched && [ "$(stat -c %s out)" = 4096 ]
 }
 
-# What was sent to OUT before a read of the image failed is written.
+# Bytes sent to OUT before a failed read of the image are written.
 out_has_what_was_sent() {
     strace -qq -o trace -P "$here/image" -e inject=read:error=EIO:when=3 "$program" apply "$here/image" large.script out > log 2> errors
     [ $? = 2 ] && within out patched && [ "$(stat -c %s out)" -ge $((2 * 65856 - 2352)) ]
@@ -274,8 +274,8 @@ traced 'OUT has what was sent' out_has_what_was_sent drops_what_is_held
 
 kinds='EAGAIN EACCES EPERM EOPNOTSUPP ENOSYS EINVAL ENXIO ETIMEDOUT ENOSPC'
 
-# fails CALL FILE LINE WHEN [IMAGE]: in a run of `apply` such a call on a file fails with each of the kinds in turn. It is the last
-# on its file, this line is the last of the log, and the status is 2.
+# fails CALL FILE LINE WHEN [IMAGE]: in a run of `apply` this call on a file fails with each kind of error in turn. It must be the last call
+# on its file, this line must be the last of the log, and the status must be 2.
 fails() {
     local kind
     for kind in $kinds; do
@@ -303,8 +303,8 @@ traced 'each kind of error of a write to OUT' writes_of_out_fail repeats_a_write
 traced 'each kind of error of a write of the log' writes_of_the_log_fail prints_again
 traced 'each kind of error of a sync' syncs_of_out_fail passes_over_a_sync_that_is_not_known repeats_a_sync syncs_nothing
 
-# two_faults FILE CALLS FAULT..: in a run of `apply`, whose log has several buffers, these faults are put into calls on OUT and
-# another file; those of OUT are in `trace`.
+# two_faults FILE CALLS FAULT..: runs `apply` with a log of several buffers, and injects these faults into calls on OUT and on a different
+# file. The calls on OUT are in `trace`.
 two_faults() {
     local file=$1 fault injected=()
     for fault in "${@:2}"; do
@@ -319,7 +319,7 @@ two_faults() {
     [ "$(grep -c ' = -1 ' calls)" = 2 ] && [[ $(tail -n 1 trace) == *' = -1 '* ]]
 }
 
-# The image or the log fails, and then OUT: its failed call is its last.
+# The image or the log fails, and then OUT: the failed call on OUT is its last.
 second_fault_in_a_write() {
     two_faults image read:error=EIO:when=3 write:error=ENOSPC:when=2+ || return
     [ "$(tail -n 1 log)" = "$read_failed" ] || return
@@ -331,7 +331,7 @@ second_fault_in_a_sync() {
     two_faults log write:error=ENOSPC:when=1 fdatasync:error=EIO:when=1+ && [ ! -s log ]
 }
 
-# A read that gives no byte is the end of IMAGE and of SCRIPT, although the next one would give more.
+# A read of no bytes is the end of IMAGE and of SCRIPT, although the next read would return more.
 first_end_is_the_end() {
     strace -qq -o trace -P "$here/image" -e inject=read:retval=0:when=2 "$program" list "$here/image" > log 2> errors &&
         [ "$(tail -n 1 log)" = 'sectors 28 tail 0' ] || return
@@ -340,8 +340,8 @@ first_end_is_the_end() {
 }
 traced 'a read of no byte is the end' first_end_is_the_end reads_on_after_the_end
 
-# synced STATUS SYNCS SCRIPT FAULT..: in a run of `apply` with this status and these faults OUT is synced so often, and nothing
-# is written to it after that.
+# synced STATUS SYNCS SCRIPT FAULT..: whether a run of `apply` with these faults has this status, syncs OUT this many times, and writes
+# nothing to it afterwards.
 synced() {
     local fault injected=()
     for fault in "${@:4}"; do
@@ -355,10 +355,10 @@ synced() {
     [ "$(grep -c 'sync(' trace)" = "$2" ] && { [ "$2" = 0 ] || [[ $(tail -n 1 trace) == fdatasync* ]]; }
 }
 
-# No contract sees a sync: to it a flush is a call of `finish`.
+# Contracts do not cover a sync: for them a flush is a call of `finish`.
 syncs_of_each_status() {
     synced 0 1 large.script && synced 1 1 refused.script || return
-    # The image fails, or the log: what was sent is synced. OUT itself fails: nothing is.
+    # If the image or the log fails, the sent bytes are synced. If OUT itself fails, nothing is.
     synced 2 1 large.script read:error=EIO:when=3 && synced 2 1 long.script write:error=ENOSPC:when=1 || return
     synced 2 0 large.script write:error=ENOSPC:when=1
 }
@@ -372,21 +372,21 @@ traced 'a fault, and then one of a sync' second_fault_in_a_sync repeats_a_sync s
 
 # ---- the standard output, and terminals
 
-# On a terminal each line is a write, whatever the other streams are.
+# A terminal gets each line in a separate write, whatever the other streams are.
 terminal_gets_lines() {
     python3 "$tests/process/terminal.py" damaged 0 first end sh -c 'exec strace -qq -s 0 -o trace -e trace=write "$0" "$@" 2> errors' \
         "$program" audit - > log
     [ "$(wc -l < trace)" = 3 ] && [ "$(cat end)" = 1 ]
 }
 
-# A file gets all at once, even if the other streams are terminals.
+# A file gets all lines in one write, even if the other streams are terminals.
 file_gets_all_at_once() {
     python3 "$tests/process/terminal.py" damaged 0 first end sh -c 'exec strace -qq -s 0 -o trace -e trace=write "$0" "$@" < /dev/tty > log' \
         "$program" audit damaged > shown
     [ "$(wc -l < trace)" = 1 ] && [ "$(wc -l < log)" = 3 ] && [ ! -s shown ]
 }
 
-# The line for want of memory, if the buffer of the standard output found none.
+# The line about missing memory is printed if there is none for the buffer of standard output.
 want_of_memory_is_printed() {
     REFUSE=1 REFUSED=refused LD_PRELOAD=$scratch/refuse.so "$program" list image > log 2> errors
     [ $? = 2 ] && [ "$(cat log)" = "$no_memory" ]
@@ -408,7 +408,7 @@ fi
 
 # ---- arguments
 
-# What is too much is refused, however many arguments come before it.
+# A superfluous argument is refused, however many arguments precede it.
 arguments_are_all_read() {
     run apply image large.script out --base 5 --carry more
     [ "$status" = 2 ] && grep -q '^error: ' log && [ ! -s errors ] && [ ! -e out ] || return
@@ -426,8 +426,8 @@ row 'arguments that are not text' arguments_must_be_text makes_text_of_arguments
 
 # ---- closed standard streams
 
-# with_closed STREAMS WORD..: the program with these words and these streams closed; the standard output goes to `log` if it is
-# open, and the standard input is the image.
+# with_closed STREAMS WORD..: runs the program with these arguments and these streams closed. Standard output goes to `log` if it is open,
+# and standard input is the image.
 with_closed() {
     local closed=$1 streams
     shift
@@ -439,7 +439,7 @@ with_closed() {
     status=$?
 }
 
-# What is read from a closed stream fails, and what is written to one too; no file of the user's takes its place.
+# Reading from a closed stream fails, and so does writing to one. None of the user's files is used in its place.
 closed_streams_are_no_files() {
     local closed before=
     for closed in 0 1 2 01 02 12 012; do
@@ -459,7 +459,8 @@ closed_streams_are_no_files() {
     done
 }
 
-# With no root directory for its number a closed stream is a fault, before any file is opened; if all are open, none is needed.
+# Without a root directory to occupy its number, a closed stream is an error before any file is opened. If all streams are open, none is
+# needed.
 closed_streams_without_a_root() {
     local closed before='strace -qq -o trace -P / -e inject=open,openat:error=EACCES'
     for closed in 0 1 2 01 02 12 012; do
@@ -473,7 +474,7 @@ closed_streams_without_a_root() {
     answers apply
 }
 
-# No file of the user's gets the number of a closed stream.
+# None of the user's files gets the number of a closed stream.
 numbers_are_above_those_of_streams() {
     local closed before='strace -qq -o trace -e trace=open,openat,execve'
     for closed in 0 1 2 01 02 12 012; do
@@ -490,8 +491,8 @@ traced 'closed streams without a root directory' closed_streams_without_a_root g
 
 # ---- signals
 
-# ends_by SIGNAL STATUS: the program waits for more from a pipe, and gets a signal. It ends at once, before the pipe's end; OUT is
-# kept, and has a prefix; the log, which goes to a file, is lost.
+# ends_by SIGNAL STATUS: sends a signal to the program while it waits for a pipe. It must end at once, before the end of the pipe. OUT is
+# kept and has a prefix; the log, which goes to a file, is lost.
 ends_by() {
     local run
     rm -f out feed
@@ -520,7 +521,7 @@ row 'Ctrl-C ends it' ended_by_ctrl_c ignores_ctrl_c removes_out_when_stopped
 
 # ---- old machines
 
-# too_old STATUS TEXT: the last run was none, and this text is on standard error.
+# too_old STATUS TEXT: whether the program did not run, and this text is on standard error.
 too_old() {
     [ "$status" = "$1" ] && [ ! -s log ] && [ ! -e out ] && grep -qF "$2" errors
 }
@@ -531,7 +532,7 @@ old_processor() {
     too_old 127 x86-64-v2
 }
 
-# The program with another name for the newest part of the C library that it asks for.
+# The program with a different name for the newest part of the C library that it requires.
 old_c_library() {
     sed 's/GLIBC_2\.34/GLIBC_2.94/' "$right_program" > newer
     chmod +x newer

@@ -1,9 +1,9 @@
 #!/usr/bin/env python3
-"""A program on a terminal of its own, whose standard input waits: `terminal.py FILE LINES SHOWN END PROGRAM WORD..`.
+"""Runs a program on its own terminal, with standard input that stays open: `terminal.py FILE LINES SHOWN END PROGRAM WORD..`.
 
-The program's standard input is a pipe that gets FILE and stays open. When LINES lines were shown, these are put into the file
-SHOWN; then comes Ctrl-C, and what was shown in all goes to the standard output. With 0 LINES the pipe is closed at once, and
-there is no Ctrl-C. The file END gets how the program ended: its status, or 'signal N'."""
+The program's standard input is a pipe that gets FILE and stays open. After LINES lines, which are written to the file SHOWN, Ctrl-C is
+sent. The complete output goes to standard output. With 0 LINES the pipe is closed at once, and there is no Ctrl-C. The file END gets the
+program's status, or 'signal N'."""
 
 import fcntl
 import os
@@ -14,20 +14,20 @@ import sys
 import termios
 import threading
 
-# Where no line comes in so many seconds, none will: the program waits for the pipe.
+# If no line comes for this many seconds, none will: the program waits for the pipe.
 LIMIT = 5
 
 
 def take_terminal():
-    """Makes the terminal of the standard output the one that the program is stopped from, also where the tests run with
-    Ctrl-C ignored, as a shell starts what goes on in the background."""
+    """Makes the terminal of standard output the controlling terminal, so that Ctrl-C reaches the program even if the tests run with Ctrl-C
+    ignored, as a shell does for background jobs."""
     signal.signal(signal.SIGINT, signal.SIG_DFL)
     os.setsid()
     fcntl.ioctl(1, termios.TIOCSCTTY, 0)
 
 
 def give(pipe, name, stays):
-    """Gives the pipe all bytes of a file, or as many as its reader takes."""
+    """Writes a file to the pipe, or as much as its reader reads."""
     try:
         with open(name, "rb") as file:
             pipe.write(file.read())
@@ -39,7 +39,7 @@ def give(pipe, name, stays):
 
 
 def more_of(terminal):
-    """What is shown next, or nothing: at the end, or when nothing comes."""
+    """The next output, or nothing at the end or if none comes."""
     if not select.select([terminal], [], [], LIMIT)[0]:
         return b""
     try:
@@ -49,7 +49,7 @@ def more_of(terminal):
 
 
 def show(name, lines, program):
-    """What the program showed first and in all, and how it ended."""
+    """The first output of the program, its complete output, and its status."""
     master, slave = os.openpty()
     run = subprocess.Popen(program, stdin=subprocess.PIPE, stdout=slave, stderr=slave, preexec_fn=take_terminal)
     os.close(slave)

@@ -1,4 +1,4 @@
-"""A client with types, for mypy. Each line that is ignored is one that the types of the package have to refuse."""
+"""A typed client for mypy. The types of the package must refuse each line that is ignored here."""
 
 import mmap
 import sys

@@ -1,4 +1,4 @@
-"""Objects of many kinds with the same bytes."""
+"""Objects of many types with the same bytes."""
 
 import mmap
 from array import array
@@ -38,7 +38,7 @@ def in_c_bytes(data):
 
 
 def mapped(data):
-    """A map that may only be read, as that of a file opened for reading."""
+    """A read-only map, like that of a file opened for reading."""
     if not data:
         return None
     made = mmap.mmap(-1, len(data))
@@ -51,5 +51,5 @@ FORMS = [bytes, in_bytearray, memoryview, in_the_midst, *(cast_to(*pair) for pai
 
 
 def in_each_form(data):
-    """Objects with these bytes, of all kinds that can have so many."""
+    """Objects with these bytes, of all types that can have this size."""
     return [made for made in (form(data) for form in FORMS) if made is not None]

@@ -1,4 +1,4 @@
-"""Any object with a buffer is read where it stands, and let go."""
+"""The package reads any object with a buffer in place, and releases it."""
 
 import ctypes
 

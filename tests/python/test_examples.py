@@ -1,4 +1,4 @@
-"""The example in Python, as a program. EXAMPLES names the directory that has it."""
+"""The example in Python as a program. EXAMPLES is the directory that contains it."""
 
 import os
 import subprocess
@@ -16,7 +16,7 @@ from image import audit_text
 EXAMPLE = Path(os.environ.get('EXAMPLES', Path(__file__).parents[2] / 'examples')) / 'fixlist.py'
 SECTOR = cdpatch.encode(cdpatch.address(0), bytes(2048))
 ROOM = 60000000
-# As a user has it: what is printed is written later.
+# As for a user, output is buffered.
 BUFFERED = {name: value for name, value in os.environ.items() if name != 'PYTHONUNBUFFERED'}
 
 
@@ -25,7 +25,7 @@ def limit():
 
 
 def listed(*words, image=b'', **more):
-    """How the example ends that is given an image as standard input, in little memory."""
+    """Runs the example with an image as standard input and little memory."""
     return subprocess.run([sys.executable, '-B', str(EXAMPLE), *words], **{'input': image, 'stdout': subprocess.PIPE, **more},
                           stderr=subprocess.PIPE, preexec_fn=limit, env={**BUFFERED, 'PYTHONPATH': str(Path(cdpatch.__file__).parent.parent)})
 

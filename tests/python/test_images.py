@@ -1,4 +1,4 @@
-"""The commands on images in memory, by the package and by the model of tests/model."""
+"""Compares the commands on images in memory with the model of tests/model."""
 
 import io
 import mmap

@@ -1,4 +1,4 @@
-"""The lines of `listing` and of `audit` one by one, against the model."""
+"""Compares the single lines of `listing` and `audit` with the model."""
 
 import re
 from itertools import groupby

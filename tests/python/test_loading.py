@@ -1,4 +1,4 @@
-"""Which library the package loads, what it says if there is none, and what it shows. Each runs a Python of its own."""
+"""The library that the package loads, the error if there is none, and the names that the package shows. Each test runs a new Python."""
 
 import builtins
 import inspect
@@ -19,7 +19,7 @@ SHOW = 'import cdpatch; print([line.split()[-1] for line in open("/proc/self/map
 
 
 def ran(package, code=SHOW, **more):
-    """A Python with the package in a directory, and with more variables of the environment."""
+    """Runs Python with the package of a directory and additional environment variables."""
     kept = {name: value for name, value in os.environ.items() if name not in ('CDPATCH_LIBRARY', 'LD_LIBRARY_PATH', 'PYTHONPATH')}
     return subprocess.run([sys.executable, '-B', '-c', code], capture_output=True, text=True,
                           env={**kept, 'PYTHONPATH': str(package), **more})
@@ -32,7 +32,7 @@ def loads(package, library, **more):
 
 @pytest.fixture
 def copy(tmp_path):
-    """The directory of a copy of the package, four below a prefix that has no library."""
+    """A copy of the package, four directories below a prefix without a library."""
     package = tmp_path / 'prefix' / 'share' / 'cdpatch' / 'python' / 'cdpatch'
     shutil.copytree(PACKAGE, package, ignore=shutil.ignore_patterns('__pycache__', '*.so.1'))
     return package
@@ -64,7 +64,7 @@ def test_then_that_of_the_prefix(copy, tmp_path):
 
 
 def with_older_library(directory):
-    """A library in which a call has another name."""
+    """A library in which a call has a different name."""
     found = with_library(directory)
     found.write_bytes(found.read_bytes().replace(b'cdpatch_survey\0', b'cdpatch_census\0'))
     return found

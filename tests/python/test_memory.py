@@ -1,5 +1,5 @@
-"""How much memory a call takes for a large image that is mapped: each in a Python of its own, which may take no more than half the
-image beside its maps. A map of a file that is shared or only read is not counted."""
+"""The memory that a call needs for a large mapped image: each call in a new Python, which may use at most half of the image's size besides
+its maps. A map that is shared with a file or read-only does not count."""
 
 import os
 import subprocess

@@ -1,4 +1,4 @@
-"""An image patched from a reader to a writer."""
+"""Patching an image from a reader to a writer."""
 
 import ctypes
 import io
@@ -28,7 +28,7 @@ PIECES = st.lists(st.integers(1, 5000), min_size=1, max_size=8)
 
 
 class InPieces:
-    """A reader that gives no more than these sizes in turn, or a writer that takes no more."""
+    """A reader that returns at most these sizes in turn, or a writer that accepts no more."""
 
     def __init__(self, data, sizes):
         self.inner, self.sizes, self.turn = io.BytesIO(data), sizes, 0
@@ -45,7 +45,7 @@ class InPieces:
 
 
 class Counting:
-    """A reader and writer that know how many bytes are between them, and the most that ever were."""
+    """A reader and writer that record the number of bytes between them, and its maximum."""
 
     def __init__(self, data):
         self.inner, self.held, self.most = io.BytesIO(data), 0, 0
@@ -62,7 +62,7 @@ class Counting:
 
 
 class Answering:
-    """A reader or writer whose calls answer as they are told after so many; the reader ends after one."""
+    """A reader or writer that behaves as given after some calls; the reader ends after one."""
 
     def __init__(self, data, first, answer):
         self.inner, self.left, self.answer = io.BytesIO(data), first, answer
@@ -85,7 +85,7 @@ def raising(error):
 
 
 def patched(image, script, base=0, carry=False):
-    """What `patch` makes of an image in memory."""
+    """The result of `patch` on an image in memory."""
     writer = io.BytesIO()
     report = cdpatch.patch(io.BytesIO(image), script, writer, base, carry)
     return (writer.getvalue(), *report)
@@ -184,7 +184,7 @@ def test_a_script_of_too_many_patches_is_refused():
 
 
 class Endless:
-    """A million blank sectors, and then as many bytes more as are given."""
+    """A reader of a million blank sectors, followed by additional bytes."""
 
     def __init__(self, more):
         self.left, self.zeros, self.written = 1000000 * 2352 + more, bytes(MOST_HELD), 0
@@ -350,7 +350,7 @@ def test_a_pipe_is_patched():
 
 
 def heard(script, reader, writer):
-    """The lines that `log` was handed until the call ended, and how it ended."""
+    """The lines passed to `log` until the call ended, and how it ended."""
     lines = []
     try:
         return lines, cdpatch.patch(reader, script, writer, log=lines.append)
@@ -386,13 +386,13 @@ def test_a_log_that_fails_leaves_a_prefix():
 
 
 def examples():
-    """The examples of help."""
+    """The examples in the package's help."""
     return [textwrap.dedent(found[0]) for found in re.finditer(r'(?m)(^    .*\n)+', cdpatch.__doc__)][:2]
 
 
 @pytest.fixture
 def room(tmp_path, monkeypatch):
-    """A directory with an image and a script by the names of the examples of help."""
+    """A directory with an image and a script under the names in the examples of help."""
     monkeypatch.chdir(tmp_path)
     (tmp_path / 'disc.bin').write_bytes(IMAGE)
     (tmp_path / 'changes').write_bytes(SCRIPT)

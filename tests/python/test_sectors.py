@@ -1,4 +1,4 @@
-"""Sectors by the package and by the model of tests/model."""
+"""Compares the calls on sectors with the model of tests/model."""
 
 import pickle
 import tracemalloc
@@ -19,7 +19,7 @@ FAR = [-1, -2048, -2 ** 63, 1 - 2 ** 64, -2 ** 64, 2048, 2 ** 31, 2 ** 32, 2 ** 
 
 
 def result_of(call, *arguments, **named):
-    """What a change answers, and the sector that it leaves."""
+    """The result of a change, and the sector that it leaves."""
     try:
         return OK, call(*arguments, **named)
     except tuple(ERRORS.values()) as error:
@@ -27,7 +27,7 @@ def result_of(call, *arguments, **named):
 
 
 def finding(found):
-    """As `audit` says it."""
+    """The defect as `audit` prints it."""
     return (found.zeros * ' zeros' + found.edc * ' edc' + (found.p > 0) * f' p={found.p}' + (found.q > 0) * f' q={found.q}')
 
 
@@ -105,7 +105,7 @@ def test_numbers_of_other_types_are_refused():
 
 
 class Seven:
-    """A whole number of another type, as numpy has them."""
+    """A whole number of a different type, such as numpy's."""
 
     def __index__(self):
         return 7

@@ -1,6 +1,6 @@
 #!/usr/bin/env python3
-"""Whether the shims of a directory meet their contracts: `shims.py windows|arm64 [DIRECTORY [TEST]]` compiles them with shim.c, and prints
-'passed NAME' or 'failed NAME' for each of its tests; the status is 1 if one failed. Without DIRECTORY they are those of targets/."""
+"""Tests whether the shims of a directory meet their contracts: `shims.py windows|arm64 [DIRECTORY [TEST]]` compiles them with shim.c, and
+prints 'passed NAME' or 'failed NAME' for each test. The status is 1 if one failed. The default directory is targets/."""
 
 import os
 import pty
@@ -14,14 +14,14 @@ TOP = TESTS.parent.parent
 WINE = '/usr/lib/wine/wine64'
 COMPILERS = {'windows': 'x86_64-w64-mingw32-gcc', 'arm64': 'aarch64-linux-gnu-gcc'}
 SHIMS = {'windows': ('windows.c', ['-lshell32']), 'arm64': ('linux.c', [])}
-# What comes before a program of each system, and before one of its libraries.
+# The commands that run a program of each system.
 RUNNERS = {'windows': [WINE], 'arm64': ['qemu-aarch64', '-L', '/usr/aarch64-linux-gnu']}
 WORDS = ['abc', 'ÄÖ']
 TIME = 60  # seconds, which no test takes
 
 
 def compiled(system: str, directory: Path, room: Path) -> Path:
-    """The program of the tests with a directory's shims. The shim alone is read after failing.h."""
+    """Compiles the test program with a directory's shims. Only the shim is compiled after failing.h."""
     shim, libraries = SHIMS[system]
     program, flags = room / 'shim.exe', ['-std=gnu11', '-O1', '-w', '-fno-builtin-realloc']
     for source, more in (directory / shim, ['-include', str(TESTS / 'failing.h')]), (directory / 'memory.c', []), (TESTS / 'shim.c', []):
@@ -31,7 +31,7 @@ def compiled(system: str, directory: Path, room: Path) -> Path:
 
 
 def run(system: str, program: Path, *words: str, out: int = subprocess.PIPE) -> tuple[int, str]:
-    """The status and the text of a run in a directory of its own; -1 if it does not end."""
+    """Runs a test in a new directory. Returns the status and the text, or the status -1 if it does not end."""
     with tempfile.TemporaryDirectory(dir=program.parent) as room:
         try:
             done = subprocess.run([*RUNNERS[system], program, *words], cwd=room, stdin=subprocess.DEVNULL, stdout=out, timeout=TIME,

@@ -1,6 +1,6 @@
 #!/usr/bin/env bash
-# `make check` where there is no command but those that each Debian has: what wants another is skipped, with the package that has it, and the
-# rest is tested: `bash tests/tools/bare.sh [PROGRAM]`. BARE names the groups, instead of these. The last line is 'N passed, M failed'.
+# Runs `make check` with only the commands that every Debian has: tests that need others must be skipped with the name of the package, and
+# the rest must pass: `bash tests/tools/bare.sh [PROGRAM]`. BARE names different groups to run. The last line is 'N passed, M failed'.
 set -u
 . "$(dirname "$0")/../lib/helpers.sh"
 commands='awk basename bash cat chmod chown cmp comm cp cut date dd diff dirname du env expr find fold grep head id install join kill ln ls mawk
@@ -13,7 +13,7 @@ for command in $commands; do
     ln -s "$(command -v "$command")" bare
 done
 
-# unnamed: what was skipped for no package.
+# unnamed: prints the skipped tests without a package.
 unnamed() { sed -nE 's/^[1-9][0-9]* skipped: //p' log | sed 's/; /\n/g' | grep -vE "Debian's packages? |needs such a processor"; }
 
 # shellcheck disable=SC2086 # words of one text

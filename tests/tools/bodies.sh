@@ -1,10 +1,10 @@
 #!/usr/bin/env bash
-# tests/wrong/bodies.py, which judges wrong bodies, on the smallest crate, with the toolchain: `bash tests/tools/bodies.sh`. The last line is
-# 'N passed, M failed'.
+# Tests tests/wrong/bodies.py, which judges wrong bodies, on the smallest crate with the toolchain: `bash tests/tools/bodies.sh`. The last
+# line is 'N passed, M failed'.
 set -u
 . "$(dirname "$0")/../lib/helpers.sh"
 
-# judged WORD..: runs the judge, with what it prints in `log`; whether its last line is the first word.
+# judged WORD..: runs the judge with the output in `log`. Whether its last line is the first word.
 judged() {
     python3 -B tests/wrong/bodies.py "${@:2}" > log 2>&1
     [ "$(tail -n 1 log)" = "$1" ] || { cat log; false; }
@@ -25,7 +25,7 @@ test_judge() {
     judge 'and recorded' grep -q "^$table" tests/wrong/refused.txt
     body the_same_program 'if block > MAX_BLOCK' 'if MAX_BLOCK < block'
     body no_such_text 'no such text' ''
-    # A seed whose fifth has none of those that are recorded.
+    # A seed that selects none of the recorded blocks.
     local seed=0
     while python3 -B tests/wrong/tables.py "$table" --fifth $seed | grep -qv -e same -e such; do seed=$((seed + 1)); done
     judge 'what is recorded is not tried again; a body that is right or cannot be made fails' judged '0 passed, 2 failed' --fifth $seed

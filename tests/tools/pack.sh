@@ -1,16 +1,16 @@
 #!/usr/bin/env bash
-# What tools/pack.py packs and what it refuses, what tools/pairs.py makes, what `make release` refuses, and the types and forms of web/
-# and of the tools: `bash tests/tools/pack.sh`. The last line is 'N passed, M failed'. TREE names a directory with other `tools` and `web`, ONLY the parts to
-# run, and CASE the only one of many alike that is wanted.
+# Tests tools/pack.py and its errors, the output of tools/pairs.py, the errors of `make release`, and the types and forms of web/ and of the
+# tools: `bash tests/tools/pack.sh`. The last line is 'N passed, M failed'. TREE names a directory with other `tools` and `web`, ONLY the
+# parts to run, and CASE the only one of many similar tests to run.
 set -u
 . "$(dirname "$0")/../lib/helpers.sh"
 fresh_numbers
 tree=${TREE-$top}
 
-# wanted NAME COMMAND..: judges by this name, if it is wanted.
+# wanted NAME COMMAND..: judges a command under this name, unless CASE is a different one.
 wanted() { [ "${CASE-$1}" != "$1" ] || judge "$@"; }
 
-# A small `web`: a core of two modules, a command and a page, whose script has the mark before the data of a patcher, of two texts.
+# A small `web`: a core of two modules, a command, and a page whose script joins the mark before the data of a patcher from two texts.
 mkdir -p small/{core,command,page/texts}
 printf '%s\n' '// What both doors use.' '' '/** @typedef {number} Size */' '' 'const step = 3;' '' '/**' ' * Adds.' ' * @param {number} n' ' */' \
     'export function more(n) {' '    return n + step; // stays' '}' > small/core/count.js
@@ -38,10 +38,10 @@ head -c 100 "$vectors" > module
 echo 'wasm-opt 99' > module.txt
 echo 'who made what' > NOTICES
 
-# join DOOR OUT [WEB]: joins the small `web`.
+# join DOOR OUT [WEB]: packs a door of the small `web`.
 join() { python3 -B "$tree/tools/pack.py" "$1" module "$2" --web "${3-small}" > log 2> errors; }
 
-# changed FILE COMMAND..: a copy `other` of the small `web` in which a command has changed a file, which it gets on its input.
+# changed FILE COMMAND..: creates a copy `other` of the small `web` with a file changed by a command, which reads it from standard input.
 changed() {
     local file=$1
     shift
@@ -50,7 +50,7 @@ changed() {
     "$@" < "small/$file" > "other/$file"
 }
 
-# refuses DOOR TEXT FILE COMMAND..: with a file changed so nothing is joined, and the message has this text.
+# refuses DOOR TEXT FILE COMMAND..: judges that with a changed file nothing is packed, and the error contains this text.
 refuses() {
     local door=$1 text=$2
     shift 2
@@ -59,7 +59,7 @@ refuses() {
     wanted "the join refuses $1: $text" eval '! join "$door" out other && [ ! -e out ] && grep -qF -- "$text" errors'
 }
 
-# After the last line, and before the first.
+# after TEXT: appends a text; the function below prepends one.
 after() { cat; printf '%b\n' "$1"; }
 before() { printf '%b\n' "$1"; cat; }
 
@@ -84,7 +84,7 @@ test_command() {
     judge 'and where there is none, that is' test "$? $(cat log errors)" = '2 cdscript needs node 18 or later'
 }
 
-# The only script and the only style of a page, with their hashes in its policy, and nothing else that may run.
+# has_its_hashes PAGE: whether a page has one script and one style with their hashes in its policy, and nothing else that may run.
 has_its_hashes() {
     python3 - "$1" << 'EOF_HASHES'
 import base64, hashlib, re, sys
@@ -116,7 +116,7 @@ test_page() {
     judge 'it has what its own text is made of, and the names of what made it' node "$tests/tools/packed_page.mjs" own page.html 2> log
 }
 
-# The doors of this tree, packed here and now, and then in another directory at another time, by another user if we may be one.
+# The doors of this tree, packed here, and then in a different directory at a different time, by a different user if possible.
 test_two_builds() {
     local door other=() user='this user'
     if [ "$(id -u)" = 0 ] && ! missing setpriv util-linux 'a build by another user'; then
@@ -165,7 +165,7 @@ test_refusals() {
         grep -qF "package esbuild" errors'
 }
 
-# A tree `release` whose sources are a commit, with stand-ins for rt, for tsc, and for what `make` leaves.
+# release_tree: creates a tree `release` whose sources are a commit, with stand-ins for rt, tsc, and the files that `make` builds.
 release_tree() {
     local name
     mkdir -p release/library/x86-64-v3 kit/rattle stubs
@@ -177,7 +177,7 @@ release_tree() {
     done < <(sed 's/#.*//; s/:/ /' release/crates.txt | tr -s ' ' '\n')
     printf '%s\n' '#!/bin/sh' "case \$1 in version) echo \"a-kit logic \$LOGIC\" ;; doc) echo '$PWD/kit/START' ;; esac" > stubs/rt
     printf '%s\n' '#!/bin/sh' "echo 'cdpatch $version'" > release/cdpatch
-    # Which types tsc makes is no matter of these tests.
+    # The types that tsc generates do not matter here.
     printf '%s\n' '#!/bin/sh' 'while [ "$1" != --outDir ]; do shift; done' 'cd web' \
         'find npm core -name "*.js" | while read -r file; do mkdir -p "$2/${file%/*}" && : > "$2/${file%.js}.d.ts"; done' > stubs/tsc
     chmod +x stubs/* release/cdpatch
@@ -191,7 +191,7 @@ release_tree() {
     mkdir release/completions
     : | tee release/completions/{_cdpatch,cdpatch.bash,cdpatch.fish,_cdscript,cdscript.bash} > release/completions/cdscript.fish
     : | tee release/library/{libcdpatch.a,libcdpatch.so.1} > release/library/x86-64-v3/libcdpatch.so.1
-    # Debian's packages are of libraries that exist.
+    # A stand-in for Debian's packages, which need existing libraries.
     printf '%s\n' '#!/bin/sh' ': > ../cdpatch_stand-in.deb' > stubs/dpkg-buildpackage
     printf '\0asm\1\0\0\0' > release/library/cdpatch-wasm64.wasm
     echo 'logic=proved functions=0' > release/library/cdpatch-wasm64.txt
@@ -202,7 +202,7 @@ release_tree() {
 commit() { git -c user.name=a -c user.email=a@localhost commit -aqm changed; }
 release() { make --no-print-directory -s -C "$1" release distdir="$PWD/made" "${@:2}" > log 2>&1; }
 
-# unfit TEXT COMMAND..: after a command, and a commit of what it has changed, nothing is released, and one reason has this text.
+# unfit TEXT COMMAND..: judges that after a command, and a commit of its changes, nothing is released, and one of the reasons has this text.
 unfit() { wanted "make release refuses: $1" is_unfit "$@"; }
 is_unfit() {
     rm -rf unfit made
@@ -214,7 +214,7 @@ is_unfit() {
 
 names_release() { bash release/tools/toolchain.sh > log && grep -qF "release 'a-kit' is none that was tried" log; }
 
-# A make dist of a tree in which nothing of the owner is filled in.
+# Runs make dist in a tree in which no entry of the owner is filled in.
 warns_once() {
     rm -rf unfilled
     cp -r release unfilled
@@ -222,7 +222,7 @@ warns_once() {
     [ "$(bash unfilled/tools/dist.sh nothing 2>&1 > log | grep -c '^warning: ')" = 1 ]
 }
 
-# Each file that is released has a signature, which fits it, and no other file.
+# Whether each released file has a valid signature, and no other file has one.
 signed() {
     local file
     release release SIGN="$PWD/owner" || return
@@ -294,14 +294,14 @@ typed_tools() {
         "$tests/wrong/bodies.py" > log || { cat log; false; }
 }
 
-# lint DIRECTORY WORD..: runs eslint there. Debian's eslint finds its parts by NODE_PATH, if node is another than Debian's.
+# lint DIRECTORY WORD..: runs eslint there. If node is not Debian's, Debian's eslint finds its parts by NODE_PATH.
 lint() {
     (cd "$1" && NODE_PATH=/usr/share/nodejs eslint -f unix --rulesdir "$tree/tools/eslint" --rule 'import-cycle: error' --rule 'rooms: error' "${@:2}")
 }
 lint_tools() { lint "$tree/tools" --no-eslintrc -c "$tree/web/.eslintrc.json" --env browser,node --parser-options sourceType:module . ; }
 
-# refuses_form TEXT FILE LINE: notes a line more in a module of web/, of which eslint has to say this text. Each line of a module stands in
-# another copy of web/, so that eslint reads all in one run.
+# refuses_form TEXT FILE LINE: records an additional line of a module in web/ for which eslint must report this text. Each line of a module
+# is in a different copy of web/, so that eslint reads all of them in one run.
 forms=() linted=()
 declare -A lines_of=()
 refuses_form() {
@@ -321,17 +321,17 @@ judge_forms() {
     done
 }
 is_said() { grep -F "/$2:" forms.log | grep -qF "$1"; }
-# has_type FILE LINE: whether eslint refuses a line more in the declarations of a room.
+# has_type FILE LINE: whether eslint refuses an additional line in the declarations of a room.
 has_type() {
     rm -rf other
     cp -r "$tree/web" other
     lint other "$(dirname "$1")" > log && echo "$2" >> "other/$1" && ! lint other "$(dirname "$1")" > log && grep -qF 'in a higher room' log
 }
 
-# of_header NAME: the number CDPATCH_NAME of the header.
+# of_header NAME: prints the number CDPATCH_NAME of the header.
 of_header() { sed -nE "s/.*\bCDPATCH_$1 = ([0-9]+).*/\1/p" "$top/include/cdpatch.h"; }
 
-# lacks_numbers WEB FILE..: whether no code in these has a number of cdpatch.h that nothing else is likely to be.
+# lacks_numbers WEB FILE..: whether no code in these files repeats a number of cdpatch.h that is unlikely to be anything else.
 lacks_numbers() {
     local number rule='error' sector base
     sector=$(of_header SECTOR_SIZE)

@@ -1,5 +1,5 @@
-// What a packed page of the small `web` of tests/tools/pack.sh has: `node packed_page.mjs module|notices|worker|own PAGE FILE` fails if that is not
-// what it was packed of. FILE is the module or the notices.
+// Checks a packed page of the small `web` of tests/tools/pack.sh: `node packed_page.mjs module|notices|worker|own PAGE FILE` fails unless
+// the page has the content that it was packed from. FILE is the module or the notices.
 
 import assert from 'node:assert/strict';
 import { readFileSync } from 'node:fs';

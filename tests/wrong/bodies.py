@@ -30,12 +30,12 @@ from typing import Any
 from tables import TOP, Block, blocks, needed, record, sum_of
 
 RT = Path(shutil.which('rt') or sys.exit('There is no rt on the path.')).resolve()
-# What the toolchain proves with.
+# The logic of the toolchain that proves.
 LOGIC = subprocess.run([RT, 'version'], stdout=subprocess.PIPE, text=True, check=True).stdout.partition('logic ')[2]
 FLAGS = ['--jobs', '1']
-# What rt says of a wrong body that was refused: True in release 13b; in 13f a word, as it also says one of those that were not.
+# The verdicts of rt on a refused wrong body: True in release 13b, and words in 13f, which also has words for those that were accepted.
 REFUSED = (True, 'refused', 'limit')
-# A proof that names what an edit took away says nothing of the contract, nor does one that waits for another.
+# A failure says nothing about the contract if a proof names something that the edit removed, or waits for a different proof.
 SAYS_LITTLE = re.compile(r'has no field|is not in scope|has no `|was not admitted|that depends? on')
 
 
@@ -55,9 +55,9 @@ rt = module_of_rt()
 @dataclass
 class Edit:
     path: str
-    function: str  # the one function that it changes, or ''
-    texts: dict[str, str]  # the crate's files as this edit alone makes them
-    why: str  # why it can't be applied, or ''
+    function: str  # the only function that it changes, or ''
+    texts: dict[str, str]  # the crate's files with this edit alone
+    why: str  # the reason why it cannot be applied, or ''
 
     @property
     def name(self) -> str:
@@ -65,7 +65,7 @@ class Edit:
 
 
 def function_at(text: str, place: int) -> str:
-    """The function of a crate's file whose body or contract has this place, or ''."""
+    """The function of a crate's file whose body or contract contains this place, or ''."""
     found = [*re.finditer(r'(?m)^( *)(?:pub(?:\([a-z]+\))? )?(?:const |unsafe |extern "C" )*fn (\w+)', text[:place])]
     if not found:
         return ''
@@ -74,7 +74,7 @@ def function_at(text: str, place: int) -> str:
 
 
 def changed_function(folder: Path, changes: str, named: str) -> str:
-    """The function that an edit's rows change if it is only the one that its file's name has, or ''."""
+    """The function that an edit changes, if it is only the one in the edit's file name; otherwise ''."""
     file = text = ''
     for line in changes.split('\n'):
         if line.startswith('file: '):
@@ -88,20 +88,21 @@ def changed_function(folder: Path, changes: str, named: str) -> str:
 
 
 def text_of(crate: Any) -> str:
-    """A sum of the sources, definitions, and proofs of a crate."""
+    """A checksum of the sources, definitions, and proofs of a crate."""
     files = sorted(path for room in ('src', 'specs', 'proofs') for path in Path(crate.folder, room).rglob('*') if path.is_file())
     return sum_of(*(part for path in files for part in (bytes(path.relative_to(crate.folder)), path.read_bytes())))
 
 
 def totals(crate: Any) -> list[tuple[Block, str]]:
-    """The wrong bodies in the tables of a crate, with the sum of what each depends on: itself, its crate, those below, and the toolchain."""
+    """The wrong bodies in the tables of a crate, each with a checksum of what it depends on: itself, its crate, the crates below, and the
+    toolchain."""
     below = sum_of(*(text_of(it) for it in [crate, *sorted(crate.below(), key=lambda it: str(it.name))]), LOGIC)
     tables = sorted(Path(crate.folder, 'wrong-bodies').glob('*.edits'))
     return [(block, sum_of(block.text, below)) for table in tables for block in blocks(table)]
 
 
 def laid_out(crate: Any, wrong: list[Block], room: Path) -> list[str]:
-    """The paths of a crate's edits: those of `must-fail`, and these blocks as files."""
+    """The paths of a crate's edits: those in `must-fail`, and these blocks written to files."""
     paths = []
     for block in wrong:
         paths.append(str(room / f'{block.table.stem}.{block.name}.edit'))
@@ -121,7 +122,7 @@ def edits_of(crate: Any, paths: list[str]) -> list[Edit]:
 
 
 def merged(texts: dict[str, str], edit: Edit, folder: str) -> dict[str, str] | None:
-    """The files of a crate that has some edits, with one more, or None if a text of that one is no longer there once."""
+    """The files of a crate with some edits and one more, or None if an old text of that one no longer occurs exactly once."""
     with open(edit.path, encoding='utf-8') as file, tempfile.TemporaryDirectory() as room:
         for path in edit.texts:
             to = Path(room, path)
@@ -132,7 +133,7 @@ def merged(texts: dict[str, str], edit: Edit, folder: str) -> dict[str, str] | N
 
 
 def rounds_of(edits: list[Edit], folder: str) -> list[tuple[list[Edit], dict[str, str]]]:
-    """The edits of one function each in as few checks as can be: of each function one in a check."""
+    """Distributes edits of one function each over as few checks as possible: each check has at most one edit of each function."""
     rounds: list[tuple[list[Edit], dict[str, str]]] = []
     for edit in edits:
         for at, (members, texts) in enumerate(rounds):
@@ -146,7 +147,7 @@ def rounds_of(edits: list[Edit], folder: str) -> list[tuple[list[Edit], dict[str
 
 
 def goals_refused(printed: str) -> dict[str, str]:
-    """By its name, the first goal of each function that a check has refused for the function itself."""
+    """By function name, the first goal that a check refused for the function itself."""
     goals: dict[str, str] = {}
     for line in printed.splitlines():
         at = re.match(r'(?:\./)?proofs/(?:[^:]*/)?(\w+)/\w+\.antt:\d+:\d+: error: (.*)', line)
@@ -155,14 +156,14 @@ def goals_refused(printed: str) -> dict[str, str]:
         said = re.match(r'fn \w+::(\S+): (?:no proof|not proved)(.*)', line)
         if said and ('`search` did not prove' in said[2] or said[2] == ''):
             path = [it for it in said[1].split('+')[0].split('::') if it != 'fn']
-            # A closure's goals are its function's: fn::FUNCTION::CALL.
+            # The goals of a closure belong to its function: fn::FUNCTION::CALL.
             name = said[1].split('fn::')[1].split('::')[0] if 'fn::' in said[1] else path[-1]
             goals.setdefault(name, said[2].lstrip(': ') or 'not proved')
     return goals
 
 
 def tried_at_once(crate: Any, edits: list[Edit], kept: str) -> dict[str, str]:
-    """By its name, the goal that refused each edit that one check of many has refused."""
+    """By edit name, the goal that refused it in a check of many edits."""
     refused: dict[str, str] = {}
     for members, texts in rounds_of([it for it in edits if it.function], crate.folder):
         done = rt.checked(crate, texts, FLAGS, kept)
@@ -173,7 +174,8 @@ def tried_at_once(crate: Any, edits: list[Edit], kept: str) -> dict[str, str]:
 
 
 def tried_alone(crate: Any, edit: Edit, kept: str | None) -> tuple[bool, str]:
-    """Whether a wrong body is refused by itself, and what to print of it. What was not refused over what was kept is tried from nothing."""
+    """Whether a wrong body is refused by itself, and the text to print. One that was not refused over kept results is tried again without
+    them."""
     said, text = rt.must_fail(crate, edit.path, FLAGS, kept)
     if said not in REFUSED and kept:
         said, text = rt.must_fail(crate, edit.path, FLAGS)
@@ -182,7 +184,7 @@ def tried_alone(crate: Any, edit: Edit, kept: str | None) -> tuple[bool, str]:
 
 
 def try_crate(crate: Any, wrong: list[Block]) -> tuple[int, int]:
-    """How many of some wrong bodies of a crate were refused, and how many not."""
+    """How many of some wrong bodies of a crate were refused, and how many were not."""
     with tempfile.TemporaryDirectory(prefix='wrong-bodies-') as room:
         return try_edits(crate, edits_of(crate, laid_out(crate, wrong, Path(room))))
 
@@ -194,7 +196,7 @@ def try_edits(crate: Any, edits: list[Edit]) -> tuple[int, int]:
     with tempfile.TemporaryDirectory(prefix='wrong-bodies-') as kept:
         goals = tried_at_once(crate, fit, kept)
         over: str | None = kept
-        # Over what these checks have kept the crate as it is has to be proved: else they show nothing.
+        # The unchanged crate must be proved over the results that these checks have kept; otherwise they show nothing.
         if fit and rt.checked(crate, {}, FLAGS, kept).returncode:
             goals, over = {}, None
             lines.append(f'{crate.name} is not proved over what was kept, so each wrong body is tried from nothing')
@@ -211,7 +213,8 @@ def try_edits(crate: Any, edits: list[Edit]) -> tuple[int, int]:
 
 
 def try_and_record(crate: Any, seed: str | None) -> tuple[int, int]:
-    """With a seed, tries what refused.txt lacks and a fifth of the others. Without one tries all, and records them if all are refused."""
+    """With a seed, tries the blocks that refused.txt lacks and a fifth of the others. Without one tries all, and records them if all are
+    refused."""
     found = totals(crate)
     counts = try_crate(crate, [block for block, _ in found] if seed is None else needed(found, seed))
     if seed is None:

@@ -1,5 +1,5 @@
-// Small changes of JavaScript, as mistakes would be: `node mutants.mjs FILE..` prints a line of JSON for each, with its file, its line, where
-// it begins and ends, and what stands there instead. It wants the parser of Debian's package node-typescript.
+// Generates small changes of JavaScript, such as mistakes: `node mutants.mjs FILE..` prints a line of JSON for each, with its file, its
+// line, its begin and end, and the replacement. It needs the parser in Debian's package node-typescript.
 
 import { readFileSync } from 'node:fs';
 import { createRequire } from 'node:module';
@@ -7,7 +7,7 @@ import { createRequire } from 'node:module';
 const ts = createRequire('/')('/usr/share/nodejs/typescript');
 const { SyntaxKind: Kind } = ts;
 
-/** What stands for an operator instead. */
+/** The replacements for each operator. */
 const OPERATORS = {
     '<': '<=', '<=': '<', '>': '>=', '>=': '>', '===': '!==', '!==': '===', '&&': '||', '||': '&&', '??': '&&', '+': '-', '-': '+', '*': '+',
     '/': '*', '%': '*', '&': '|', '|': '&', '^': '&', '<<': '>>', '>>': '<<', '>>>': '<<', '+=': '-=', '-=': '+=',
@@ -15,7 +15,7 @@ const OPERATORS = {
 const BOOLEANS = { [Kind.TrueKeyword]: 'false', [Kind.FalseKeyword]: 'true' };
 const CONDITIONAL = new Set([Kind.IfStatement, Kind.WhileStatement]);
 
-/** The changes at a node: where, and what stands there instead. */
+/** The changes at a node: their places and replacements. */
 function* changesAt(node, text) {
     const range = it => [it.getStart(), it.getEnd()];
     const source = it => text.slice(it.getStart(), it.getEnd());

@@ -1,4 +1,4 @@
-// A rule of eslint (`--rulesdir tools/eslint`): no module imports itself, through whichever others.
+// A rule of eslint (`--rulesdir tools/eslint`): no module imports itself, directly or through other modules.
 
 const fs = require('fs');
 const path = require('path');
@@ -16,7 +16,7 @@ function importsOf(file) {
     return imported.get(file);
 }
 
-/** Whether a module is among those below another. */
+/** Whether a module imports another one, directly or through other modules. */
 function isBelow(wanted, file, seen = new Set()) {
     if (file === wanted) return true;
     if (seen.has(file)) return false;

@@ -1,23 +1,23 @@
 // A rule of eslint (`--rulesdir tools/eslint`): no room of web/core imports a value or a type of a higher room, and values of a room are
-// imported through its index.js. The types that a room has in files .d.ts are judged with its index.js. A door imports tasks, and of the
-// rooms below them only what is listed here.
+// imported through its index.js. Types in a room's .d.ts files are judged with its index.js. A door imports tasks, and from the rooms below
+// them only the names listed here.
 
 const fs = require('fs');
 const path = require('path');
 
-/** From below. Below all of them are the helpers, which are the files of web/core itself. */
+/** The rooms from the lowest up. Below all of them are the helpers, which are the files of web/core itself. */
 const ROOMS = ['', 'module', 'sectors', 'crew', 'encodings', 'iso', 'disc', 'script', 'texts', 'tasks', 'jobs'];
 
-/** What all of a door may import: helpers, numbers and calls, and tasks. */
+/** The rooms that every file of a door may import: helpers, numbers and calls, and tasks. */
 const OPEN = ['', 'module', 'tasks'];
 
-/** The files that start workers or are run by them, which import the rooms of `IN_WORKERS` too. */
+/** The files that start workers or are run by them. They import the rooms of `IN_WORKERS` too. */
 const WORKERS = [path.join('page', 'worker.js'), path.join('page', 'app', 'crew.js'), path.join('command', 'threads.js')];
 const IN_WORKERS = ['crew', 'jobs'];
 
 /**
- * What each door imports of the rooms between the module and tasks: what opens a disc and names it; the encodings that a user chooses, and
- * bytes of a text; the lines of the editor; and views of sectors, runs, files, and texts. Procedures are in tasks.
+ * The names that each door imports from the rooms between the module and tasks: opening and naming a disc; the encodings that a user
+ * chooses, and bytes of a text; the lines of the editor; and views of sectors, runs, files, and texts. Procedures are in tasks.
  */
 const BESIDE_TASKS = {
     page: {
@@ -56,13 +56,13 @@ const IN_CORE = /^(.*[/\\])core[/\\](?:(\w+)[/\\])?[^/\\]+$/;
 const TYPES = /import\('(\.[^']+)'\)/g;
 const DECLARED = /(?: from|^declare module) '(\.[^']+)'/gm;
 
-/** The room of a file of the core, undefined for another file. */
+/** The room of a file of the core; undefined for any other file. */
 function roomOf(file) {
     const found = IN_CORE.exec(file);
     return found ? found[2] || '' : undefined;
 }
 
-/** Why a file must not import another one, undefined if it may. */
+/** The reason why a file must not import another file; undefined if it may. */
 function faultOf(file, source, isType) {
     const [own, room] = [roomOf(file), roomOf(path.resolve(path.dirname(file), source))];
     if (room === undefined || room === own) return undefined;
@@ -72,7 +72,7 @@ function faultOf(file, source, isType) {
     return undefined;
 }
 
-/** Why a door must not import a name of the core, or all names ('*'), undefined if it may. */
+/** The reason why a door must not import a name of the core, or all names ('*'); undefined if it may. */
 function nameFaultOf(file, source, name) {
     const given = path.resolve(path.dirname(file), source);
     const room = roomOf(given);
@@ -83,7 +83,7 @@ function nameFaultOf(file, source, name) {
     return named.includes(name) ? undefined : `${name} is for the tasks of the core.`;
 }
 
-/** The text of the declarations beside an index.js, none beside another file. */
+/** The texts of the declarations beside an index.js; none for any other file. */
 function declarationsBeside(file) {
     if (path.basename(file) !== 'index.js') return [];
     const folder = path.dirname(file);

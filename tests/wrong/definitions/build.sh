@@ -1,6 +1,6 @@
 #!/usr/bin/env bash
-# Builds the program of a copy of the crates without a proof: `bash build.sh CRATES PROGRAM`. `rt try` keeps no file, so the program
-# is copied while it waits for the image that it is to list.
+# Builds the program of a copy of the crates without a proof: `bash build.sh CRATES PROGRAM`. `rt try` keeps no file, so the program is
+# copied while it waits for the image that it is to list.
 set -u
 crates=$1
 program=$2
@@ -8,7 +8,7 @@ scratch=$(mktemp -d)
 trap 'rm -rf "$scratch"' EXIT
 mkfifo "$scratch/image"
 
-# descendants PROCESS: the processes that it started, and theirs.
+# descendants PROCESS: prints the processes that it started, and their descendants.
 descendants() {
     local process
     for process in $(pgrep -P "$1"); do
@@ -17,7 +17,7 @@ descendants() {
     done
 }
 
-# The path of the program that lists the image, if it runs by now.
+# Prints the path of the program that lists the image, once it runs.
 waiting_program() {
     local process words
     for process in $(descendants "$trying"); do

@@ -1,7 +1,7 @@
-# Wrong programs for the tests of the right one, as must-fail edits are for proofs. `wrong/wrong.c` names each way to be wrong;
-# a wrong program is the right one, started by a launcher of that name.
+# Wrong programs for the tests of the right one, as must-fail edits are for proofs. `wrong/wrong.c` implements each defect; a wrong program
+# is the right one started by a launcher with the defect's name.
 
-# prepare_wrong_programs PURPOSE: makes what wrong programs are made of; else their purpose is skipped.
+# prepare_wrong_programs PURPOSE: compiles the launcher and the library for wrong programs, or records that PURPOSE is skipped.
 prepare_wrong_programs() {
     local launch=$tests/wrong/program/launch.c library=$scratch/wrong.so
     mkdir "$scratch/wrong"
@@ -10,7 +10,7 @@ prepare_wrong_programs() {
         || ! skip "$1, which want gcc and the C library's headers (Debian's packages gcc and libc6-dev)"
 }
 
-# wrong_program NAME: makes the program that is wrong in this way, and prints its path.
+# wrong_program NAME: creates the program with this defect, and prints its path.
 wrong_program() {
     cp "$scratch/launch" "$scratch/wrong/$1"
     echo "$scratch/wrong/$1"
