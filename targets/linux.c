@@ -1,4 +1,4 @@
-/* What the proved program calls besides the C library on Linux that is not x86-64, for which the toolchain has no library of C.
+/* The functions besides the C library that the proved program calls on Linux other than x86-64, where the toolchain has no C library.
    The prover trusts the contracts of these functions (docs/TRUST.md). */
 
 #include <errno.h>
@@ -8,14 +8,14 @@
 static int count;
 static char **arguments;
 
-/* The C library passes them to such a function before it calls `main`, which the toolchain compiles without parameters. */
+/* The C library passes the arguments to such a function before it calls `main`, which the toolchain compiles without parameters. */
 __attribute__((constructor)) static void keep_arguments(int argc, char **argv)
 {
     count = argc;
     arguments = argv;
 }
 
-/* Copies the argument of a number to the buffer, without its NUL, and returns its length. Returns -1 if there is none, and -2 if it is
+/* Copies the argument with this number to the buffer, without its NUL, and returns its length. Returns -1 if there is none, and -2 if it is
    longer than `room`; its first bytes then fill the buffer. */
 int64_t rattle_arg(uint64_t number, char *buffer, uint64_t room)
 {

@@ -4,7 +4,7 @@
 #include <stdint.h>
 #include <stdlib.h>
 
-/* On Windows the proved code calls those that return two words as Linux does, since Windows has no way to return them in registers. */
+/* On Windows the proved code calls functions that return two words as on Linux, since Windows cannot return two words in registers. */
 #ifdef _WIN32
 #define AS_ON_LINUX __attribute__((sysv_abi))
 #else
@@ -16,27 +16,27 @@ struct tried {
     void *block;
 };
 
-/* A refusal has an address too, which is not null and owns nothing. */
+/* A refusal returns an address too, which is not null and owns nothing. */
 static struct tried tried(void *block)
 {
     static char nothing;
     return block ? (struct tried){1, block} : (struct tried){0, &nothing};
 }
 
-/* New memory of `size` bytes that nothing else has, aligned to `align`, which divides 16. A block of no bytes has an address of its own. */
+/* Allocates `size` bytes that nothing else uses, aligned to `align`, which divides 16. A block of no bytes has an address of its own. */
 AS_ON_LINUX struct tried cdpatchalloc(uint64_t size, uint64_t align)
 {
     return tried(malloc(size ? size : align));
 }
 
-/* Makes the block one of `size` bytes, which may be elsewhere. Its first `kept` bytes are as they were. A refusal leaves it as it was. */
+/* Resizes the block to `size` bytes, perhaps at a new address. Its first `kept` bytes do not change. A refusal leaves it unchanged. */
 AS_ON_LINUX struct tried cdpatchrealloc(void *block, uint64_t kept, uint64_t size, uint64_t align)
 {
     (void)kept;
     return tried(realloc(block, size ? size : align));
 }
 
-/* Frees a block that one of these two returned. */
+/* Frees a block that one of the two functions above returned. */
 void cdpatchdealloc(void *block)
 {
     free(block);

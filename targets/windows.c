@@ -1,4 +1,4 @@
-/* What the proved program calls besides memory on Windows. The prover trusts the contracts of these functions (docs/TRUST.md): each
+/* The functions that the proved program calls on Windows, except those for memory. The prover trusts their contracts (docs/TRUST.md). Each
    comment says what its function has to do. Flags and numbers of errors are those of Linux on x86-64, for which the program was proved. */
 
 #define WIN32_LEAN_AND_MEAN
@@ -38,7 +38,7 @@ static int32_t failed(int32_t error)
     return -1;
 }
 
-/* The program tells only refused memory from other errors. */
+/* The program distinguishes only refused memory from other errors. */
 static int32_t failed_call(void)
 {
     DWORD error = GetLastError();
@@ -50,7 +50,7 @@ static int32_t failed_call(void)
 static int count;
 static wchar_t **arguments;
 
-/* Copies the argument of a number to the buffer in UTF-8, without a NUL, and returns its length. Returns -1 if there is none, and -2 if it
+/* Copies the argument of this number to the buffer in UTF-8, without a NUL, and returns its length. Returns -1 if there is none, -2 if it
    is longer than `room`; its first bytes then fill the buffer. One that is not Unicode becomes a byte that is not UTF-8 either. */
 int64_t rattle_arg(uint64_t number, char *buffer, uint64_t room)
 {
@@ -66,7 +66,7 @@ int64_t rattle_arg(uint64_t number, char *buffer, uint64_t room)
 
 /* ---- names of files */
 
-/* The full name of a path in UTF-8, or NULL. The prefix lets Windows accept 32,767 characters, and read them as they are. A name of a device
+/* The full name of a path in UTF-8, or NULL. The prefix makes Windows accept 32,767 characters, and use them unchanged. A name of a device
    has no such prefix. */
 static const wchar_t *full_name(const char *path)
 {
@@ -112,7 +112,7 @@ static int can_be_made(const wchar_t *name)
 
 /* ---- files */
 
-/* What each descriptor is open on; NULL if it is closed. */
+/* The file on which each descriptor is open; NULL if it is closed. */
 static HANDLE files[FILES];
 
 static HANDLE file_at(int32_t descriptor)
@@ -120,7 +120,7 @@ static HANDLE file_at(int32_t descriptor)
     return descriptor >= 0 && descriptor < FILES ? files[descriptor] : NULL;
 }
 
-/* The lowest free descriptor from `from` on, which is now open on the file, or -1. */
+/* Opens the lowest free descriptor from `from` on for the file, and returns it. If there is none, closes the file and returns -1. */
 static int32_t described(HANDLE file, int32_t from)
 {
     for (int32_t i = from; i < FILES; i++)
@@ -159,7 +159,7 @@ int32_t shim_close(int32_t descriptor)
     return CloseHandle(file) ? 0 : failed_call();
 }
 
-/* With the command TO_DUPLICATE: a descriptor from `from` on that is open on the same file, or -1. No other command is accepted. */
+/* Returns a descriptor from `from` on that is open on the same file, or -1. Only the command TO_DUPLICATE is accepted. */
 int32_t fcntl(int32_t descriptor, int32_t command, ...)
 {
     HANDLE file = file_at(descriptor), twin, self = GetCurrentProcess();
@@ -189,7 +189,7 @@ int64_t shim_read(int32_t descriptor, void *bytes, int64_t size)
     return count;
 }
 
-/* Writes the first bytes of these, and returns their number, or -1. */
+/* Writes these bytes, perhaps only the first of them, and returns the number of those that were written, or -1. */
 int64_t shim_write(int32_t descriptor, const void *bytes, int64_t size)
 {
     HANDLE file = file_at(descriptor);
@@ -199,7 +199,7 @@ int64_t shim_write(int32_t descriptor, const void *bytes, int64_t size)
     return WriteFile(file, bytes, size < MOST_BYTES ? (DWORD)size : MOST_BYTES, &count, NULL) ? (int64_t)count : failed_call();
 }
 
-/* Returns 0 when all that was written to the file is on the disk, or -1. */
+/* Returns 0 when everything written to the file is on the disk, or -1. */
 int32_t fdatasync(int32_t descriptor)
 {
     HANDLE file = file_at(descriptor);
@@ -240,7 +240,7 @@ int64_t __write(int32_t descriptor, const void *bytes, int64_t size)
     return shim_write(descriptor, bytes, size);
 }
 
-/* Calls the program's own `main` once its arguments and streams are there, with a console that shows UTF-8. A stream that is closed stays so. */
+/* Calls the program's own `main` with its arguments and streams, and a console that shows UTF-8. A stream that is closed stays closed. */
 int main(void)
 {
     static const char refused[] = "cdpatch: no memory\n";

@@ -35,8 +35,7 @@ class Definition:
 
 @dataclass
 class Call:
-    """A public function: its name with that of its type, its rustdoc, the names and texts of its clauses, and the texts of its
-    conditions."""
+    """A public function: its name with that of its type, its rustdoc, its clauses with names and texts, and its conditions."""
     name: str
     doc: str
     clauses: list[tuple[str, str]]

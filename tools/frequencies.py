@@ -17,8 +17,7 @@ KINDS = 6
 LEAST = 4
 MOST_QUARTERS = 16
 
-# Scores for pairs that are not counted: to ASCII, line ends, control codes, and half-width kana from anything else, and from half-width
-# kana.
+# Scores for uncounted pairs: to ASCII, line ends, control codes, and half-width kana from anything else, and from half-width kana.
 NARROW = [-12, 0, 0, -18]
 HALF_WIDTH = [*[-8] * KINDS, -12, -8, -8, 0]
 

@@ -33,8 +33,7 @@ ROOM = TOP / 'crates/cd_words/out/wasm64'
 
 
 def crates_for_modules():
-    """The crates that are proved again for the modules, under separate names; the crate of exports is named MODULES. tools/wasm.sh explains
-    why."""
+    """The crates that are proved again for the modules, by separate names; that of exports is MODULES. tools/wasm.sh explains why."""
     subprocess.run(['bash', TOP / 'tools/wasm.sh', ROOM], check=True)
     own = [crate for crate in rtlib.crates_below(str(ROOM)) if not os.path.islink(f'{crate.folder}/out')]
     return {MODULES if crate.is_static else f'{crate.name} over words': crate for crate in own}

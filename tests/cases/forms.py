@@ -23,8 +23,7 @@ class Answer(NamedTuple):
 
 
 class Question(NamedTuple):
-    """A call, its arguments, and the expected result. A command's arguments are an image, a base, options, and a script; its result is an
-    Answer."""
+    """A call, its arguments, and the expected result; for a command an image, a base, options, and a script, and an Answer."""
     call: str
     given: tuple
     due: Any

@@ -53,8 +53,7 @@ async function callsOf(room, streams, words) {
     return { made, right };
 }
 
-/** All jobs begin with the reads that identify an image. For the first job each of these reads fails, for the others every `SPARSELY`-th.
- * */
+/** All jobs begin with the reads that identify an image. For the first job each of them fails, for the others every `SPARSELY`-th. */
 const SPARSELY = process.env.WRONG_VERSIONS ? 12 : 24;
 
 test('each call that fails once is a message and status 2', { skip: !hasDisc && 'no genisoimage' }, () => inDirectory(room =>
@@ -69,8 +68,7 @@ test('each call that fails once is a message and status 2', { skip: !hasDisc && 
                 let number = 0;
                 const came = await faultyCall(room, streams, words, () => number++ === at ? faults.errorOf('EIO') : null);
                 const what = `${words.join(' ')}: call ${at} (${made[at].join()})`;
-                // If the message cannot be written either, there is only the status. A file system without links creates files by their
-                // names.
+                // If the message itself cannot be written, there is only the status. Without links, files are created by name.
                 const silent = made[at][0] === 'writeSync' || (made[at][0] === 'linkSync' && made.findIndex(([it]) => it === 'linkSync') === at);
                 if (silent && came.status === right.status) continue;
                 assert.equal(came.status, 2, `${what}: ${came.out}${came.errors}`);

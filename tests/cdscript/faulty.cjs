@@ -36,8 +36,7 @@ if (process.env.NO_MEMORY !== undefined && !require('node:worker_threads').isMai
     WebAssembly.Memory.prototype.grow = () => { throw new RangeError('WebAssembly.Memory.grow(): Maximum memory size exceeded'); };
 }
 
-// As a preload: the threads read nothing, or a file is truncated before they read. Node 18 loads the program by `readSync` without a
-// position.
+// As a preload: the threads read nothing, or a file is truncated before they read. Node 18 loads programs by `readSync` without a position.
 const { isMainThread } = require('node:worker_threads');
 const readsPlace = (name, given) => name === 'readSync' && typeof given[4] === 'number';
 if (!isMainThread && process.env.NO_READS !== undefined) faults.hit = (...call) => readsPlace(...call) ? faults.errorOf('EIO') : null;

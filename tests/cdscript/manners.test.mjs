@@ -50,8 +50,7 @@ test('help, version and -V are taken as words', async () => {
     }
 });
 
-/** Asserts the layout of a help: long options without a letter are aligned with those that have one, and all descriptions start in one
- * column. */
+/** Asserts that the options in a help are aligned, long ones also without a letter, and that all descriptions begin in one column. */
 function assertAligned(help) {
     assert.ok(help.split('\n').every(line => line.length <= 79), help);
     const rows = help.split('\nOptions:\n')[1].split('\n\n')[0].trimEnd().split('\n');

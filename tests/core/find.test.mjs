@@ -128,8 +128,7 @@ test('spellings of several lengths: every one is found, with its size', () => {
     }
 });
 
-/** Different spellings of 1 to 3 bytes, some of which begin with others; longer ones occur before and after shorter ones. @param {number}
- * count */
+/** Different spellings of 1 to 3 bytes, of which longer ones occur before and after those with which they begin. @param {number} count */
 function manySpellings(count) {
     const dice = diceOf(17);
     const spellings = new Map();

@@ -42,8 +42,7 @@ function someDisc(dice) {
     return { files: [...files, ...listed], image, listedFrom: listed.length > 0 ? sectors : Infinity };
 }
 
-/** Kinds of damage by a dumper: sectors filled with one byte or with noise, and sectors that have lost their sync field, mode, or some
- * bytes. */
+/** Kinds of damage by a dumper: one byte repeated, noise, and sectors that have lost their sync field, mode, or some bytes. */
 const HARMS = [
     (_, sector) => sector.fill(0), (_, sector) => sector.fill(0x55), (dice, sector) => sector.set(someBytes(dice, RAW)),
     (dice, sector) => { sector[dice(12)] ^= 1 + dice(255); }, (dice, sector) => { sector[15] = dice(2) === 0 ? 2 : 0; },

@@ -55,8 +55,7 @@ function due([old, ...others]) {
 const foundOf = ({ taken, doubtful, damaged, disputed, different }) =>
     ({ taken: blocksOf(taken), doubtful: blocksOf(doubtful), damaged: blocksOf(damaged), disputed: blocksOf(disputed), different });
 
-/** Dumps of one disc: each is damaged in its own places, and all in some shared ones; some sectors lost their sync field, some are audio.
- * */
+/** Dumps of one disc: each is damaged in its own places, and all in some shared ones; some sectors lost their sync, some are audio. */
 function someDumps(dice, count, sectors) {
     const disc = soundImage(dice, sectors, BASE, 50);
     for (let i = 0; i < sectors; i++) {

@@ -101,8 +101,7 @@ def numbered(pairs):
 
 
 def exports(source):
-    """The declarations of the sources: for each export its C types and names, the result first; the structs; the numbers of the enums;
-    sizes and version."""
+    """The declarations of the sources: each export's C types and names, the result first; structs; enums' numbers; sizes; version."""
     made = {}
     constants = re.findall(r'const (\w+): \w+ = ([\d_]+);', source)
     sizes = {**COUNTS, **{name: number.replace('_', '') for name, number in constants}}

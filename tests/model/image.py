@@ -45,8 +45,7 @@ def outcome(sectors, base, patch, carry):
 
 
 def effect(sectors, base, patch, carry):
-    """The sectors after an applied patch: new content, with the old defect if --carry is given, else (and always for `rebuild`) with
-    none."""
+    """The sectors after an applied patch: new content, with the old defect if --carry is given, but without it for `rebuild`."""
     after = list(sectors)
     user = user_bytes(sectors, base, met(patch))
     if patch.verb in ('set', 'fill'):

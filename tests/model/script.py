@@ -67,8 +67,7 @@ def address(word):
 
 
 def patch(line, found, version):
-    """The patch for the words of a line. Verb and number of words are checked first, then the words from left to right, form before
-    value."""
+    """The patch for the words of a line. Checks the verb, the number of words, then each word from the left, form before value."""
     verb = found[0]
     demand(verb in VERBS[version], MESSAGES['unknown_verb'])
     demand(len(found) in NUMBERS_OF_WORDS[verb] and (len(found) != 6 or found[4] == b'was'), MESSAGES['word_count'])

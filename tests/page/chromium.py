@@ -1,5 +1,4 @@
-"""Drives headless Chromium: file choice and drop, keys, downloads, attempts to reach a network, screenshots, accessible names, and tab
-stops."""
+"""Drives headless Chromium: file choice and drop, keys, downloads, network access, screenshots, accessible names, and Tab stops."""
 
 import atexit
 import base64
@@ -220,8 +219,7 @@ class Chromium:
         self.cdp('Input.dispatchMouseEvent', type=f'mouse{kind}', x=at[0], y=at[1], button=button, clickCount=int(kind != 'Moved'))
 
     def hold(self, found: str, *given: Any) -> list[float]:
-        """Presses the mouse button on the element that an expression finds, and returns the point. Tries again if the element has moved
-        away."""
+        """Presses the mouse button on the element that an expression finds, again if it has moved away, and returns the point."""
         for _ in range(PRESSES):
             place = self.point(found, *given)
             self.mouse('Moved', place, 'none')
@@ -391,8 +389,7 @@ class Chromium:
                 and node['role']['value'] not in ('RootWebArea', 'main', 'generic', 'none')]
 
     def tab_stops(self, most: int = 200) -> list[str]:
-        """The names of the elements that get the focus in turn as Tab is pressed at the page's start. After the last one none has it for a
-        moment."""
+        """The names of the elements that Tab focuses in turn from the page's start. After the last one, none has the focus for a moment."""
         self.run('const first = document.createElement("button"); document.body.prepend(first); first.focus(); first.remove()')
         stops: list[str] = []
         while len(stops) < most:

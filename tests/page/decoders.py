@@ -1,5 +1,4 @@
-"""Compares a browser's decoding of bytes and pairs of bytes with the page's tables, which follow the Encoding Standard whatever engine
-built them."""
+"""Compares a browser's decoding of bytes and pairs of bytes with the page's tables, which follow the Encoding Standard in any engine."""
 
 import json
 import subprocess

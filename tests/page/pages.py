@@ -237,8 +237,7 @@ def applied(image: Path, script: Path, *options: str) -> tuple[int, str, bytes]:
 
 
 def patcher(image: bytes, made: bytes, script: str, **other: Any) -> bytes:
-    """Builds a patcher from the description of its format: the page, a line with version, size, and SHA-1, and the deflated data in
-    base64."""
+    """Builds a patcher as its format is described: the page, a line with version, size, and SHA-1, and deflated data in base64."""
     head = {'title': 'Starlit Detective in English', 'author': 'Team Comet', 'note': 'All menus.\nChapter 1.', 'name': 'Starlit (English).bin',
             'cue': '', 'carry': False, 'base': 0, 'image': {'size': len(image), 'sha1': common.sha1(image)}, 'result': common.sha1(made)}
     packed = zlib.compress(json.dumps({**head, **other}).encode() + b'\n' + script.encode())

@@ -1,5 +1,4 @@
-"""A message appears beside the pressed button, is visible on a phone, and ends with its panel. Copy buttons confirm; notes open beside
-their word."""
+"""A message appears beside the pressed button, is visible on a phone, and ends with its panel. Copy buttons confirm; notes open."""
 
 import common
 import discs

@@ -1,5 +1,4 @@
-"""Finds the examples in the rustdoc of crates: `rustdoc.py CRATE..` prints a line for each crate, with the places of those that no test
-runs."""
+"""Finds examples in the rustdoc of crates that no test runs: `rustdoc.py CRATE..` prints a line for each crate, with their places."""
 
 import re
 import sys

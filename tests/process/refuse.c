@@ -1,4 +1,4 @@
-/* Loaded before the C library: of all calls that ask for memory, that with the number REFUSE is refused, and with REFUSE_REST
+/* Loaded before the C library: refuses the request for memory that has the number REFUSE, and with REFUSE_REST
    each one after it. Where one was refused, there is the file REFUSED afterwards. */
 
 #define _GNU_SOURCE

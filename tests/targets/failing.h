@@ -1,16 +1,16 @@
-/* Read before a shim: each of these calls fails if `fails` says so. */
+/* Included before a shim: each of these calls fails if `fails` returns 1. */
 #ifdef _WIN32
 #define WIN32_LEAN_AND_MEAN
 #include <windows.h>
 #include <shellapi.h>
 
-/* Whether the call of this name is to fail now, with what error. */
+/* Whether the call with this name must fail now. Sets the error if it must. */
 int fails(const char *call);
 
-/* How many of these bytes a read or a write moves: one if it is to be short now. */
+/* The number of bytes that a read or a write moves: one if it must be short now. */
 #define MOVED(call, size) ((size) > 1 && fails(call) ? 1 : (size))
 
-/* A file is closed although that fails. */
+/* Closes a file even if the call must fail. */
 static BOOL closed(HANDLE file)
 {
     return CloseHandle(file) && !fails("CloseHandle");

@@ -1,4 +1,4 @@
-/* Whether the functions of a shim meet their contracts: linked to targets/memory.c and windows.c or linux.c, it has the name of a test as its
+/* Tests the contracts of a shim's functions: linked to targets/memory.c and windows.c or linux.c, it has the name of a test as its
    argument, and status 0 if that holds. The shim for Windows is read after failing.h, so that its calls can fail. */
 #include <stdbool.h>
 #include <stdint.h>
@@ -116,7 +116,7 @@ const uint32_t *__x86_get_cpuid_feature_leaf(int32_t number);
 int fails(const char *call);
 int main(void);
 
-/* The call that is to fail the next time. */
+/* The name of the call that must fail next. */
 static const char *failing = "";
 static DWORD failing_with;
 
@@ -132,14 +132,14 @@ int fails(const char *call)
 static const char BYTES[] = "a\r\nb\n\x1a\xff";
 enum { LENGTH = sizeof BYTES - 1 };
 
-/* A new file with these bytes. */
+/* Creates a file with these bytes. */
 static bool made(const char *name)
 {
     int32_t file = shim_open(name, NEW, 0666);
     return file >= 0 && shim_write(file, BYTES, LENGTH) == LENGTH && fdatasync(file) == 0 && shim_close(file) == 0;
 }
 
-/* Whether a file has just these bytes. */
+/* Whether a file has exactly these bytes. */
 static bool holds(const char *name)
 {
     char buffer[32];
@@ -174,7 +174,7 @@ static bool opens_only_what_it_says(void)
         shim_open("a\xff", READ) == -1 && shim_open("a\xff", NEW, 0666) == -1 && rattle_errno() != 0;
 }
 
-/* Whether a file of this name is made, by itself or by its full name, which Windows reads as it is. */
+/* Whether a file with this name can be created, by its name or by its full name, which Windows uses unchanged. */
 static bool is_made(const char *name)
 {
     wchar_t directory[MAX_PATH];
@@ -186,7 +186,7 @@ static bool is_made(const char *name)
     return shim_open(name, NEW, 0666) != -1 || made_so;
 }
 
-/* No device, and no stream beside a file's bytes. */
+/* Devices, and streams beside a file's bytes, cannot be created. */
 static bool refuses_devices(void)
 {
     static const char *const names[] = {"NUL", "con", "AUX.TXT", "aux .txt", "prn.a.b", "COM1", "lpt9.bin", "com\xc2\xb9", "CONIN$", "conout$.x",
@@ -229,7 +229,7 @@ static bool opens_directories(void)
     return file == 3 && shim_read(file, &byte, 1) == -1 && shim_write(file, "a", 1) == -1 && shim_close(file) == 0;
 }
 
-/* The lowest free one, and none that is closed. */
+/* Files get the lowest free descriptor, and a closed descriptor cannot be used. */
 static bool numbers_files(void)
 {
     char byte;
@@ -256,7 +256,7 @@ static bool duplicates(void)
     return shim_read(file, bytes, 1) == 1 && shim_close(file) == 0 && shim_read(twin, bytes + 1, 1) == 1 && memcmp(bytes, BYTES, 2) == 0;
 }
 
-/* The standard input is a pipe, which also has a message of no bytes. `main` reads which streams there are, so it starts again. */
+/* Standard input is a pipe, which also delivers a message of no bytes. Only `main` looks up the streams, so the test starts again. */
 static bool reads_pipes(void)
 {
     static HANDLE from, to;
@@ -271,7 +271,7 @@ static bool reads_pipes(void)
     return shim_read(0, buffer, 16) == 1 && buffer[0] == 'c' && shim_read(0, buffer, 16) == 0;
 }
 
-/* A read and a write return how many bytes were moved, which may be fewer than asked for. */
+/* A read and a write return the number of bytes moved, which may be fewer than requested. */
 static bool reports_short_calls(void)
 {
     char bytes[2];
@@ -285,7 +285,7 @@ static bool reports_short_calls(void)
 
 enum { READS, WRITES, SYNCS, OPENS, DUPLICATES, CLOSES, CALLS };
 
-/* What a call answers, of which the call of Windows fails. */
+/* The result of a call whose call of Windows fails. */
 static int64_t answer(int call, int32_t from, int32_t to)
 {
     char byte;
@@ -318,7 +318,7 @@ static bool reports_failures(void)
     return true;
 }
 
-/* The standard output is a terminal here, which shows UTF-8. */
+/* Here standard output is a terminal, which shows UTF-8. */
 static bool knows_consoles(void)
 {
     int32_t file = made("no_console") ? shim_open("no_console", READ) : -1;
@@ -335,7 +335,7 @@ static bool knows_the_processor(void)
     return __x86_get_cpuid_feature_leaf(2)[6] == c;
 }
 
-/* The text goes to the standard output, of which the test sees the bytes. */
+/* The text goes to standard output, where the caller checks the bytes. */
 static bool writes_at_the_start(void)
 {
     return __sysv_signal(13, 1) == 0 && __write(1, "12\n34", 5) == 5;
@@ -347,7 +347,7 @@ static bool ends_without_arguments(void)
     return main() == 2;
 }
 
-/* An argument that is not Unicode, which this gives to a process of the same program. */
+/* An argument that is not Unicode, passed to a new process of this program. */
 static bool marks_other_arguments(void)
 {
     wchar_t program[MAX_PATH], line[] = L"shim unpaired \xd800 end";
@@ -387,7 +387,7 @@ static const struct { const char *name; bool (*holds)(void); } TESTS[] = {
 #endif
 };
 
-/* Without a test, the names of all. */
+/* Without an argument, prints the names of all tests. */
 int32_t MAIN(void)
 {
     char name[32];

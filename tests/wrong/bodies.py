@@ -94,8 +94,7 @@ def text_of(crate: Any) -> str:
 
 
 def totals(crate: Any) -> list[tuple[Block, str]]:
-    """The wrong bodies in the tables of a crate, each with a checksum of what it depends on: itself, its crate, the crates below, and the
-    toolchain."""
+    """The wrong bodies in the tables of a crate, each with a checksum of itself, its crate, the crates below, and the toolchain."""
     below = sum_of(*(text_of(it) for it in [crate, *sorted(crate.below(), key=lambda it: str(it.name))]), LOGIC)
     tables = sorted(Path(crate.folder, 'wrong-bodies').glob('*.edits'))
     return [(block, sum_of(block.text, below)) for table in tables for block in blocks(table)]
@@ -174,8 +173,7 @@ def tried_at_once(crate: Any, edits: list[Edit], kept: str) -> dict[str, str]:
 
 
 def tried_alone(crate: Any, edit: Edit, kept: str | None) -> tuple[bool, str]:
-    """Whether a wrong body is refused by itself, and the text to print. One that was not refused over kept results is tried again without
-    them."""
+    """Whether a wrong body is refused alone, and the text to print. One not refused over kept results is tried again without them."""
     said, text = rt.must_fail(crate, edit.path, FLAGS, kept)
     if said not in REFUSED and kept:
         said, text = rt.must_fail(crate, edit.path, FLAGS)
@@ -213,8 +211,7 @@ def try_edits(crate: Any, edits: list[Edit]) -> tuple[int, int]:
 
 
 def try_and_record(crate: Any, seed: str | None) -> tuple[int, int]:
-    """With a seed, tries the blocks that refused.txt lacks and a fifth of the others. Without one tries all, and records them if all are
-    refused."""
+    """With a seed, tries what refused.txt lacks and a fifth of the others; without one, all, and records them if all are refused."""
     found = totals(crate)
     counts = try_crate(crate, [block for block, _ in found] if seed is None else needed(found, seed))
     if seed is None:

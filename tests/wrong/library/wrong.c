@@ -1,5 +1,5 @@
-/* Wrong libraries, each compiled with one name defined: here is its wrong call, which calls the right one as right_CALL and spoils
- * what that did. */
+/* Wrong libraries: each is compiled with one name defined, which selects its wrong call. That calls the right one as right_CALL, and
+ * spoils its result. */
 #include <cdpatch.h>
 #include <string.h>
 

@@ -1,4 +1,4 @@
-/* Begins PROGRAM as the wrong program that its own file is named after, with WRONG_LIBRARY loaded before the C library. It is
+/* Starts PROGRAM as the wrong program after which its own file is named, with WRONG_LIBRARY loaded before the C library. It is
    linked statically, so that no library is loaded before the launcher itself. Some wrong programs only get other arguments. */
 
 #include <stdio.h>

@@ -31,7 +31,7 @@ static int next_fcntl(int file, int call, long argument)
     return next(file, call, argument);
 }
 
-/* The same file by another number, above those of the standard streams. */
+/* Moves a file to a number above those of the standard streams. */
 static int moved_up(int file)
 {
     int moved = file < 0 ? file : next_fcntl(file, F_DUPFD_CLOEXEC, 10);
@@ -83,7 +83,7 @@ __attribute__((constructor)) static void begin(void)
         leave_file(getenv("HOME"));
 }
 
-/* What the program asks about the processor before it begins. */
+/* The features of the processor, which the program reads before it begins. */
 const void *__x86_get_cpuid_feature_leaf(unsigned leaf)
 {
     static const void *(*next)(unsigned);
@@ -118,7 +118,7 @@ int fcntl(int file, int call, ...)
     return answer;
 }
 
-/* The files of `/` that take the numbers of closed streams. */
+/* Opens `/` to occupy the number of a closed stream. */
 static int open_spare(const char *path, int flags)
 {
     static int spares;

@@ -1,7 +1,7 @@
-/* What the tests of tests/library call of mmap, mprotect, and munmap, over Windows. */
+/* Implements mmap, mprotect, and munmap on Windows, as far as the tests of tests/library use them. */
 #pragma once
 #include <windows.h>
-/* It defines these words. */
+/* windows.h defines these words. */
 #undef near
 #undef far
 
