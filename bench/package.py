@@ -1,5 +1,5 @@
-"""Seconds of the processor, and the most memory beside maps of files, of the Python package on a mapped image:
-`package.py IMAGE [WORK..]`, with the package and its library in PYTHONPATH and CDPATCH_LIBRARY. Each work runs in a Python of its own."""
+"""Measures the CPU seconds and the maximum memory, without mapped files, of the Python package on a mapped image:
+`package.py IMAGE [WORK..]`, with the package and its library in PYTHONPATH and CDPATCH_LIBRARY. Each work runs in a new Python."""
 
 import os
 import resource

@@ -1,5 +1,5 @@
-"""Seconds of the page in Chromium, and its longest task in milliseconds: `page.py PAGE IMAGE SCRIPT [WORK..]`. All patches of the script
-must fit the image. A server on loopback gives the directory of the page."""
+"""Measures the page in Chromium, in seconds, and its longest task in milliseconds: `page.py PAGE IMAGE SCRIPT [WORK..]`. All patches of the
+script must fit the image. A loopback server serves the directory of the page."""
 
 import sys
 import time

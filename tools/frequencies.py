@@ -1,8 +1,8 @@
 """Generates web/core/texts/frequencies.js, the frequencies of characters in Japanese man pages: `frequencies.py DIRECTORY..`.
 
-It was made of those of Debian 12, of the packages manpages-ja, dpkg, apt, man-db, passwd, login and vim-common, whose licences are free. It has counts,
-and none of their words: of each character log2(65536 * its share), from 0 bits up; and of kinds of characters, in quarter bits,
-how much oftener one comes after another than by chance.
+It was generated from those of Debian 12, in the packages manpages-ja, dpkg, apt, man-db, passwd, login, and vim-common, whose licences are
+free. It contains counts and none of their words: for each character log2(65536 * its share), from 0 bits up; and for kinds of characters,
+in quarter bits, how much more often one follows another than by chance.
 """
 
 import gzip

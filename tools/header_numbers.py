@@ -1,8 +1,8 @@
 """Converts the numbers of include/cdpatch.h for JavaScript and Python: `header_numbers.py` writes web/core/module/numbers.js and
 python/cdpatch/_numbers.py if they change. `header_numbers.py HEADER DIRECTORY` uses another header and writes below DIRECTORY.
 
-They have all enumerators without `CDPATCH_`, those of a named enum as its members, the sizes of structs and where their fields stand on
-x86-64, which is also how the modules lay them out."""
+They have all enumerators without `CDPATCH_`, those of a named enum as its members, and the sizes of structs and the places of their fields
+on x86-64, which are also those in the modules."""
 
 import os
 import re

@@ -2,8 +2,8 @@
 """Generates files from the help of cdpatch and cdscript: `python3 tools/options.py completions DIRECTORY PROGRAM..` writes completions for three
 shells, `pages PROGRAM..` updates parts of the man pages and of the README, and `check PROGRAM..` prints which of these pages differ.
 
-In a page a part stands between marks, as `made: synopsis` and `end of synopsis`; tools/header_pages.py makes others. In the lists of commands and options only the heads are
-made: the prose below each is by hand, and a new one begins with what help says.
+In a page a part is between marks, such as `made: synopsis` and `end of synopsis`; tools/header_pages.py generates other parts. In the lists
+of commands and options only the heads are generated. The prose below each is written by hand, and a new head gets its description in help.
 """
 
 import re

@@ -9,7 +9,7 @@ JOINED of the packed modules. The bytes depend only on these files and on the ve
     <link rel="stylesheet" href="style.css">
     <script type="module" src="main.js"></script>
     <plaintext hidden id="data">
-What stands there in braces is the text of that key of `page/texts/english.js`.
+A key in braces is replaced by its text in `page/texts/english.js`.
 """
 
 import argparse

@@ -2,8 +2,8 @@
 """Prints facts about the sources as Markdown: `python3 tools/pages.py map` prints the subject of each file, `contracts` the promises of each
 crate, and `audit` what to read in order to know what is promised, with figures.
 
-What a file has is the first sentence of its first comment; what a definition says is the comment above it; what a call does is the first
-sentence of its rustdoc. A file, a definition or a call that does not say it is refused.
+The subject of a file is the first sentence of its first comment; a definition is explained by the comment above it, and a call by the first
+sentence of its rustdoc. A file, a definition, or a call without this is refused.
 """
 
 import re

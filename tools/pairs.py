@@ -1,8 +1,9 @@
-"""Generates web/core/encodings/pairs.js, which says how browsers decode pairs of bytes: `pairs.py > web/core/encodings/pairs.js`.
+"""Generates web/core/encodings/pairs.js, the decoding of pairs of bytes by browsers: `pairs.py > web/core/encodings/pairs.js`.
 
-It asks three decoders that share no code: Python's, that of node (ICU), and Chromium's, which is the Encoding Standard's index. Runs of
-codes that all read alike, engines may read; what the standard has beside them is written out. Characters for private use are left out,
-and so is what Hong Kong has before A1 and after F9 in Big5. EUC-KR's syllables before A1A1 are a rule, in web/core/encodings/euc_kr.js.
+It compares three decoders that share no code: Python's, node's (ICU), and Chromium's, which follows the Encoding Standard's index. Runs of
+codes that all decode alike are left to the engine; the standard's other characters are written out. Characters for private use are left
+out, and so are Hong Kong's characters before A1 and after F9 in Big5. EUC-KR's syllables before A1A1 follow a rule, in
+web/core/encodings/euc_kr.js.
 """
 
 import html

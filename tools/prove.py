@@ -1,14 +1,14 @@
 #!/usr/bin/env python3
 """Proves programs and static libraries and the crates below them, and builds them: `prove.py 'NAME ..' [AT_ONCE [CPU]]`.
 
-A crate begins once all below it are proved, at most AT_ONCE of them side by side, and no more than there are processors and memory for;
-those on the longest way up to a goal come first. CPU is the processor that they are built for, if it is not any x86-64-v2; a static
-library NAME is out/libNAME.a, and built for x86-64-v3 as well, as out/libNAME-x86-64-v3.a. The goal `wasm` makes the WebAssembly modules,
-by tools/wasm.sh. With AFTER_CI=1 the libraries that `rt ci` has just proved and built are taken as they are. TREE=DIRECTORY is
+The proof of a crate begins once all crates below it are proved. At most AT_ONCE run in parallel, and no more than processors and memory
+allow; crates on the longest path up to a goal come first. CPU is the processor to build for, by default any x86-64-v2. A static library
+NAME is out/libNAME.a, and is also built for x86-64-v3, as out/libNAME-x86-64-v3.a. The goal `wasm` generates the WebAssembly modules, with
+tools/wasm.sh. With AFTER_CI=1 the libraries that `rt ci` has just proved and built are used unchanged. TREE=DIRECTORY is
 another repository than this file's.
 
 It calls rt's own module, so that libraries are built as `rt ci` builds them: with only their statements, over which the crates above are
-proved in half the time. rt has no flag for that, and a run of rt keeps every other run out of all crates below its own until it ends.
+proved in half the time. rt has no flag for that, and a run of rt excludes every other run from all crates below its own until it ends.
 """
 
 import copy

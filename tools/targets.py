@@ -1,9 +1,10 @@
 #!/usr/bin/env python3
 """Builds the program and libcdpatch for another system from the crates that `make` has proved: `targets.py windows` or `targets.py arm64`.
 
-It leaves in windows/ the program, the DLL, its import libraries for MinGW and for MSVC, and the static library; in arm64/ the program and both
-libraries for Linux on aarch64. Rattle proves the crates with exports once more for aarch64, which is a target of the toolchain; for Windows it
-compiles the same proved module by tools/retarget.py. `targets.py SYSTEM SHIM PROGRAM` only links the program anew, with another shim.
+It writes to windows/ the program, the DLL, its import libraries for MinGW and for MSVC, and the static library; to arm64/ the program and
+both libraries for Linux on aarch64. Rattle proves the crates with exports again for aarch64, which is a target of the toolchain; for
+Windows it compiles the same proved module with tools/retarget.py. `targets.py SYSTEM SHIM PROGRAM` only links the program again, with a
+different shim.
 """
 
 import os

@@ -1,12 +1,12 @@
 #!/usr/bin/env bash
-# `tools/wasm.sh ROOM` lays out in ROOM a repository of one static library for WebAssembly: the calls of libcdpatch that take no memory.
-# tools/prove.py proves and builds it, and makes the two modules of it. Its sources are links to those of this repository.
+# `tools/wasm.sh ROOM` creates in ROOM a repository of one static library for WebAssembly: the calls of libcdpatch that allocate no memory.
+# tools/prove.py proves and builds it, and generates the two modules from it. Its sources are links to those of this repository.
 #
-# A module has one crate of exports. So the crates of exports are joined to one there: the merge gate takes no crate for wasm64. Their
-# modules keep their names, and the paths to them lose the crate's.
+# A module has one crate of exports, so the crates of exports are joined to one there: the merge gate accepts no crate for wasm64. Their
+# modules keep their names, and the paths to them lose the crate's name.
 #
-# Vectors are compiled a lane at a time for this target. So there cd_words has the name of cd_lanes: its calls work on words of 64 bits. All
-# crates above it are proved once more, over its contracts, and have an `out` of their own; that of the others is this repository's.
+# For this target vectors are compiled a lane at a time. So there cd_words has the name of cd_lanes: its calls work on 64-bit words. All
+# crates above it are proved again, over its contracts, and have their own `out`; the others use this repository's.
 set -euo pipefail
 room=$(realpath -m "$1")
 cd "$(dirname "$0")/.."

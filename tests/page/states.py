@@ -1,4 +1,4 @@
-"""The states of the page: how each is reached. The first line of a method says what is seen there; docs/DESIGN.md has these lines."""
+"""The states of the page, and how each is reached. The docstring of a method describes what is shown there."""
 
 from collections.abc import Callable
 from pathlib import Path
@@ -83,23 +83,23 @@ class States(PageTest):
     # ---- the first screen
 
     def to_start(self) -> None:
-        """Three jobs, and under them the place for files."""
+        """Three jobs, and below them the place to drop files."""
 
     def to_start_job(self) -> None:
-        """A job was pressed: which files it needs stands where they are dropped."""
+        """A job is selected: the place to drop files lists those that it needs."""
         self.browser.run('HTMLInputElement.prototype.click = function () {}')
         self.press('Play a patch')
         self.browser.wait('#wanted', 'together with its patch')
 
     def to_start_refused(self) -> None:
-        """A file that cannot be opened: what it is, and what to do about it."""
+        """A file that cannot be opened: its format, and what to do about it."""
         path = common.folder('chd') / 'Hoshizora Tantei.chd'
         path.write_bytes(b'MComprHD' + bytes(5000))
         self.open_files(path)
         self.browser.wait('#start-message', 'A compressed image (CHD)')
 
     def to_start_list(self) -> None:
-        """A list of known dumps was opened."""
+        """A list of known dumps is open."""
         self.open_files(self.dumps())
         self.browser.wait('#start-message .say.good', 'known dump')
 
@@ -111,20 +111,20 @@ class States(PageTest):
     # ---- a disc
 
     def to_disc(self) -> None:
-        """The example disc, all read: the verdict, the map, and what was found."""
+        """The example disc, completely read: the verdict, the map, and the findings."""
         self.browser.click('#open-example')
         self.wait_for_hash()
         self.browser.wait('#panel-disc')
 
     def to_disc_reading(self) -> None:
-        """A disc while it is read: hatched where it was not read yet."""
+        """A disc that is being read: unread parts of the map are hatched."""
         self.browser.run(SLOW)
         self.open_files(self.place(game=discs.scratches())['game'])
         self.browser.wait('#disc-line .lead', 'Reading the disc')
         self.browser.wait('.legend')
 
     def to_disc_damaged(self) -> None:
-        """A damaged disc: its places, one of them open, and a damaged sector."""
+        """A damaged disc: its damaged places, one of them expanded, and a damaged sector."""
         self.begin(discs.scratches())
         self.press('Next finding')
         self.browser.wait('#sector-title', 'block')
@@ -136,12 +136,12 @@ class States(PageTest):
         self.browser.click('#findings [data-tab=runs]')
 
     def to_disc_text(self) -> None:
-        """The same as the program prints it."""
+        """The report as the program prints it."""
         self.begin(discs.scratched())
         self.browser.click('#findings [data-tab=text]')
 
     def to_disc_files(self) -> None:
-        """The files of the disc; one is chosen, and its sector open."""
+        """The files of the disc, with one selected and its sector open."""
         self.begin(discs.game())
         self.browser.click('#findings [data-tab=files]')
         self.press('/DATA/MSG00.DAT')
@@ -149,7 +149,7 @@ class States(PageTest):
         self.browser.wait('#sector-title', 'block')
 
     def to_disc_replaced(self) -> None:
-        """A file was replaced by one of another length: how many lines that are."""
+        """A file was replaced by one of a different length, with the number of lines."""
         self.to_disc_files()
         path = common.folder('fresh') / 'fresh.dat'
         path.write_bytes(discs.messages()[:1500])
@@ -157,7 +157,7 @@ class States(PageTest):
         self.browser.wait('#findings .say.good', 'added to the script.')
 
     def to_disc_tracks(self) -> None:
-        """A disc of three tracks, of which one is not here."""
+        """A disc of three tracks, one of which is missing."""
         files = self.place(game=discs.game(), t2=bytes(2352 * 300))
         sheet = files['t2'].with_name('Hoshizora Tantei (Japan).cue')
         sheet.write_text(discs.sheet_of(**{'Hoshizora Tantei (Japan)': discs.DATA, 't2': 'AUDIO', 'Hoshizora Tantei (Japan) (Track 3)': 'AUDIO'}))
@@ -166,7 +166,7 @@ class States(PageTest):
         self.browser.wait('#disc-line', '2 audio tracks')
 
     def to_disc_known(self) -> None:
-        """A dump that a list names as verified."""
+        """A dump that a list of known dumps verifies."""
         self.begin(discs.game())
         self.open_files(self.dumps())
         self.browser.wait('#disc-line .tag.good', 'known dump')
@@ -184,40 +184,40 @@ class States(PageTest):
             self.browser.answer(answer)
 
     def to_second_asked(self) -> None:
-        """A second image: what it is for is asked before it is read."""
+        """A second image: the page asks what it is for before reading it."""
         self.pair(discs.scratched(), discs.game())
 
     def to_second_longer(self) -> None:
-        """The same of an image of another length."""
+        """The same question for an image of a different length."""
         self.pair(discs.scratched(), discs.game() + bytes(2352))
 
     def to_second_repair(self) -> None:
-        """What a repair would take, on the map too, and what it leaves."""
+        """The sectors that a repair would copy, also on the map, and those that it cannot repair."""
         self.pair(discs.scratches(), discs.scratches(other=True), 'Repair')
         self.browser.wait('.tally', 'can be repaired')
         self.browser.wait('[aria-label^="Cannot be repaired"]')
 
     def to_second_saved(self) -> None:
-        """A repaired image was saved."""
+        """A repaired image has been saved."""
         self.pair(discs.scratched(), discs.game(), 'Repair')
         self.press('Save repaired image')
         self.browser.wait('#second-body .say.good', 'Saved: ')
         self.browser.wait('#repaired-sha1', common.sha1(discs.game()))
 
     def to_second_compare(self) -> None:
-        """Where two images differ, by fields."""
+        """The differences of two images, by fields."""
         self.pair(discs.scratched(), discs.game(), 'Compare')
         self.browser.wait('#second-body .tally', 'differs')
 
     def to_second_script(self) -> None:
-        """Of two images that differ in damage no script is made before it is said that damage is left out."""
+        """Two images that differ in damage: before making a script, the page says that damage is left out."""
         self.pair(discs.scratches(), discs.scratches(other=True), 'Compare')
         self.browser.wait('#second-body .tally', 'differ')
         self.press('Save the script')
         self.browser.wait('#second-body .say.bad')
 
     def to_close_asked(self) -> None:
-        """An image is closed while work would be lost."""
+        """The image is being closed although unsaved work would be lost."""
         self.begin(discs.game())
         self.edit(Keys.ARROW_DOWN, 'rebuild 1')
         self.press('Close')
@@ -226,24 +226,24 @@ class States(PageTest):
     # ---- the script
 
     def to_script_none(self) -> None:
-        """No patch yet: three ways to the first one."""
+        """No patch yet: three ways to create the first one."""
         self.begin(discs.game())
         self.browser.click('#tab-script')
 
     def to_script_alone(self) -> None:
-        """A script without its image: the button that opens it."""
+        """A script without its image, and the button that opens the image."""
         self.open_script(self.place(english=discs.script())['english'])
         self.browser.wait('#panel-script .side', 'Open the image')
 
     def to_script_fits(self) -> None:
-        """An image and its script were dropped together: all fit, and the button that saves."""
+        """An image and its script were dropped together: all changes fit, and the button that saves."""
         files = self.place(game=discs.game(), english=discs.script())
         self.open_files(files['game'], files['english'])
         self.browser.wait('#panel-script .say.good', 'all fit')
         self.wait_for_hash()
 
     def to_script_refused(self) -> None:
-        """Some changes do not fit: which, why, and where to go."""
+        """Some changes do not fit: which ones, why, and where to go."""
         self.begin(discs.scratched(), discs.refused())
         self.browser.wait('.tally', 'not fit')
         self.press('Go to line')
@@ -256,14 +256,14 @@ class States(PageTest):
         self.browser.wait('#panel-script .progress')
 
     def to_script_saved(self) -> None:
-        """It was saved, and its hashes are known."""
+        """The patched image has been saved, and its hashes are known."""
         self.begin(discs.scratched(), discs.refused())
         self.press_save()
         self.browser.wait('#panel-script .say.warn', 'Saved: ')
         self.browser.wait('#saved-sha1', common.sha1(self.chosen_bytes()))
 
     def to_script_cue(self) -> None:
-        """An image of a cue sheet was saved: the cue sheet for the emulator is next."""
+        """The patched image of a cue sheet has been saved: the cue sheet for the emulator is next."""
         files = self.place(game=discs.game(), english=discs.script())
         self.open_files(self.sheet(files), files['game'], files['english'])
         self.browser.wait('#panel-script .say.good', 'all fit')
@@ -273,13 +273,13 @@ class States(PageTest):
         self.browser.wait('#saved-sha1', common.sha1(self.chosen_bytes()))
 
     def to_script_undo(self) -> None:
-        """The undo script was saved: that is said in the card of the script."""
+        """The undo script has been saved, as the card of the script says."""
         self.begin(discs.game(), discs.script())
         self.press(common.text('scriptUndoScript'))
         self.browser.wait('[aria-label=Script] .say.good', 'Saved: ')
 
     def to_script_faults(self) -> None:
-        """A script with faults: under each faulty line what to do, and a button that does it."""
+        """A script with faults: below each faulty line the remedy, and a button that applies it."""
         self.begin(discs.game(), FAULTY.format(discs.first_block()))
 
     def marked(self, data: bytes, says: str) -> None:
@@ -298,7 +298,7 @@ class States(PageTest):
         self.marked(discs.script().replace('cdpatch 1', 'cdpatch 3').encode(), 'Make it cdpatch 2')
 
     def to_script_marked(self) -> None:
-        """A script in UTF-16: it was read, and one press saves it as UTF-8."""
+        """A script in UTF-16: it has been read, and one press saves it as UTF-8."""
         self.marked(discs.script().encode('utf-16'), 'Save it as plain UTF-8')
 
     # ---- texts
@@ -314,19 +314,19 @@ class States(PageTest):
         self.browser.click('#tab-text')
 
     def to_text_hits(self) -> None:
-        """The hits of a text, one of them to be replaced, and the bytes around it."""
+        """The hits of a text, one of them about to be replaced, and the bytes around it."""
         self.begin(discs.game(), discs.script())
         self.search('スタート')
         self.wait_for_focus('#new-text')
         self.browser.press('Start')
 
     def to_text_long(self) -> None:
-        """A new text that is too long: by how much."""
+        """A new text that is too long, with the excess length."""
         self.to_text_hits()
         self.browser.press(' game')
 
     def to_text_added(self) -> None:
-        """All hits were replaced: that is said beside the button."""
+        """All hits were replaced, as the message beside the button says."""
         self.begin(discs.many_texts(1))
         self.search('スタート')
         self.wait_for_focus('#new-text')
@@ -335,7 +335,7 @@ class States(PageTest):
         self.browser.wait('[aria-label=Replace] .say.good', '100 lines added to the script.')
 
     def to_text_none(self) -> None:
-        """No hit: what was searched, and what else it may be."""
+        """No hit: the encodings that were searched, and other possible reasons."""
         self.begin(discs.game())
         self.search('存在しない')
         self.browser.wait('#panel-text .say', 'No hit')
@@ -353,26 +353,26 @@ class States(PageTest):
         self.browser.give('#panel-text input[accept^=".tsv"]', [path])
 
     def to_texts_saved(self) -> None:
-        """All texts of the disc were saved as a table."""
+        """The texts of the disc have been saved as a table."""
         self.begin(told())
         self.browser.click('#tab-text')
         self.press('Export texts')
         self.browser.wait('#panel-text .say.good', 'Saved: ')
 
     def to_texts_taken(self) -> None:
-        """A table was imported, and all of it fits."""
+        """A table was imported, and all of its texts fit."""
         self.table({2: 'The game starts.', 3: 'Save?', 5: 'The end.'})
         self.browser.wait('#panel-text .say.good', 'All 3 new texts fit.')
 
     def to_texts_left(self) -> None:
-        """A table with rows that do not fit: each with its place and why."""
+        """A table with rows that do not fit: each with its place and the reason."""
         self.table({2: 'The game starts.', 3: 'much too long ' * 9, 4: 'also too long ' * 9})
         self.browser.wait('#panel-text h2', '2 rows do not fit')
         self.press('3')
         self.browser.wait('#panel-text .hex.around')
 
     def to_texts_withdrawn(self) -> None:
-        """A table without the new texts of lines that an earlier one made."""
+        """A table that lacks the new texts of lines from an earlier table."""
         image = self.table({2: 'The game starts.', 3: 'Save?'})
         self.browser.wait('#panel-text .say.good', 'All 2 new texts fit.')
         self.import_table(image, {2: 'The game starts.'})
@@ -381,7 +381,7 @@ class States(PageTest):
     # ---- publishing, and the page of a patcher
 
     def to_publish(self) -> None:
-        """What is ready before a patcher is saved, and what is not."""
+        """The conditions for saving a patcher: those that are met, and those that are not."""
         self.begin(discs.game(), discs.script())
         self.browser.click('#tab-publish')
         self.browser.type('#patcher-title', 'Starlit Detective in English')
@@ -407,7 +407,7 @@ class States(PageTest):
         self.browser.wait('#verdict', words)
 
     def to_player(self) -> None:
-        """A patcher, as its player finds it."""
+        """A patcher as its player finds it."""
         self.play(None)
 
     def to_player_right(self) -> None:
@@ -415,19 +415,19 @@ class States(PageTest):
         self.play(discs.game(), 'right disc')
 
     def to_player_fits(self) -> None:
-        """Another dump, which the patch fits."""
+        """A different dump, which the patch fits."""
         self.play(common.damaged(discs.game(), 150), 'but the patch fits', discs.named())
 
     def to_player_unknown(self) -> None:
-        """Another dump, of which nothing shows whether the patch fits."""
+        """A different dump, for which nothing shows whether the patch fits."""
         self.play(common.damaged(discs.game(), 150), 'not the author’s disc')
 
     def to_player_other(self) -> None:
-        """Another disc, which the patch does not fit."""
+        """A different disc, which the patch does not fit."""
         self.play(another(), 'does not fit')
 
     def to_player_patched(self) -> None:
-        """A disc that is patched already."""
+        """A disc that is already patched."""
         files = self.place(game=discs.game(), english=discs.script())
         self.play(applied(files['game'], files['english'])[2], 'already')
 
@@ -438,13 +438,13 @@ class States(PageTest):
         self.browser.wait('#player .progress')
 
     def to_player_done(self) -> None:
-        """It was saved, and the cue sheet is the last step."""
+        """The patched disc has been saved, and the cue sheet is the last step."""
         self.to_player_right()
         self.press('Patch and save')
         self.browser.wait('#saved', 'Saved:')
 
     def to_player_sheet(self) -> None:
-        """It was saved, and no cue sheet was chosen: one can be made, or chosen now."""
+        """The patched disc has been saved without a cue sheet: one can be created, or chosen now."""
         self.play(discs.game(), 'right disc', with_sheet=False)
         self.press('Patch and save')
         self.browser.wait('#saved', 'Saved:')
@@ -452,7 +452,7 @@ class States(PageTest):
     # ---- notes
 
     def to_note_word(self) -> None:
-        """The note of a word, beside it."""
+        """The note of a word, beside the word."""
         self.begin(discs.game(), discs.script())
         self.browser.click('#tab-disc')
         self.browser.click('#panel-disc .term')
@@ -463,19 +463,19 @@ class States(PageTest):
         self.browser.wait(f'#{name}')
 
     def to_note_keys(self) -> None:
-        """All keys."""
+        """The note with all keys."""
         self.note('keys')
 
     def to_note_words(self) -> None:
-        """All words that have a note."""
+        """The note with all words that have notes."""
         self.note('words')
 
     def to_note_about(self) -> None:
-        """About: what this page is, and its hash."""
+        """The note about this page, with its hash."""
         self.note('about')
 
     def to_note_proved(self) -> None:
-        """What is proved, and what is not."""
+        """The note on what is proved and what is not."""
         self.note('proved')
 
 

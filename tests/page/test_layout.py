@@ -1,6 +1,6 @@
-"""Each panel with hundreds of rows at several widths: the page ends where its footer ends, and nothing is cut or stands in a thin column.
+"""Each panel with hundreds of rows at several widths: the page ends with its footer, and nothing is cut off or in a narrow column.
 
-With PICTURES, a directory, each state is drawn there at each width.
+If PICTURES is set to a directory, each state is drawn there at each width.
 """
 
 import os

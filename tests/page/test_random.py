@@ -1,6 +1,6 @@
-"""Random actions, seeded, against a small model of the page: what is open, what is unsaved, what runs, and what was saved.
+"""Random actions, compared with a small model of the page: open images, unsaved scripts, the running job, and saved files.
 
-`RANDOM_ACTIONS` says how many there are, and `RANDOM_SEED` which; a failure names its seed and the last actions.
+`RANDOM_ACTIONS` is the number of actions, and `RANDOM_SEED` selects them. A failure reports its seed and the last actions.
 """
 
 import os

@@ -1,8 +1,8 @@
-"""Each state of the page (tests/page/states.py), as everyone meets it: at three widths it ends where its footer ends and nothing is cut; in
-the accessibility tree each control has a name; a list is one stop of the Tab key; what has the focus is seen, with its ring; and no text
-is too faint in either scheme.
+"""Each state of the page (tests/page/states.py) is usable by everyone: at three widths it ends with its footer and nothing is cut off; each
+control has a name in the accessibility tree; a list is one Tab stop; the focused element is visible and has a ring; no text is too faint
+in either scheme.
 
-With PICTURES, a directory, each state is drawn there at three widths in both schemes.
+If PICTURES is set to a directory, each state is drawn there at three widths in both schemes.
 """
 
 import os

@@ -17,7 +17,7 @@ SHIMS = {'windows': ('windows.c', ['-lshell32']), 'arm64': ('linux.c', [])}
 # The commands that run a program of each system.
 RUNNERS = {'windows': [WINE], 'arm64': ['qemu-aarch64', '-L', '/usr/aarch64-linux-gnu']}
 WORDS = ['abc', 'ÄÖ']
-TIME = 60  # seconds, which no test takes
+TIME = 60  # seconds, more than any test needs
 
 
 def compiled(system: str, directory: Path, room: Path) -> Path:

@@ -1,14 +1,14 @@
 #!/usr/bin/env python3
-"""Has the prover refuse wrong bodies: `bodies.py [--lanes N] [CRATE..]` tries those of these crates, or of all, over the libraries that `rt ci`
-or `make` has left. It prints what was refused by which goal; the last line is 'N passed, M failed'.
+"""Checks that the prover refuses wrong bodies: `bodies.py [--lanes N] [CRATE..]` tries those of these crates, or of all, over the libraries
+that `rt ci` or `make` has built. It prints the goal that refused each; the last line is 'N passed, M failed'.
 
-A crate's wrong bodies are its edits in `must-fail`, which rt tries too, and the tables `wrong-bodies/FILE.edits`, one for each source file. A
-block of a table is called FUNCTION.MISTAKE and has the rows of an edit. They are laid out for rt in a directory of their own.
+A crate's wrong bodies are its edits in `must-fail`, which rt tries too, and the tables `wrong-bodies/FILE.edits`, one for each source file.
+A block of a table is called FUNCTION.MISTAKE and has the rows of an edit. They are written to a separate directory for rt.
 
-`rt must-fail` checks a crate once for each edit, and most of a check is spent on reading the libraries below it. Here one check has an edit
-of each function of the crate: functions are separated by contracts, so each edit meets only the goals of its own function. Such an edit
+`rt must-fail` checks a crate once for each edit, and spends most of a check on reading the libraries below it. Here one check has an edit
+of each function of the crate: functions are separated by contracts, so each edit affects only the goals of its own function. Such an edit
 counts if the check refuses a goal of that function for itself, not for a function that it calls. Every other edit (of a table or of several
-functions, one that only a caller refuses, one that cannot be read) is tried by itself as rt does, and has to be refused there."""
+functions, one that only a caller refuses, one that cannot be read) is tried alone as rt does, and must be refused there."""
 
 from __future__ import annotations
 
