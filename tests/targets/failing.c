@@ -1,4 +1,4 @@
-/* Makes a call of the shim for Windows fail, in the whole program. FAIL is its name, a space, and the number of the call, or 0 for all. If it
+/* Makes a call of the shim for Windows fail in the whole program. FAIL is its name, a space, and the number of the call, 0 for all. If it
    was made, there is the file FAILED afterwards. */
 #define WIN32_LEAN_AND_MEAN
 #include <stdio.h>
