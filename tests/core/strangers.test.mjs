@@ -44,7 +44,7 @@ for (const [what, sheet] of Object.entries(SHEETS)) {
         const { seconds } = await timed(async () => {
             if (await kindOfFile(calls, readerOf(sheet)) === 'cue') sheetOf(new TextDecoder().decode(sheet));
         });
-        assert.ok(seconds < 2 * SHARED, `${seconds} s`);
+        assert.ok(seconds < 1, `${seconds} s`);
     });
 }
 
@@ -103,7 +103,7 @@ test('a list has no more characters than its image can have', async () => {
         if (sector < 118) return [recordOf('N'.repeat(200), sector + 1, sector === 117 ? 8000 * USER : USER)];
         return names.map(name => recordOf(name, 18, 0, { flags: 0 }));
     }));
-    assert.ok(seconds < 2 * SHARED, `${seconds} s`);
+    assert.ok(seconds < 1, `${seconds} s`);
     assert.match(faults.map(inShort).join('\n'), /^path (\/N{200}){100} tree\/ends tree\/long-paths 8388608$/);
 });
 
