@@ -235,7 +235,7 @@ test_sdist() {
     tar -C sdist -xzf sdist/*.tar.gz
     judge 'it says what it needs' says_what_it_needs sdist
     wrong_versions 'a wrong archive of the sources' || return
-    sed 's/if Path(name).name not in (LIBRARY, NOTICES)/if name/' bundle/backend.py > bundle/other.py
+    sed 's/if Path(name).name not in (\*LIBRARIES, NOTICES)/if name/' bundle/backend.py > bundle/other.py
     mkdir sdist2
     (cd bundle && "$python" -B -c 'import other; other.build_sdist("../sdist2")') && tar -C sdist2 -xzf sdist2/*.tar.gz
     judge 'one with the library is refused' refuses says_what_it_needs sdist2

@@ -1,5 +1,6 @@
 /* Wrong libraries: each is compiled with one name defined, which selects its wrong call. That calls the right one as right_CALL, and
  * spoils its result. */
+#define CDPATCH_NODISCARD
 #include <cdpatch.h>
 #include <string.h>
 
