@@ -63,7 +63,7 @@ export class Arena {
 
     /**
      * Copies pieces to the arena, one after the other, and returns the address of each. A number reserves that many bytes of any content.
-     * The first piece is aligned as records of the module require.
+     * The first piece is aligned as the records of the module must be.
      * @param {...(Uint8Array | number)} pieces
      */
     put(...pieces) {
