@@ -19,7 +19,7 @@ const hex = (text, coding) => Buffer.from(text, coding).toString('hex').toUpperC
 async function found(room, ...words) {
     const { status, out, errors } = await run(['find', 'image', ...words], { cwd: room });
     const places = out.split('\n').slice(0, -1).map(line => line.split('\t').slice(0, 3).join(' '));
-    return [status, places, errors.split('\n').slice(0, -1).map(line => line.replace('cdscript: ', '')).filter(line => !line.startsWith('no file'))];
+    return [status, places, errors.split('\n').slice(0, -1).map(line => line.replace('cdscript: ', '')).filter(line => !line.startsWith('file names are unknown: '))];
 }
 
 test('composed and apart are one text, and so are a yen sign and a backslash', () => inDirectory(async room => {
@@ -70,13 +70,13 @@ test('with --loose a table is read by its own characters, and digits by their va
 
 test('an encoding that cannot say a text is named, with the character that it lacks', () => inDirectory(async room => {
     writeImage(room, [2, 100, hex('café')], [3, 6, `FF${hex('café', 'utf16le')}`]);
-    const lacks = ["CP932 has no 'é' (U+00E9), character 4 of the text"];
-    assert.deepEqual(await found(room, 'café'), [0, ['2 100 5'], [...lacks, 'the text stands there in UTF-8',
-        'in UTF-16LE it stands there too: --encoding UTF-16LE', 'hits 1 printed 1']]);
+    const lacks = ["CP932 cannot encode 'é' (U+00E9), character 4 of the text"];
+    assert.deepEqual(await found(room, 'café'), [0, ['2 100 5'], [...lacks, 'found in UTF-8',
+        'also found in UTF-16LE: use --encoding UTF-16LE', 'hits 1 printed 1']]);
     assert.deepEqual((await found(room, 'cafe\u0301'))[2][0], lacks[0]);
-    assert.deepEqual(await found(room, 'パé', '--encoding', 'CP932'), [2, [], ["CP932 has no 'é' (U+00E9), character 2 of the text"]]);
+    assert.deepEqual(await found(room, 'パé', '--encoding', 'CP932'), [2, [], ["CP932 cannot encode 'é' (U+00E9), character 2 of the text"]]);
     for (const text of ['ハ\u309Aé', '¥é']) {
-        assert.deepEqual(await found(room, text, '--encoding', 'CP932'), [2, [], ["CP932 has no 'é' (U+00E9), character 2 of the text"]]);
+        assert.deepEqual(await found(room, text, '--encoding', 'CP932'), [2, [], ["CP932 cannot encode 'é' (U+00E9), character 2 of the text"]]);
     }
 }));
 

@@ -13,7 +13,7 @@ function writeLater(room) {
     return { later, hurt };
 }
 
-const WAYS = 'most addresses in hurt.bin say that it begins with block 150: give --base 150, or --base 0 to count from 0 all the same';
+const WAYS = 'most addresses in hurt.bin say that it begins with block 150: use --base 150, or --base 0 to count from 0 anyway';
 
 test('each script says for which base it is written, and is applied at no other one', () => inDirectory(async room => {
     const { later } = writeLater(room);
@@ -29,7 +29,7 @@ test('each script says for which base it is written, and is applied at no other 
     write(room, { 'sound.bin': imageOf(room, 20), 'odd.bin': damaged(imageOf(room, 20), 0, [3, 100]) });
     assert.equal((await run(['rebuilds', 'odd.bin'], { cwd: room })).out, 'cdpatch 1\nrebuild 3\n');
     await run(['diff', 'hurt.bin', 'later.bin', '-o', 'repair'], { cwd: room });
-    const said = base => `cdscript: line 2 of the script says base 150, and the image begins with block ${base} here: give --base 150, or take that line out\n`;
+    const said = base => `cdscript: line 2 of the script says base 150, but the image begins with block ${base}: use --base 150, or delete that line\n`;
     for (const [words, base] of [[['apply', 'hurt.bin', 'repair', 'out', '--base', '0'], 0], [['check', 'hurt.bin', 'repair', '--base', '151'], 151],
         [['check', 'odd.bin', 'repair'], 0]]) {
         const { status, out, errors } = await run(words, { cwd: room });
@@ -56,7 +56,7 @@ test('an undo of a script for another base is refused', () => inDirectory(async 
     writeLater(room);
     write(room, { edit: 'cdpatch 1\n# a comment\n# base 140\nset 153 0 00\n' });
     const { status, out, errors } = await run(['undo', 'later.bin', 'edit'], { cwd: room });
-    assert.deepEqual([status, out, errors], [2, '', 'cdscript: line 3 of the script says base 140, and the image begins with block 150 here\n']);
+    assert.deepEqual([status, out, errors], [2, '', 'cdscript: line 3 of the script says base 140, but the image begins with block 150\n']);
     write(room, { edit: 'cdpatch 1\n# base 150 or so\n#base 1\n# base 150\r\nset 153 0 00\n' });
     assert.equal((await run(['undo', 'later.bin', 'edit'], { cwd: room })).status, 0);
 }));
@@ -82,5 +82,5 @@ test('what most addresses say is not passed over without --base', () => inDirect
     assert.equal((await run(['list', 'half'], { cwd: room })).status, 0);
     // A few addresses are not enough.
     const few = await run(['audit', 'few.bin'], { cwd: room });
-    assert.deepEqual([few.status, few.errors], [1, 'cdscript: this image begins with block 150: --base 150\n']);
+    assert.deepEqual([few.status, few.errors], [1, 'cdscript: this image begins with block 150: use --base 150\n']);
 }));

@@ -35,9 +35,9 @@ test('a hit in the middle of a character is marked, and replaced only at its pla
     assert.deepEqual([long.status, long.out, long.errors], [2, '', 'cdscript: the new text has 3 bytes in CP932, and there is room for 2: 1 too many\n']);
     const many = await run(['replace', 'image', 'kz', 'xx', '--encoding', 'CP932'], { cwd: room });
     const dots = count => '.'.repeat(count);
-    assert.deepEqual(many.errors.split('\n').slice(0, 3), [`cdscript: it stands at block 2 offset 101, ${INSIDE}: ${dots(23)}kz${dots(24)}`,
-        `cdscript: it stands at block 4 offset 0, ${INSIDE}: ${dots(23)}kz${dots(24)}`,
-        `cdscript: it stands at block 4 offset 502: ${dots(22)}クkz${dots(24)}`]);
+    assert.deepEqual(many.errors.split('\n').slice(0, 3), [`cdscript: found at block 2 offset 101, ${INSIDE}: ${dots(23)}kz${dots(24)}`,
+        `cdscript: found at block 4 offset 0, ${INSIDE}: ${dots(23)}kz${dots(24)}`,
+        `cdscript: found at block 4 offset 502: ${dots(22)}クkz${dots(24)}`]);
     const placed = await run(['replace', 'image', '2', '101', 'kz', 'xx', '--encoding', 'CP932'], { cwd: room });
     assert.deepEqual([placed.status, placed.out, placed.errors], [0, 'cdpatch 1\nset 2 101 7878 was 6B7A\n', `cdscript: ${why}\n`]);
     const begun = await run(['replace', 'image', '4', '502', 'kz', 'xx', '--encoding', 'CP932'], { cwd: room });
@@ -50,24 +50,24 @@ test('the encoding is the first one in which the text is not only in the middle 
     const found = async (...words) => {
         const { status, out, errors } = await run(['find', 'image', ...words], { cwd: room });
         const rows = out.split('\n').slice(0, -1).map(line => line.split('\t')).map(row => [row[0], row[1], row[5]].join(' '));
-        return [status, rows, errors.split('\n').slice(0, -1).map(line => line.replace('cdscript: ', '')).filter(line => !line.startsWith('no file'))];
+        return [status, rows, errors.split('\n').slice(0, -1).map(line => line.replace('cdscript: ', '')).filter(line => !line.startsWith('file names are unknown: '))];
     };
-    const inside = 'in CP932 it stands there only in the middle of characters';
-    assert.deepEqual(await found('アイ'), [0, ['5 9 '], ['the text stands there in EUC-JP', inside, 'hits 1 printed 1']]);
+    const inside = 'found in CP932 only in the middle of characters';
+    assert.deepEqual(await found('アイ'), [0, ['5 9 '], ['found in EUC-JP', inside, 'hits 1 printed 1']]);
     const [status, [row], said] = await found('アイ', '--encoding', 'CP932');
     assert.deepEqual([status, row, said], [0, `2 101 ${INSIDE.replace('8A', '83')}`, ['hits 1 printed 1']]);
     const only = await run(['replace', 'image', 'アイ', 'エオ', '--encoding', 'CP932'], { cwd: room });
-    assert.deepEqual([only.status, only.errors], [2, `cdscript: block 2 offset 101: ${INSIDE.replace('8A', '83')}: --inside replaces it all the same\n`]);
+    assert.deepEqual([only.status, only.errors], [2, `cdscript: block 2 offset 101: ${INSIDE.replace('8A', '83')}: --inside replaces it anyway\n`]);
     const none = await run(['replace', 'image', 'アイ', 'エオ', '--encoding', 'CP932', '--all'], { cwd: room });
     assert.deepEqual([none.status, none.out, none.errors], [2, '', `cdscript: ${INSIDE.replace('8A', '83')}\n`]);
-    const other = 'in UTF-16LE it stands there too: --encoding UTF-16LE';
-    assert.deepEqual(await found('kz'), [0, ['3 7 '], ['the text stands there in CP932', other, 'hits 1 printed 1']]);
+    const other = 'also found in UTF-16LE: use --encoding UTF-16LE';
+    assert.deepEqual(await found('kz'), [0, ['3 7 '], ['found in CP932', other, 'hits 1 printed 1']]);
     const kana = await run(['replace', 'image', 'アイ', 'エオ'], { cwd: room });
     assert.deepEqual([kana.status, kana.out, kana.errors],
-        [0, 'cdpatch 1\nset 5 9 A5A8A5AA was A5A2A5A4\n', `cdscript: the text stands there in EUC-JP\ncdscript: ${inside}\n`]);
+        [0, 'cdpatch 1\nset 5 9 A5A8A5AA was A5A2A5A4\n', `cdscript: found in EUC-JP\ncdscript: ${inside}\n`]);
     const both = await run(['replace', 'image', 'kz', 'xx'], { cwd: room });
     assert.deepEqual([both.status, both.out, both.errors],
-        [0, 'cdpatch 1\nset 3 7 7878 was 6B7A\n', `cdscript: the text stands there in CP932\ncdscript: ${other}\n`]);
+        [0, 'cdpatch 1\nset 3 7 7878 was 6B7A\n', `cdscript: found in CP932\ncdscript: ${other}\n`]);
 }));
 
 test('show keeps characters whole over rows, and goes on in the next block', () => inDirectory(async room => {

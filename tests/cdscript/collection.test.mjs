@@ -87,7 +87,7 @@ test('a cue sheet finds files in directories below it, and never outside', () =>
     for (const name of ['out', 'link', 'whole']) {
         const [status, names, errors] = await scanned(room, `set/${name}.cue`);
         assert.deepEqual([status, names], [2, []]);
-        assert.match(errors, /It is not in the directory of the cue sheet\.\n$/);
+        assert.match(errors, /, which is not in the directory of the cue sheet\.\n$/);
     }
 }));
 

@@ -25,7 +25,7 @@ async function disc(room, how = {}) {
     return { cut, sectors: image.length / 2352, big: files.find(({ path }) => path === '/BIG.BIN'), last: files[files.length - 1] };
 }
 
-const UNSURE = ': it is cut, or counts other tracks or a pause';
+const UNSURE = ': either the image is cut short, or the volume also counts other tracks or a pause';
 
 test('an image that is cut by whole sectors is no sound one', { skip }, () => inDirectory(async room => {
     const { cut, sectors, big } = await disc(room);
@@ -33,12 +33,12 @@ test('an image that is cut by whole sectors is no sound one', { skip }, () => in
     // Only the pause is missing, or a part of it.
     for (const less of [1, 100, 150]) {
         cut(sectors - less);
-        const line = `${sectors - less}-${sectors - 1} not in the image, though the volume says ${sectors} blocks${UNSURE}`;
+        const line = `${sectors - less}-${sectors - 1} not in the image, though the volume has ${sectors} blocks${UNSURE}`;
         assert.deepEqual(await said(room, 'cut.bin'), { info: [line], status: 0, columns: [`mode1 ${sectors - less},short ${less} 0 0 0`], scanned: 0 });
     }
     // A file continues beyond the end.
     const half = big.block + 10;
-    const missing = `${half}-${sectors - 1} not in the image: /BIG.BIN goes on there`;
+    const missing = `${half}-${sectors - 1} not in the image: /BIG.BIN continues there`;
     cut(half);
     assert.deepEqual(await said(room, 'cut.bin'), { info: [missing], status: 1, columns: [`mode1 ${half},short ${sectors - half} 0 1 0`], scanned: 1 });
     cut(half + 0.5);
@@ -53,9 +53,9 @@ test('what may be a track of several is cut only for sure if a file or the cue s
     const sheet = 'FILE "cut.bin" BINARY\n TRACK 01 MODE1/2352\n INDEX 01 00:00:00\n';
     write(room, { 'one.cue': sheet, 'two.cue': `${sheet}FILE "audio.bin" BINARY\n TRACK 02 AUDIO\n INDEX 01 00:00:00\n`, 'audio.bin': Buffer.alloc(2352 * 300, 1) });
     const [columns, what] = [`mode1 ${end},short ${missing} 0`, `${end}-${sectors - 1} not in the image`];
-    const unsure = `${what}, though the volume says ${sectors} blocks${UNSURE}`;
+    const unsure = `${what}, though the volume has ${sectors} blocks${UNSURE}`;
     assert.deepEqual(await said(room, 'cut.bin'), { info: [unsure], status: 0, columns: [`${columns} 0 0`], scanned: 0 });
-    assert.deepEqual(await said(room, 'one.cue'), { info: [`${what}: the volume has ${sectors} blocks, and the cue sheet no other track`], status: 1,
+    assert.deepEqual(await said(room, 'one.cue'), { info: [`${what}: the volume has ${sectors} blocks, and the cue sheet has no other track`], status: 1,
         columns: [`${columns} 1 0`], scanned: 1 });
     assert.deepEqual(await said(room, 'two.cue'), { info: [unsure], status: 0, columns: [`${columns} 0 0`, 'audio - - -'], scanned: 0 });
     cut(sectors - 150);
@@ -73,12 +73,12 @@ test('a volume with another base, by itself or counted from the start of the dis
         const { cut, sectors, big } = await disc(room, { first, options });
         const half = big.block + 10;
         cut(half - first);
-        const line = `${half}-${first + sectors - 1} not in the image: /BIG.BIN goes on there`;
+        const line = `${half}-${first + sectors - 1} not in the image: /BIG.BIN continues there`;
         assert.deepEqual((await said(room, 'cut.bin')).info, [line], `${first} ${options}`);
         // The blocks before the track may belong to the volume's number of blocks.
         cut(sectors - 100);
         const isLess = first === 225 && options.length > 0;
-        const said2 = `${first + sectors - 100}-${first + sectors - 1} not in the image, though the volume says ${sectors} blocks${UNSURE}`;
+        const said2 = `${first + sectors - 100}-${first + sectors - 1} not in the image, though the volume has ${sectors} blocks${UNSURE}`;
         assert.deepEqual(await said(room, 'cut.bin').then(it => [it.info, it.status]), [isLess ? [] : [said2], 0]);
     });
 });
@@ -107,7 +107,7 @@ test('numbers of a volume that cannot be believed are no finding', { skip }, () 
         copy.writeUInt32BE(2048 * sectors, joliet - 33 + 14);
     });
     assert.deepEqual((await said(room, 'long.bin')).info, []);
-    const line = `${big.block + 10}-${sectors - 1} not in the image, though the volume says ${sectors} blocks${UNSURE}`;
+    const line = `${big.block + 10}-${sectors - 1} not in the image, though the volume has ${sectors} blocks${UNSURE}`;
     assert.deepEqual(await said(room, 'long.cut.bin').then(it => [it.info, it.status]), [[line], 0]);
     // A file listed as a thousand times longer than the disc.
     await made('huge', copy => {
@@ -121,5 +121,5 @@ test('numbers of a volume that cannot be believed are no finding', { skip }, () 
     }
     // The root directory is missing too.
     write(room, { 'few.bin': read(room, 'disc.bin').subarray(0, 2352 * 20) });
-    assert.deepEqual((await said(room, 'few.bin')).info, [`20-${sectors - 1} not in the image, though the volume says ${sectors} blocks${UNSURE}`]);
+    assert.deepEqual((await said(room, 'few.bin')).info, [`20-${sectors - 1} not in the image, though the volume has ${sectors} blocks${UNSURE}`]);
 }));

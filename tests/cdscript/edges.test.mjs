@@ -89,7 +89,7 @@ test('a table without a space asks for --fill', () => inDirectory(async room => 
     tool(program, ['apply', 'plain', 'edit', 'image'], { cwd: room });
     const words = ['replace', 'image', '2', '10', 'ab', 'a', '--table', 'table'];
     const { status, out, errors } = await run(words, { cwd: room });
-    assert.deepEqual([status, out, errors], [2, '', 'cdscript: the table has no space to fill up with: give --fill\n']);
+    assert.deepEqual([status, out, errors], [2, '', 'cdscript: the table has no space character to pad with: give --fill\n']);
     assert.equal((await run([...words, '--fill', '41'], { cwd: room })).out, 'cdpatch 1\nset 2 10 414141 was 414243\n');
     const same = await run(['replace', 'image', '2', '10', 'ab', 'ba', '--table', 'table'], { cwd: room });
     assert.deepEqual([same.status, same.out, same.errors], [0, 'cdpatch 1\nset 2 10 424341 was 414243\n', '']);
@@ -109,7 +109,7 @@ test('a file that is taken out with sectors that are not Mode 1 is not passed of
         const block = Number(place.split('\t')[0]);
         write(room, { hurt: damaged(read(room, 'disc.bin'), 0, [block + 3, 15], [block + 4, 0]) });
         const { status, errors } = await run(['extract', 'hurt', '/BIG.BIN', 'out'], { cwd: room });
-        const text = 'in which other bytes may stand where mode1 has user data';
+        const text = 'so the bytes written may not be user data';
         assert.deepEqual([status, errors], [1, `cdscript: block ${block + 3}: other, ${text}\ncdscript: block ${block + 4}: nosync, ${text}\n`]);
         assert.equal(Buffer.compare(read(room, 'out'), files()['BIG.BIN']), 0);
     }));

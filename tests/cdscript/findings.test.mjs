@@ -52,7 +52,7 @@ test('a file that the sheet names and that is not there is a finding of info', (
         'FILE "two.bin" BINARY\n TRACK 02 AUDIO\n INDEX 01 00:00:00\n' });
     const { status, out } = await run(['info', 'set.cue'], { cwd: room });
     assert.equal(status, 1);
-    assert.match(out, /\ntrack 2 AUDIO in a file that is not there\n/);
+    assert.match(out, /\ntrack 2 AUDIO in a missing file\n/);
 }));
 
 test('diff --partial leaves out what no script can make', () => inDirectory(async room => {
@@ -61,11 +61,11 @@ test('diff --partial leaves out what no script can make', () => inDirectory(asyn
     const fresh = Buffer.concat([damaged(wanted, 0, [50, 100]), Buffer.from('b')]);
     write(room, { old, fresh });
     const refused = await run(['diff', 'old', 'fresh'], { cwd: room });
-    assert.match(refused.errors, /\ncdscript: no script leads to that image, so none is written: --partial leaves them out\n$/);
+    assert.match(refused.errors, /\ncdscript: no script can produce fresh, so none was written; use --partial to leave out these differences\n$/);
     const { status, out, errors } = await run(['diff', 'old', 'fresh', '--partial'], { cwd: room });
     assert.deepEqual([status, errors], [1, 'cdscript: nosync and mode1 in block 20, and a script changes only mode1\n' +
-        'cdscript: fresh is damaged in block 50\ncdscript: the bytes after the last sector differ, and no script changes them\n' +
-        'cdscript: blocks that are left out: 2\n']);
+        'cdscript: fresh is damaged in block 50\ncdscript: the bytes after the last sector differ, and a script cannot change them\n' +
+        'cdscript: blocks left out: 2\n']);
     write(room, { script: out });
     tool(program, ['apply', 'old', 'script', 'made'], { cwd: room });
     const due = Buffer.from(old);
@@ -107,9 +107,9 @@ test('a record of another volume, or in one byte order only, is not what it seem
     const { status, out, errors } = await listed(room, user);
     const differ = 'its numbers in the two byte orders differ';
     assert.deepEqual([status, out.split('\n').sort().filter(Boolean), errors], [1, [`0\t0\t/BIG\t${differ}`,
-        '20\t1000\t/AWAY\tit lies on volume 2 of the set, and this is volume 1', `22\t1000\t/DIFFERS\t${differ}`, '23\t1000\t/HERE'],
-    'cdscript: /: the directory /DIR is not read: it lies on volume 3 of the set, and this is volume 1\n']);
-    for (const [path, why] of [['/AWAY', 'it lies on volume 2 of the set, and this is volume 1'], ['/BIG', differ]]) {
+        '20\t1000\t/AWAY\tit is on volume 2 of the set, and this is volume 1', `22\t1000\t/DIFFERS\t${differ}`, '23\t1000\t/HERE'],
+    'cdscript: /: the directory /DIR is not read: it is on volume 3 of the set, and this is volume 1\n']);
+    for (const [path, why] of [['/AWAY', 'it is on volume 2 of the set, and this is volume 1'], ['/BIG', differ]]) {
         const taken = await run(['extract', 'made.raw', path, 'out'], { cwd: room });
         assert.deepEqual([taken.status, taken.errors, read(room, 'out')], [2, `cdscript: ${path}: ${why}\n`, null]);
     }
@@ -168,8 +168,8 @@ test('an undo names the block whose damage is gone, also if nothing else is take
     write(room, { image: damaged(imageOf(room, 20), 0, [3, 2200]), script: 'cdpatch 1\nrebuild 3\nset 5 0 00 was 00\n' });
     const { status, out, errors } = await run(['undo', 'image', 'script'], { cwd: room });
     assert.deepEqual([status, out], [1, 'cdpatch 1\n']);
-    assert.equal(errors, 'cdscript: 1 patch is refused on image: is it the image before the script?\n' +
-        'cdscript: block 3: damage does not come back; address and user data do\ncdscript: the script has no patch\n');
+    assert.equal(errors, 'cdscript: 1 patch is refused on image: is image the unpatched image?\n' +
+        'cdscript: block 3: the damage is not restored; the address and the user data are\ncdscript: the script has no patch\n');
 }));
 
 test('apply makes its output before it reads the image, as the program does', () => inDirectory(room => {

@@ -34,24 +34,24 @@ test('a raw image that begins with another block', { skip }, () => inDirectory(a
     await makeDisc(room, { first: 4500 });
     assert.match(tool(program, ['audit', '--base', '4500', 'disc.bin'], { cwd: room }).toString(), / damaged 0 tail 0\n$/);
     assert.match((await run(['info', 'disc.bin'], { cwd: room })).out, /^base 4500$/m);
-    await fails(['raw', 'disc.iso', 'out', '--first', '449800'], 'disc.iso goes on after block 449849, the last one with an address', room);
+    await fails(['raw', 'disc.iso', 'out', '--first', '449800'], 'disc.iso continues after block 449849, the last one with an address', room);
 }));
 
 test('a raw image goes on to the last block with an address', () => inDirectory(async room => {
     write(room, { 'two.iso': Buffer.alloc(2 * 2048) });
     assert.equal((await run(['raw', 'two.iso', 'last.bin', '--base', '449848'], { cwd: room })).status, 0);
     assert.match(tool(program, ['audit', '--base', '449848', 'last.bin'], { cwd: room }).toString(), /^sectors 2 mode1 2 damaged 0 tail 0\n$/);
-    await fails(['raw', 'two.iso', 'out', '--first', '449849'], 'two.iso goes on after block 449849, the last one with an address', room);
-    await fails(['raw', 'two.iso', 'out', '--first', '1', '--base', '1'], '--base and --first exclude each other', room);
+    await fails(['raw', 'two.iso', 'out', '--first', '449849'], 'two.iso continues after block 449849, the last one with an address', room);
+    await fails(['raw', 'two.iso', 'out', '--first', '1', '--base', '1'], '--base and --first cannot be used together', room);
 }));
 
 test('what can not be made raw, or has no user data', { skip }, () => inDirectory(async room => {
     await makeDisc(room);
-    await fails(['raw', 'disc.bin', 'out'], 'disc.bin is a raw image, 2352 bytes a sector, and no ISO image', room);
+    await fails(['raw', 'disc.bin', 'out'], 'disc.bin is a raw image, 2352 bytes a sector, not an ISO image', room);
     write(room, { 'cut.iso': read(room, 'disc.iso').subarray(0, 100000) });
-    await fails(['raw', 'cut.iso', 'out'], 'cut.iso has 100000 bytes, not 2048 for each sector', room);
-    await fails(['user', 'disc.iso', 'out'], 'disc.iso is an ISO image, 2048 bytes a sector. Make a raw image of it with cdscript raw, patch that, ' +
-        'and make an ISO image of its user data.', room);
+    await fails(['raw', 'cut.iso', 'out'], 'cut.iso has 100000 bytes, which is not a multiple of 2048', room);
+    await fails(['user', 'disc.iso', 'out'], 'disc.iso is an ISO image, 2048 bytes a sector. Convert it to a raw image with cdscript raw, patch that, ' +
+        'and extract its user data as an ISO image.', room);
     await fails(['raw', 'nothing.iso', 'out'], 'cannot open nothing.iso: there is no such file or directory', room);
 }));
 
@@ -60,7 +60,7 @@ test('the user data of sectors that are not Mode 1 are named, and a tail is', ()
     image[3 * 2352 + 15] = 2;
     write(room, { 'image.bin': Buffer.concat([image, Buffer.from('tail')]) });
     const { status, errors } = await run(['user', 'image.bin', 'out'], { cwd: room });
-    assert.deepEqual([status, errors], [1, 'cdscript: block 3: mode2, in which other bytes may stand where mode1 has user data\n' +
+    assert.deepEqual([status, errors], [1, 'cdscript: block 3: mode2, so the bytes written may not be user data\n' +
         'cdscript: the 4 bytes after the last sector are left out\n']);
     const user = Buffer.concat(Array.from({ length: 8 }, (_, i) => image.subarray(2352 * i + 16, 2352 * i + 2064)));
     sameFile(read(room, 'out'), user, 'user data');
@@ -80,7 +80,7 @@ test('files of a disc are taken out', { skip }, () => inDirectory(async room => 
         sameFile(read(room, 'out'), bytes, path);
         tool('rm', ['out'], { cwd: room });
     }
-    await fails(['extract', 'disc.bin', '/NO.BIN', 'out'], 'there is no file /NO.BIN; cdscript files lists them', room);
+    await fails(['extract', 'disc.bin', '/NO.BIN', 'out'], 'no file /NO.BIN on the disc; cdscript files lists the files', room);
 }));
 
 test('info of a disc', () => inDirectory(async room => {
@@ -106,14 +106,14 @@ test('info of what is no raw image', () => inDirectory(async room => {
 
 test('info of what can not be patched as it is', { skip }, () => inDirectory(async room => {
     await makeDisc(room);
-    assert.ok((await run(['info', 'disc.iso'], { cwd: room })).out.endsWith('\n`cdscript raw` makes the raw image, and `cdscript user` the ISO image.\n'));
+    assert.ok((await run(['info', 'disc.iso'], { cwd: room })).out.endsWith('\n`cdscript raw` writes the raw image, and `cdscript user` the ISO image.\n'));
     const mode2 = imageOf(room, 20);
     for (let i = 0; i < 20; i++) mode2[2352 * i + 15] = 2;
     write(room, { mode2, 'audio.bin': Buffer.alloc(2352 * 3, 7), 'cooked.cue': 'FILE "disc.iso" BINARY\n  TRACK 01 MODE1/2048\n    INDEX 01 00:00:00\n',
         'audio.cue': 'FILE "audio.bin" BINARY\n  TRACK 01 AUDIO\n    INDEX 01 00:00:00\n' });
-    const cases = { mode2: [0, 'mode2 20: such sectors can not be audited or patched here; discs of the PlayStation have them'],
-        'cooked.cue': [1, 'track 1 has 2048 bytes a sector: it can not be audited or patched here'],
-        'audio.cue': [1, 'no track has data: audio can not be audited or patched'], 'audio.bin': [1, 'no track has data: audio can not be audited or patched'] };
+    const cases = { mode2: [0, 'mode2 20: Mode 2 sectors cannot be audited or patched; PlayStation discs have them'],
+        'cooked.cue': [1, 'track 1 has 2048 bytes a sector: it cannot be audited or patched'],
+        'audio.cue': [1, 'no data track: audio cannot be audited or patched'], 'audio.bin': [1, 'no data track: audio cannot be audited or patched'] };
     for (const [name, [due, line]] of Object.entries(cases)) {
         const { status, out, errors } = await run(['info', name], { cwd: room });
         assert.deepEqual([status, out.split('\n').at(-2), errors], [due, line, ''], name);
@@ -140,9 +140,9 @@ test('a cue sheet gives tracks, files and bases', () => inDirectory(async room =
     assert.equal(status, 0);
     assert.match(out, /^track 2 AUDIO blocks 30-179 in Two.BIN\ntrack 3 MODE1\/2352 blocks 180-199 in three.bin\nbase 180\n180-199 mode1$/m);
     assert.deepEqual((await run(['audit', 'disc.cue'], { cwd: room })).out, 'sectors 30 mode1 30 damaged 0 tail 0\n');
-    await fails(['user', 'disc.cue', 'out', '--track', '2'], 'Track 2 is no track of data with 2352 bytes a sector. Choose one that is.', room);
+    await fails(['user', 'disc.cue', 'out', '--track', '2'], 'Track 2 is not a data track with 2352-byte sectors. Choose a different track.', room);
     tool('rm', ['three.bin'], { cwd: room });
-    assert.match((await run(['info', 'disc.cue'], { cwd: room })).errors, /^cdscript: disc.cue names C:\\discs\\three.bin\. It is not in the directory of the cue sheet\.\n$/);
+    assert.match((await run(['info', 'disc.cue'], { cwd: room })).errors, /^cdscript: disc.cue names C:\\discs\\three.bin, which is not in the directory of the cue sheet\.\n$/);
 }));
 
 test('a repair takes sound sectors only, of the first image that has one', () => inDirectory(async room => {
@@ -168,13 +168,13 @@ test('a repair takes what the EDC of the damaged sector fits, and names what it 
     tool(program, ['apply', 'good', 'edit', 'door.bin'], { cwd: room });
     const both = await run(['merge', 'old', 'door.bin', 'good', 'one'], { cwd: room });
     assert.deepEqual([both.status, both.errors], [0, '']);
-    assert.equal(both.out, ['17-17 from good', '20-20 from door.bin', '17-17 sound in several, but different there',
-        '33-33 sound in door.bin too, but different there', '35-35 sound in door.bin too, but different there',
+    assert.equal(both.out, ['17-17 from good', '20-20 from door.bin', '17-17 sound in several dumps, but with different contents',
+        '33-33 also sound in door.bin, but with different contents', '35-35 also sound in door.bin, but with different contents',
         'taken 2 damaged 0 disputed 1 different 2', ''].join('\n'));
     sameFile(read(room, 'one'), good, 'the repaired image');
     const other = await run(['merge', 'old', 'door.bin', 'two'], { cwd: room });
     assert.deepEqual([other.status, other.errors],
-        [1, "cdscript: block 17: taken from door.bin, but OLD has a different EDC: perhaps another version\n"]);
+        [1, "cdscript: block 17: copied from door.bin, but the EDC in OLD is different: perhaps the dumps are of different versions\n"]);
 }));
 
 test('a repair of many places names the first of them', () => inDirectory(async room => {
@@ -184,10 +184,10 @@ test('a repair of many places names the first of them', () => inDirectory(async 
     good.copy(other, 2352 * 11, 2352 * 12, 2352 * 13);
     write(room, { old: Buffer.concat([damaged(good, 0, ...odd), Buffer.from('a')]), other });
     const { status, out, errors } = await run(['merge', 'old', 'other', 'out'], { cwd: room });
-    assert.deepEqual([status, errors], [1, 'cdscript: the bytes after the last sector differ in other; those of old are kept\n']);
+    assert.deepEqual([status, errors], [1, 'cdscript: the bytes after the last sector differ in other; those in old are kept\n']);
     const lines = out.split('\n');
     const due = odd.map(([block]) => block).filter(block => block !== 11).slice(0, 1000).map(block => `${block}-${block} from other`);
-    assert.deepEqual(lines, [...due, 'and so on: 1199 places in all', '11-11 sound only with the address of another block',
+    assert.deepEqual(lines, [...due, 'and so on: 1199 places in all', '11-11 sound only with the address of a different block',
         'taken 1199 damaged 1 disputed 0 different 0', '']);
     const due2 = Buffer.concat([damaged(good, 0, odd[5]), Buffer.from('a')]);
     sameFile(read(room, 'out'), due2, 'the repaired image');
@@ -201,7 +201,7 @@ test('dumps that begin or end elsewhere repair the blocks that both have', () =>
     assert.deepEqual([short.status, short.errors], [1, 'cdscript: short has only blocks 30 to 324 of old\n']);
     assert.equal(short.out, '40-40 from short\n320-320 from short\n327-327 damaged in all\ntaken 2 damaged 1 disputed 0 different 0\n');
     const later = await run(['merge', 'old', 'later', 'long', 'all'], { cwd: room });
-    const beyond = 'cdscript: long has block 330, which old has not, so all has not either: name long first\n';
+    const beyond = 'cdscript: block 330 is in long but not in old, so all lacks it too; to include it, name long first\n';
     assert.deepEqual([later.status, later.errors], [0, `cdscript: later has only blocks 50 to 329 of old\n${beyond}`]);
     assert.equal(later.out, '40-40 from long\n320-320 from later\n327-327 from later\ntaken 3 damaged 0 disputed 0 different 0\n');
     sameFile(read(room, 'all'), good, 'the repaired image');
@@ -213,9 +213,9 @@ test('merge says which blocks only another dump has, and which dump to name firs
     write(room, { good, cut: part(0, 200), begin: part(0, 250), end: part(100, 300) });
     const none = 'taken 0 damaged 0 disputed 0 different 0\n';
     const cases = [
-        ['cut', 'good', 'good has blocks 230 to 329, which cut has not, so out1 has not either: name good first'],
+        ['cut', 'good', 'blocks 230 to 329 are in good but not in cut, so out1 lacks them too; to include them, name good first'],
         ['good', 'cut', 'cut has only blocks 30 to 229 of good'],
-        ['begin', 'end', 'end has only blocks 130 to 279 of begin', 'end has blocks 280 to 329, which begin has not, so out3 has not either'],
+        ['begin', 'end', 'end has only blocks 130 to 279 of begin', 'blocks 280 to 329 are in end but not in begin, so out3 lacks them too'],
         ['good', 'good'],
     ];
     for (const [i, [old, other, ...said]] of cases.entries()) {
@@ -248,12 +248,12 @@ test('what no repair takes', () => inDirectory(async room => {
     write(room, { other, edited: Buffer.concat([other.subarray(0, 3 * 2352), good.subarray(3 * 2352)]) });
     const { status, errors } = await run(['merge', 'old', 'other', 'out', '--base', '30'], { cwd: room });
     assert.equal(status, 2);
-    assert.match(errors, /^cdscript: 29\d of 300 sectors are sound in old and in other, and differ: from block 30 on other is shifted, for 8 sectors before it are missing\n$/);
+    assert.match(errors, /^cdscript: 29\d of 300 sectors are sound in old and in other, and differ: other is shifted from block 30 on, because 8 sectors before that block are missing\n$/);
     write(room, { more: Buffer.concat([good.subarray(0, 2352), good.subarray(0, 2352 * 299)]) });
     await fails(['merge', 'old', 'more', 'out', '--base', '30'],
-        '298 of 300 sectors are sound in old and in more, and differ: from block 31 on more is shifted, for 1 sector before it is too many', room);
+        '298 of 300 sectors are sound in old and in more, and differ: more is shifted from block 31 on, because there is 1 sector too many before that block', room);
     write(room, { strange: imageOf(room, 301, 29).subarray(2352) });
-    await fails(['merge', 'old', 'strange', 'out'], '299 of 300 sectors are sound in old and in strange, and differ: one of them is patched, shifted or of another disc', room);
+    await fails(['merge', 'old', 'strange', 'out'], '299 of 300 sectors are sound in old and in strange, and differ: one of them is patched, shifted, or of a different disc', room);
     assert.equal(existsSync(join(room, 'out')), false);
     assert.match((await run(['merge', 'old', 'edited', 'out'], { cwd: room })).out, /\ntaken 1 damaged 0 disputed 0 different 3\n$/);
 }));
@@ -274,7 +274,7 @@ test('a file that exists stays', () => inDirectory(async room => {
     write(room, { image: imageOf(room, 10), out: 'kept', script: 'cdpatch 1\n' });
     for (const words of [['user', 'image', 'out'], ['merge', 'image', 'image', 'out'], ['diff', 'image', 'image', '-o', 'out']]) {
         const { status, errors } = await run(words, { cwd: room });
-        assert.deepEqual([status, errors, read(room, 'out').toString()], [2, 'cdscript: cannot make out: it exists\n', 'kept']);
+        assert.deepEqual([status, errors, read(room, 'out').toString()], [2, 'cdscript: cannot create out: it already exists\n', 'kept']);
     }
     assert.deepEqual([(await run(['apply', 'image', 'script', 'out'], { cwd: room })).out, read(room, 'out').toString()],
         [`${MESSAGES.no_output}\n`, 'kept']);
@@ -282,31 +282,31 @@ test('a file that exists stays', () => inDirectory(async room => {
 
 /** Wrong command lines and their messages. */
 const WRONG_WORDS = {
-    '': 'a job is missing; see cdscript --help',
-    'frob': "there is no job 'frob'; see cdscript --help",
+    '': 'no job given; see cdscript --help',
+    'frob': "unknown job 'frob'; see cdscript --help",
     'list': 'list needs IMAGE; see cdscript list --help',
     'apply a b': 'apply needs IMAGE SCRIPT OUT; see cdscript apply --help',
     'list a b': 'list needs IMAGE; see cdscript list --help',
     'replace a 1 b c': 'replace needs IMAGE [BLOCK OFFSET] OLD NEW; see cdscript replace --help',
     'merge a b': 'merge needs OLD OTHER.. OUT; see cdscript merge --help',
-    'list --frob a': 'there is no option --frob; a name that begins with - stands after --',
+    'list --frob a': 'unknown option --frob; put names that begin with - after --',
     'list --carry a': 'list has no option --carry; see cdscript list --help',
     'list --base': '--base needs N',
-    'list --base 449850 a': "--base is a number from 0 to 449849, not '449850'",
-    'list --base=x a': "--base is a number from 0 to 449849, not 'x'",
+    'list --base 449850 a': "--base must be a number from 0 to 449849, not '449850'",
+    'list --base=x a': "--base must be a number from 0 to 449849, not 'x'",
     'list --base 1 --base 1 a': '--base was given twice',
-    'check --carry=1 a b': '--carry takes no value',
-    'find a b --encoding latin': "there is no encoding 'latin' here; there are " +
+    'check --carry=1 a b': '--carry does not accept a value',
+    'find a b --encoding latin': "unknown encoding 'latin'; known encodings: " +
         ENCODINGS_KNOWN.map(({ name }) => name).join(', '),
-    'find a b --encoding hex --table t': '--encoding and --table exclude each other',
-    'diff a b --skip-damaged --fields': '--fields and --skip-damaged exclude each other',
-    'replace a 1 0 b c --all': '--all and a place exclude each other',
-    'replace a --list b --all': '--list and --all exclude each other',
-    'replace a --list b --inside': '--list and --inside exclude each other',
-    'replace a --list b --loose': '--list and --loose exclude each other',
-    'replace a b c --fill 2': "--fill is two hexadecimal digits for each byte, or end, not '2'",
-    'show a x': "a block is a number from 0 to 999999999, not 'x'",
-    'show a 1 2048': "an offset is a number from 0 to 2047, not '2048'",
+    'find a b --encoding hex --table t': '--encoding and --table cannot be used together',
+    'diff a b --skip-damaged --fields': '--fields and --skip-damaged cannot be used together',
+    'replace a 1 0 b c --all': '--all cannot be used together with BLOCK and OFFSET',
+    'replace a --list b --all': '--list and --all cannot be used together',
+    'replace a --list b --inside': '--list and --inside cannot be used together',
+    'replace a --list b --loose': '--list and --loose cannot be used together',
+    'replace a b c --fill 2': "--fill needs two hexadecimal digits for each byte, or end, not '2'",
+    'show a x': "a block must be a number from 0 to 999999999, not 'x'",
+    'show a 1 2048': "an offset must be a number from 0 to 2047, not '2048'",
 };
 
 test('wrong arguments are one line and status 2', () => inDirectory(async room => {

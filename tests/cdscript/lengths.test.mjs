@@ -54,7 +54,7 @@ test('a file of another length gets it in each record that names it, and zeros a
     for (const size of [6144, 5001, 4999, 2048, 1, 0]) {
         const fresh = noise(size, 9);
         const made = await replaced(room, '/DATA/TEXT.DAT', fresh);
-        assert.deepEqual([made.status, made.errors], [0, `cdscript: /DATA/TEXT.DAT had 5000 bytes, and gets ${size}\n`]);
+        assert.deepEqual([made.status, made.errors], [0, `cdscript: /DATA/TEXT.DAT: 5000 bytes, now ${size}\n`]);
         const after = await patched(room, made.bytes);
         for (const [path, ...options] of [['/DATA/TEXT.DAT', '-R'], ['/DATA/TEXT.DAT', '-J'], ['/DATA/TEXT.DAT;1']]) {
             sameFile(isoFile(room, path, ...options), fresh, `${size} ${options}`);
@@ -83,9 +83,9 @@ test('a file of an image that begins with another block is replaced there', { sk
 test('a file that is longer than its sectors is refused with both lengths', { skip }, () => inDirectory(async room => {
     await makeDisc(room, { 'A.DAT': noise(5000, 1), 'EMPTY': '' }, '-R');
     const said = async (...given) => (await replaced(room, ...given)).errors;
-    assert.equal(await said('/A.DAT', noise(6145, 2)), 'cdscript: /A.DAT has 5000 bytes and room for 6144, the new file 6145\n');
-    assert.equal(await said('/EMPTY', noise(1, 2)), 'cdscript: /EMPTY has 0 bytes and room for 0, the new file 1\n');
-    assert.equal(await said('/A.DAT', noise(5001, 2), '--fill', '20'), 'cdscript: /A.DAT has 5000 bytes, the new file 5001\n');
+    assert.equal(await said('/A.DAT', noise(6145, 2)), 'cdscript: /A.DAT has 5000 bytes and room for 6144, but the new file has 6145\n');
+    assert.equal(await said('/EMPTY', noise(1, 2)), 'cdscript: /EMPTY has 0 bytes and room for 0, but the new file has 1\n');
+    assert.equal(await said('/A.DAT', noise(5001, 2), '--fill', '20'), 'cdscript: /A.DAT has 5000 bytes, but the new file has 5001\n');
     const none = await replaced(room, '/EMPTY', '');
     assert.deepEqual([none.status, none.out], [0, 'cdpatch 1\n']);
 }));
@@ -93,7 +93,7 @@ test('a file that is longer than its sectors is refused with both lengths', { sk
 test('with --fill the length stays, and nothing but the file changes', { skip }, () => inDirectory(async room => {
     await makeDisc(room, { 'A.DAT': noise(5000, 1) }, '-R', '-J');
     const made = await replaced(room, '/A.DAT', noise(4990, 2), '--fill', '2E');
-    assert.deepEqual([made.status, made.errors], [0, 'cdscript: bytes filled up with 2E: 10\n']);
+    assert.deepEqual([made.status, made.errors], [0, 'cdscript: padded with 10 bytes (2E)\n']);
     const due = read(room, 'disc.iso');
     Buffer.concat([noise(4990, 2), Buffer.alloc(10, 0x2E)]).copy(due, due.indexOf(noise(5000, 1)));
     sameFile(await patched(room, made.bytes), due, 'the disc');
@@ -101,7 +101,7 @@ test('with --fill the length stays, and nothing but the file changes', { skip },
 
 test('on a disc with UDF a file keeps its length', { skip }, () => inDirectory(async room => {
     await makeDisc(room, { 'A.DAT': noise(5000, 1) }, '-R', '-J', '-udf');
-    const why = '/A.DAT would have its old length in the UDF that the disc has too: --fill keeps the length';
+    const why = 'the UDF file system of the disc would keep the old length of /A.DAT: use --fill to keep the length';
     for (const size of [5001, 4999]) {
         const { status, out, errors } = await replaced(room, '/A.DAT', noise(size, 2));
         assert.deepEqual([status, out, errors], [2, '', `cdscript: ${why}\n`]);
@@ -126,9 +126,9 @@ test('two names of one file both get its length, and what has some of its blocks
         tool('rm', ['-f', 'disc.bin'], { cwd: room });
         await disc(name);
         const { status, out, errors } = await replaced(room, '/A', noise(2999, 1));
-        assert.deepEqual([status, out, errors], [2, '', 'cdscript: /A can have no other length: /B has some of its blocks\n']);
+        assert.deepEqual([status, out, errors], [2, '', 'cdscript: the length of /A cannot change: /B has some of its blocks\n']);
         const kept = await replaced(room, '/A', noise(3000, 1));
-        assert.deepEqual([kept.status, kept.errors], [0, 'cdscript: /B has blocks of /A too, and changes with it\n']);
+        assert.deepEqual([kept.status, kept.errors], [0, 'cdscript: /B shares blocks with /A, and changes too\n']);
     }
 }));
 
@@ -137,12 +137,12 @@ test('a file that has blocks of the volume itself is not replaced, whatever its 
     const user = volumeOf(30, sector => sector === ROOT ? records : []);
     user.set([10, 0, 0, 0, 0, 0, 0, 10, 25, 0, 0, 0], 16 * USER + 132);
     await makeRaw(room, user);
-    const why = { '/VD': [2048, '/VD has block 16, which has a descriptor'], '/ROOT': [2048, '/ROOT has block 18, which has a directory'],
-        '/OVER': [9000, '/OVER has block 18, which has a directory'], '/TABLE': [100, '/TABLE has block 25, which has a path table'] };
+    const why = { '/VD': [2048, 'block 16 of /VD contains a descriptor'], '/ROOT': [2048, 'block 18 of /ROOT contains a directory'],
+        '/OVER': [9000, 'block 18 of /OVER contains a directory'], '/TABLE': [100, 'block 25 of /TABLE contains a path table'] };
     for (const [path, [size, text]] of Object.entries(why)) {
         for (const words of [[noise(size, 1)], [noise(size - 1, 1)], [noise(size - 1, 1), '--fill', '00']]) {
             const { status, out, errors } = await replaced(room, path, ...words);
-            assert.deepEqual([status, out, errors], [2, '', `cdscript: ${text} of the volume: that is not replaced\n`]);
+            assert.deepEqual([status, out, errors], [2, '', `cdscript: ${text} of the volume, which cannot be replaced\n`]);
         }
     }
     assert.equal((await replaced(room, '/A', noise(99, 1))).status, 0);
@@ -197,15 +197,15 @@ test('a file of several parts gets other bytes and another length, part by part'
             sameFile(read(room, 'new'), read(room, 'old'), other);
         }
     }
-    assert.equal((await replaced(room, '/BIG', noise(8193, 7))).errors, 'cdscript: /BIG has 7144 bytes and room for 8192, the new file 8193\n');
+    assert.equal((await replaced(room, '/BIG', noise(8193, 7))).errors, 'cdscript: /BIG has 7144 bytes and room for 8192, but the new file has 8193\n');
 }));
 
 test('parts that are no file, and a part of which the image has not all, are refused by name', () => inDirectory(async room => {
     const records = [file('HALF', 20, 2048, 128), file('HALF', 39, 4096), file('TWICE', 21, 100), file('TWICE', 22, 100),
         file('OVER', 24, 4096, 128), file('OVER', 25, 4096)];
     await makeRaw(room, volumeOf(40, sector => sector === ROOT ? records : []));
-    const why = { '/HALF': '/HALF: the image has not all of it', '/TWICE': '/TWICE has 2 parts, which are no file',
-        '/OVER': '/OVER: its parts lie over each other' };
+    const why = { '/HALF': '/HALF: the image does not contain all of it', '/TWICE': '/TWICE has 2 directory records that do not form one file',
+        '/OVER': 'the parts of /OVER overlap' };
     for (const [path, text] of Object.entries(why)) {
         const { status, errors } = await run(['extract', 'disc.bin', path, 'out'], { cwd: room });
         assert.deepEqual([status, errors, read(room, 'out')], [2, `cdscript: ${text}\n`, null]);

@@ -33,7 +33,7 @@ test('each row of a list with a new text is replaced, in the order of places', (
     assert.equal(done.out, ['cdpatch 1', 'set 2 200 410042430A202020 was 8341000083418343', 'set 3 2046 6F6B2020 was 83418343',
         'set 4 50 A5A62020 was A5A2A5A4', 'set 5 0 67006F00 was 8B73D869', ''].join('\n'));
     const other = await listed(room, HEAD, ['4\t50\t4\t4\tCP932\t-\tアイ\tウ']);
-    assert.deepEqual([other.status, other.errors.split('\n')[0]], [2, 'cdscript: row 2: the old text does not stand there']);
+    assert.deepEqual([other.status, other.errors.split('\n')[0]], [2, 'cdscript: row 2: the old text is not there']);
     write(room, { english: done.out });
     tool(program, ['apply', 'image', 'english', 'out'], { cwd: room });
     assert.equal(read(room, 'out').length, read(room, 'image').length);
@@ -52,8 +52,8 @@ test('on an image that has the new texts already, that is said of each row', () 
     writeImage(room, [2, 0, '4F4B2020'], [2, 100, '73746172']);
     const rows = ['2\t0\tアイ\tOK', '2\t100\tア\tstar', '2\t100\tアイ\té', '2\t100\tアイ\tstay'];
     const done = await listed(room, 'block\toffset\ttext\tnew', rows, '--encoding', 'CP932');
-    assert.deepEqual(done.errors.split('\n').slice(0, 4), ['row 2: the new text stands there already', 'row 3: the new text stands there already',
-        'row 4: the old text does not stand there', 'row 5: the old text does not stand there'].map(line => `cdscript: ${line}`));
+    assert.deepEqual(done.errors.split('\n').slice(0, 4), ['row 2: the new text is already there', 'row 3: the new text is already there',
+        'row 4: the old text is not there', 'row 5: the old text is not there'].map(line => `cdscript: ${line}`));
 }));
 
 test('a new text may take the room of the filling after the old one, and no byte more', () => inDirectory(async room => {
@@ -65,7 +65,7 @@ test('a new text may take the room of the filling after the old one, and no byte
     assert.deepEqual([long.status, long.out, long.errors.split('\n')], [2, '', [
         'cdscript: row 2: the new text has 9 bytes in CP932, and there is room for 8: 1 too many',
         'cdscript: row 3: the new text has 6 bytes in CP932, and there is room for 5: 1 too many',
-        'cdscript: rows that do not fit: 2, so no script is written; --partial leaves them out', '']]);
+        'cdscript: 2 rows do not fit, so no script was written; use --partial to leave them out', '']]);
     const without = await listed(room, 'block\toffset\ttext\tnew', ['5\t300\tABCD\tABCDE']);
     assert.equal(without.errors.split('\n')[0], 'cdscript: row 2: the new text has 5 bytes in CP932, and there is room for 4: 1 too many');
 }));
@@ -86,9 +86,9 @@ test('all rows that do not fit are named, and left out only if that is asked for
     const rows = ['2\t100\tアイ\té', '2\t101\tアイ\ta', '9999\t0\tアイ\ta', 'x\t0\tアイ\ta', '3\t2046\tアイ\tok', '4\t0\tイ\tno', '4\t50\tアイ\tok', '5\t0\té\ta'];
     const head = 'block\toffset\ttext\tnew';
     const refused = await listed(room, head, rows, '--encoding', 'CP932');
-    const why = ['row 2: CP932 has no \'é\' (U+00E9), character 1 of the text', 'row 3: the old text does not stand there',
-        'row 4: the image has the blocks 0 to 7', 'row 5: block and offset are no numbers', 'row 7: it overlaps the text of row 6',
-        'row 8: the old text does not stand there', 'row 9: CP932 has no \'é\' (U+00E9), character 1 of the text'];
+    const why = ['row 2: CP932 cannot encode \'é\' (U+00E9), character 1 of the text', 'row 3: the old text is not there',
+        'row 4: the image has only the blocks 0 to 7', 'row 5: block or offset is not a number', 'row 7: it overlaps the text of row 6',
+        'row 8: the old text is not there', 'row 9: CP932 cannot encode \'é\' (U+00E9), character 1 of the text'];
     assert.deepEqual([refused.status, refused.out, refused.errors.split('\n').slice(0, -2)], [2, '', why.map(line => `cdscript: ${line}`)]);
     const partial = await listed(room, head, rows, '--encoding', 'CP932', '--partial');
     assert.deepEqual([partial.status, partial.out], [1, 'cdpatch 1\nset 3 2046 6F6B2020 was 83418343\n']);
@@ -105,9 +105,9 @@ test('a list is TSV or CSV, in UTF-8 or UTF-16, and has to name its columns', ()
     const said = async words => (await run(words, { cwd: room })).errors;
     write(room, { none: 'block\toffset\ttext\tnew\n2\t100\tアイ\t\n', headless: '2\t100\tアイ\tok\n' });
     assert.equal(await said(['replace', 'image', '--list', 'none']), 'cdscript: no row of the list has a new text\n');
-    assert.match(await said(['replace', 'image', '--list', 'headless']), /^cdscript: row 1 of the list names no column /);
+    assert.match(await said(['replace', 'image', '--list', 'headless']), /^cdscript: the header in row 1 of the list lacks the columns /);
     assert.match(await said(['replace', 'image', '--list', 'none', 'アイ', 'ok']), /^cdscript: replace needs IMAGE; /);
-    assert.match(await said(['replace', 'image', '--list', 'none', '--all']), /exclude each other/);
+    assert.match(await said(['replace', 'image', '--list', 'none', '--all']), /cannot be used together/);
     assert.match(await said(['replace', 'image', 'a', 'b', '--partial']), /--partial needs --list/);
     const fill = await run(['replace', 'image', '--list', 'list', '--fill', '00'], { cwd: room });
     assert.equal(fill.out, wanted.replace('2020', '0000'));
@@ -132,17 +132,17 @@ test('--fill end fills up with the byte that ends texts, which a table may name'
     assert.equal((await rows(['--encoding', 'CP932', '--fill', 'end'])).out, 'cdpatch 1\nset 2 0 414100 was 414141\n');
     const placed = await run(['replace', 'image', '2', '100', 'AAA', 'A', '--encoding', 'CP932', '--fill', 'end'], { cwd: room });
     assert.equal(placed.out, 'cdpatch 1\nset 2 100 410000 was 414141\n');
-    assert.match((await run(['replace', 'image', '2', '100', 'AAA', 'A', '--fill', 'ends'], { cwd: room })).errors, /^cdscript: --fill is two hexadecimal digits/);
+    assert.match((await run(['replace', 'image', '2', '100', 'AAA', 'A', '--fill', 'ends'], { cwd: room })).errors, /^cdscript: --fill needs two hexadecimal digits/);
 }));
 
 test('a table of another tool is read, and the lines that mean nothing here are named once', () => inDirectory(async room => {
     writeImage(room, [2, 0, '41FE0141FF']);
     write(room, { table: '@JP\n41=A\n42=B\n20= \n$FE=[WAIT],1\n/FF\n!FD=KANJI,1\n' });
-    const note = 'cdscript: lines 1, 7 of the table mean nothing here, and are left out\n';
+    const note = 'cdscript: lines 1, 7 of the table have no meaning here, and are ignored\n';
     const done = await listed(room, 'block\toffset\ttext\tnew', ['2\t0\tA[WAIT]{01}A\tB[WAIT]{02}'], '--table', 'table');
     assert.deepEqual([done.out, done.errors], ['cdpatch 1\nset 2 0 42FE0220 was 41FE0141\n', `${note}cdscript: new texts leave out {01} once: row 2\n`]);
     const found = await run(['find', 'image', 'A[WAIT]', '--table', 'table'], { cwd: room });
-    assert.match(found.errors, /^cdscript: lines 1, 7 of the table mean nothing here, and are left out\n/);
+    assert.match(found.errors, /^cdscript: lines 1, 7 of the table have no meaning here, and are ignored\n/);
     assert.ok((await run(['texts', 'image', '--table', 'table'], { cwd: room })).errors.includes(note));
 }));
 
@@ -151,7 +151,7 @@ test('what a spreadsheet wrote for a formula, and a mistyped code, are rows that
     const rows = ['2\t0\t{3D}A\t{3D}B', '2\t100\tAA\t#REF!', '2\t200\tAAAA\t{O1}'];
     const done = await listed(room, 'block\toffset\ttext\tnew', rows, '--encoding', 'CP932', '--partial');
     assert.deepEqual(done.errors.split('\n').slice(0, -1), ['cdscript: row 3: a spreadsheet wrote #REF! in place of a formula: write the text, with {3D} for =',
-        'cdscript: row 4: {O1} is not a code, which is two digits 0 to F for each byte; a brace is {7B}']);
+        'cdscript: row 4: {O1} is not a code: a code has two digits 0 to F for each byte; a brace is {7B}']);
     assert.equal(done.out, 'cdpatch 1\nset 2 0 3D42 was 3D41\n');
     const plain = await listed(room, 'block\toffset\ttext\tnew', ['2\t0\t=A\t=B'], '--encoding', 'CP932');
     assert.deepEqual([plain.errors, plain.out], ['', done.out]);
@@ -197,12 +197,12 @@ test('a list of 100 MB is read in bounded memory, and a longer one is refused by
         write(room, { [name]: list });
         const words = ['--max-old-space-size=600', command, 'replace', 'image', '--list', name, '--partial', '--encoding', 'CP932'];
         const { status, stdout, stderr } = spawnSync(process.execPath, words, { cwd: room, encoding: 'utf8', maxBuffer: 1 << 26 });
-        return [status, stdout, stderr.split('\n').slice(0, -1).map(line => line.replace('cdscript: ', '')).filter(line => !line.startsWith('no file'))];
+        return [status, stdout, stderr.split('\n').slice(0, -1).map(line => line.replace('cdscript: ', '')).filter(line => !line.startsWith('file names are unknown: '))];
     });
     const [ok, why] = ['cdpatch 1\nset 2 100 6F6B2020 was 83418343\n', 'row 2: a text has more than 65536 characters'];
-    const none = [why, 'no row fits, so no script is written'];
+    const none = [why, 'no row fits, so no script was written'];
     assert.deepEqual(said, [[0, ok, []], [2, '', none], [2, '', none], [1, ok, [why]]]);
     truncateSync(join(room, 'rows'), 2 ** 28 + 1);
     const { status, stderr } = spawnSync(process.execPath, [command, 'replace', 'image', '--list', 'rows'], { cwd: room, encoding: 'utf8' });
-    assert.deepEqual([status, stderr.split('\n').slice(-2)[0]], [2, 'cdscript: rows has 268435457 bytes, and a list at most 268435456']);
+    assert.deepEqual([status, stderr.split('\n').slice(-2)[0]], [2, 'cdscript: rows has 268435457 bytes, but a list may have at most 268435456']);
 }));

@@ -58,8 +58,8 @@ test('blocks that the volume uses and that are not Mode 1 are lost, at an edge a
         ['noise', 490, 510, noise(RAW * 510, 9), '/A.BIN'], ['start', 0, 5, 0, 'the volume itself']];
     for (const [name, first, count, bytes, file] of cases) {
         write(room, { [`${name}.bin`]: changed(disc, first, count, bytes), [`${name}.2.bin`]: changed(disc, first, count, bytes) });
-        const due = name === 'noise' ? [untested(500, '500 to 999') + WHAT, `490-499 not mode1, though ${file} lies there`]
-            : [`${first}-${first + count - 1} not mode1, though ${file} lies there`];
+        const due = name === 'noise' ? [untested(500, '500 to 999') + WHAT, `490-499 not mode1, though ${file} is stored there`]
+            : [`${first}-${first + count - 1} not mode1, though ${file} is stored there`];
         assert.deepEqual(await said(room, `${name}.bin`), { status: [1, 1], lines: due, findings: [name === 'noise' ? '10' : String(count)] }, name);
         const { status, out } = await run(['merge', `${name}.bin`, `${name}.2.bin`, `${name}.out`], { cwd: room });
         const last = name === 'noise' ? 499 : first + count - 1;
@@ -81,7 +81,7 @@ test('without a volume what one byte other than 00 fills is lost, and no other e
     for (const [name, first, count, bytes, isLost] of cases) {
         write(room, { [name]: changed(image, first, count, bytes) });
         const last = first + count - 1;
-        const due = isLost ? `${first}-${last} not mode1, and filled with one byte, as no audio is` : untested(count, `${first} to ${last}`) + WHAT;
+        const due = isLost ? `${first}-${last} not mode1, and filled with the same byte, unlike audio` : untested(count, `${first} to ${last}`) + WHAT;
         assert.deepEqual(await said(room, name), { status: isLost ? [1, 1] : [0, 0], lines: [due], findings: [isLost ? String(count) : '0'] }, name);
         const scan = await run(['scan', name], { cwd: room });
         assert.equal(scan.errors, isLost ? '' : `cdscript: ${name}: ${untested(count, `${first} to ${last}`)}${WHAT}\n`);
@@ -94,7 +94,7 @@ test('tracks that a cue sheet calls audio or Mode 2, and what is Mode 2 througho
         'disc.cue': sheet(['MODE1/2352', '00:00:00'], ['AUDIO', TRACK_AT_400], ['MODE2/2352', TRACK_AT_710]) });
     const three = await said(room, 'disc.cue');
     assert.deepEqual([three.status, three.lines.at(-1), three.findings], [[0, 0], untested(310, '400 to 709'), ['0']]);
-    assert.match(three.lines[0], /^mode2 310: such sectors can not be audited/);
+    assert.match(three.lines[0], /^mode2 310: Mode 2 sectors cannot be audited/);
     assert.deepEqual((await said(room, 'disc.bin')).findings, ['620']);
     const alone = await run(['merge', 'disc.cue', 'disc.bin', 'out'], { cwd: room });
     assert.deepEqual([alone.status, alone.out, alone.errors], [0, `${COUNTS}\n`, `cdscript: ${untested(620, '400 to 1019')}\n`]);
@@ -111,8 +111,8 @@ test('a file that a directory lists and that is a track of audio is not lost', (
     write(room, { audio, 'one less': changed(audio, 399, 1, 0), hollow: changed(audio, 400, 300, 0), short: changed(disc, 400, 290, noise(RAW * 290, 8)) });
     assert.deepEqual(await said(room, 'audio'), { status: [0, 0], lines: [untested(400, '400 to 799') + WHAT], findings: ['0'] });
     assert.deepEqual(await said(room, 'one less'), { status: [1, 1], findings: ['1'],
-        lines: [untested(400, '400 to 799') + WHAT, '399-399 not mode1, though /A.BIN lies there'] });
-    assert.deepEqual(await said(room, 'hollow'), { status: [1, 1], lines: ['400-799 not mode1, though /TRACK.CDA lies there'], findings: ['400'] });
+        lines: [untested(400, '400 to 799') + WHAT, '399-399 not mode1, though /A.BIN is stored there'] });
+    assert.deepEqual(await said(room, 'hollow'), { status: [1, 1], lines: ['400-799 not mode1, though /TRACK.CDA is stored there'], findings: ['400'] });
     assert.deepEqual(await said(room, 'short'), { status: [1, 1], lines: ['400-689 not mode1 in a track of mode1'], findings: ['290'] });
 }));
 
@@ -142,7 +142,7 @@ test('a finding is a block, and the blocks of an image that begins before block 
     assert.deepEqual(await rows('head', 'pause', 'pause.2'), ['head mode1 60 2 2 1', 'pause mode1 60,nosync 150 0 0 0', 'pause.2 mode1 60,nosync 150 2 2 1']);
     const { status, errors } = await run(['scan', 'pause'], { cwd: room });
     assert.deepEqual([status, errors.split('\n')[0]],
-        [0, 'cdscript: the addresses in pause begin before block 0; its first block counts as 0 here, see --base']);
+        [0, 'cdscript: the addresses in pause begin before block 0, so its first sector counts as block 0; see --base']);
     const info = await run(['info', 'pause.2'], { cwd: room });
     assert.match(info.out, /\nmode1 60 damaged 2 address 1\n/);
     assert.deepEqual([info.status, (await run(['info', 'pause'], { cwd: room })).status], [1, 0]);

@@ -12,21 +12,21 @@ const hasTerminal = tool('script', ['--version']) !== null;
 
 test('a mistyped job, option or encoding is answered by what was meant', async () => {
     const SAID = {
-        'fnd x': "there is no job 'fnd'; did you mean find?; see cdscript --help",
-        'Info x': "there is no job 'Info'; did you mean info?; see cdscript --help",
-        'rebuild x': "there is no job 'rebuild'; did you mean merge?; see cdscript --help",
-        'Verify x': "there is no job 'Verify'; did you mean info?; see cdscript --help",
-        'aplpy x': "there is no job 'aplpy'; did you mean apply?; see cdscript --help",
-        'applyxx x': "there is no job 'applyxx'; did you mean apply?; see cdscript --help",
-        'rwa x': "there is no job 'rwa'; did you mean raw?; see cdscript --help",
-        'arw x': "there is no job 'arw'; did you mean raw?; see cdscript --help",
-        'wra x': "there is no job 'wra'; see cdscript --help",
-        'frobnicate x': "there is no job 'frobnicate'; see cdscript --help",
-        'list --bsae 0 x': 'there is no option --bsae; did you mean --base?',
-        'list --frobnicate x': 'there is no option --frobnicate; a name that begins with - stands after --',
-        'find x y --encoding latin1': "there is no encoding 'latin1' here; there are " +
+        'fnd x': "unknown job 'fnd'; did you mean find?; see cdscript --help",
+        'Info x': "unknown job 'Info'; did you mean info?; see cdscript --help",
+        'rebuild x': "unknown job 'rebuild'; did you mean merge?; see cdscript --help",
+        'Verify x': "unknown job 'Verify'; did you mean info?; see cdscript --help",
+        'aplpy x': "unknown job 'aplpy'; did you mean apply?; see cdscript --help",
+        'applyxx x': "unknown job 'applyxx'; did you mean apply?; see cdscript --help",
+        'rwa x': "unknown job 'rwa'; did you mean raw?; see cdscript --help",
+        'arw x': "unknown job 'arw'; did you mean raw?; see cdscript --help",
+        'wra x': "unknown job 'wra'; see cdscript --help",
+        'frobnicate x': "unknown job 'frobnicate'; see cdscript --help",
+        'list --bsae 0 x': 'unknown option --bsae; did you mean --base?',
+        'list --frobnicate x': 'unknown option --frobnicate; put names that begin with - after --',
+        'find x y --encoding latin1': "unknown encoding 'latin1'; known encodings: " +
         ENCODINGS_KNOWN.map(({ name }) => name).join(', '),
-        'help fnd': "there is no job 'fnd'; did you mean find?; see cdscript --help",
+        'help fnd': "unknown job 'fnd'; did you mean find?; see cdscript --help",
     };
     for (const [words, said] of Object.entries(SAID)) {
         const { status, out, errors } = await run(words.split(' '));
@@ -36,10 +36,10 @@ test('a mistyped job, option or encoding is answered by what was meant', async (
 
 test('a mistyped path is answered by the one that was meant', { skip: !hasDisc && 'no genisoimage' }, () => inDirectory(async room => {
     await makeDisc(room);
-    const SAID = { 'data/border.dat': 'there is /DATA/BORDER.DAT', '/DATA/BODER.DAT': 'there is /DATA/BORDER.DAT', '/nothing/like/it': 'cdscript files lists them' };
+    const SAID = { 'data/border.dat': 'did you mean /DATA/BORDER.DAT?', '/DATA/BODER.DAT': 'did you mean /DATA/BORDER.DAT?', '/nothing/like/it': 'cdscript files lists the files' };
     for (const [path, said] of Object.entries(SAID)) {
         const { status, errors } = await run(['extract', 'disc.bin', path, 'out'], { cwd: room });
-        assert.deepEqual([status, errors], [2, `cdscript: there is no file ${path}; ${said}\n`]);
+        assert.deepEqual([status, errors], [2, `cdscript: no file ${path} on the disc; ${said}\n`]);
     }
 }));
 
@@ -97,9 +97,9 @@ test('nothing is said to a reader that has ended', () => inDirectory(room => {
 
 test('why apply cannot make its output is said beside the program\'s line', () => inDirectory(async room => {
     write(room, { image: imageOf(room, 3), script: 'cdpatch 1\n', there: 'x' });
-    for (const [out, why] of [['there', 'it exists'], ['nowhere/out', 'there is no such file or directory'], ['image/out', 'a part of the path is no directory']]) {
+    for (const [out, why] of [['there', 'it already exists'], ['nowhere/out', 'there is no such file or directory'], ['image/out', 'a part of the path is not a directory']]) {
         const came = await run(['apply', 'image', 'script', out], { cwd: room });
-        assert.deepEqual([came.status, came.out, came.errors], [2, `${MESSAGES.no_output}\n`, `cdscript: cannot make ${out}: ${why}\n`]);
+        assert.deepEqual([came.status, came.out, came.errors], [2, `${MESSAGES.no_output}\n`, `cdscript: cannot create ${out}: ${why}\n`]);
     }
 }));
 

@@ -27,5 +27,5 @@ test('control characters in messages are not printed', () => inDirectory(async r
     write(room, { 'game.cue': 'FILE "a\x1B[2J\x07.bin" BINARY\n  TRACK 01 MODE1/2352\n    INDEX 01 00:00:00\n' });
     const { status, errors } = await run(['files', 'game.cue'], { cwd: room });
     assert.equal(status, 2);
-    assert.match(errors, /^cdscript: game\.cue names a\.\[2J\.\.bin\. .*\n$/);
+    assert.match(errors, /^cdscript: game\.cue names a\.\[2J\.\.bin, .*\n$/);
 }));

@@ -27,7 +27,7 @@ const COUNTED = 'cdscript: verified 20, known as bad 0, not in the DAT 20\n';
 
 /** The remark about a file that is not in a DAT. */
 const ONLY_SIZE = 'the DAT has a dump of this size, but none with this SHA-1: perhaps another dump of the disc repairs it';
-const NOT_EVEN_SIZE = 'the DAT has no dump of this size: perhaps it is cut, or of another disc';
+const NOT_EVEN_SIZE = 'the DAT has no dump of this size: perhaps the file is cut short, or is of a different disc';
 
 /** A row as it is without a list of dumps. */
 const withoutDat = row => row.split('\t').map((cell, i) => i === 6 ? '-' : cell).join('\t');
@@ -74,7 +74,7 @@ test('a scan tells each image of a collection once, with what a list of dumps kn
     symlinkSync('..', join(room, 'two', 'up'));
     write(join(room, 'one'), { 'again.cue': sheet('game 04.bin') });
     const { status, out, errors } = await run(['scan', 'one', 'two', 'one/game 00.bin', '--dat', 'all.dat'], { cwd: room });
-    assert.deepEqual([status, out.split('\n').filter(Boolean).sort(), errors], [1, rows, `cdscript: files that are no raw images: 1\n${COUNTED}`]);
+    assert.deepEqual([status, out.split('\n').filter(Boolean).sort(), errors], [1, rows, `cdscript: 1 file is not a raw image\n${COUNTED}`]);
     const some = await run(['scan', 'one/game 00.cue', 'two/game 23.bin', '-o', 'list'], { cwd: room });
     assert.deepEqual([some.status, some.out], [0, '']);
     assert.deepEqual(read(room, 'list').toString(), [rows[0], rows[23]].map(row => `${withoutDat(row)}\n`).join(''));
@@ -86,8 +86,8 @@ test('in a directory what is called like a raw image, and is none, is named', ()
     write(join(room, 'set'), { 'a.bin': imageOf(room, 20), 'b.IMG': '', 'c.bin': 'no image', 'd.txt': 'notes' });
     const { status, out, errors } = await run(['scan', 'set'], { cwd: room });
     assert.deepEqual([status, out.split('\n').length], [0, 5]);
-    assert.equal(errors, ['files that are no raw images: 3', 'set/b.IMG is called like a raw image, and is an empty file',
-        'set/c.bin is called like a raw image, and is not recognised', ''].join('\n').replace(/^(?=.)/gm, 'cdscript: '));
+    assert.equal(errors, ['3 files are not raw images', 'set/b.IMG has the extension of a raw image, but is an empty file',
+        'set/c.bin has the extension of a raw image, but is not recognised', ''].join('\n').replace(/^(?=.)/gm, 'cdscript: '));
 }));
 
 /** An image of Mode 2 sectors from block 0. */
@@ -148,9 +148,9 @@ test('a list that goes on with a DAT says of each line what that knows', () => i
     write(room, { list: rows.slice(0, 30).map(row => `${withoutDat(row)}\n`).join('') + rows[35].slice(0, 20) });
     symlinkSync('list', join(room, 'link'));
     chmodSync(join(room, 'list'), 0o640);
-    const said = 'cdscript: link: its seventh column now says what the DAT knows, lines that changed: 30\n';
+    const said = 'cdscript: link: the seventh column was updated from the DAT; 30 lines changed\n';
     const { status, errors } = await run(['scan', 'one', 'two', '--dat', 'all.dat', '--resume', 'link'], { cwd: room });
-    assert.deepEqual([status, errors, lines().sort()], [1, `${said}cdscript: files that are no raw images: 1\n${COUNTED}`, rows]);
+    assert.deepEqual([status, errors, lines().sort()], [1, `${said}cdscript: 1 file is not a raw image\n${COUNTED}`, rows]);
     assert.deepEqual([lines().slice(0, 30), statSync(join(room, 'list')).mode & 0o777, lstatSync(join(room, 'link')).isSymbolicLink()],
         [rows.slice(0, 30), 0o640, true]);
     const before = statSync(join(room, 'list')).ino;
@@ -195,7 +195,7 @@ test('what could not be read is named, and the status is 2', () => inDirectory(a
     symlinkSync('nowhere', join(set, 'broken.bin'));
     const { status, out, errors } = await run(['scan', 'good.bin', 'gone.cue', 'text.txt', 'missing.bin', '.'], { cwd: set });
     assert.deepEqual([status, out.split('\n').filter(Boolean).map(row => row.split('\t')[0]).sort()], [2, ['good.bin', 'text.txt']]);
-    for (const text of ['gone.cue names nothing.bin. It is not in the directory of the cue sheet.', 'text.txt is not recognised',
+    for (const text of ['gone.cue names nothing.bin, which is not in the directory of the cue sheet.', 'text.txt is not recognised',
         'cannot read missing.bin: there is no such file or directory', 'cannot read broken.bin: there is no such file or directory']) {
         assert.equal(errors.split(`cdscript: ${text}\n`).length, 2, text);
     }
@@ -232,7 +232,7 @@ test('an image that is cut is marked, and the last column says whether there was
     const [earlier] = (await run(['scan', 'cut.bin'], { cwd: room })).out.split('\n');
     write(room, { list: `${seven(earlier).replace(',tail 1352\t0\t1', '\t0\t0')}\ngone.bin\taudio\t0\t0\t0\t${shaOf(track)}\t-\n` });
     const mended = await run(['scan', 'a.bin', 'cut.bin', '--dat', 'a.dat', '--resume', 'list'], { cwd: room });
-    assert.deepEqual([mended.status, mended.errors.split('\n')[0]], [1, 'cdscript: list: files that no longer exist, whose lines are kept: 1']);
+    assert.deepEqual([mended.status, mended.errors.split('\n')[0]], [1, 'cdscript: list: 1 file no longer exists, but its line is kept']);
     assert.deepEqual(read(room, 'list').toString().split('\n').map(row => row.split('\t').slice(0, 7)).map(row => `${row[0]} ${row[1]} ${row[6]}`).sort(),
         [' undefined undefined', 'a.bin mode1 20 verified A.bin', 'cut.bin mode1 19,tail 1352 not in the DAT', 'gone.bin audio not in the DAT']);
     for (let i = 0; i < 2; i++) assert.equal((await run(['scan', ...names, '--dat', 'a.dat', '--resume', 'list'], { cwd: room })).status, 1);
@@ -248,7 +248,7 @@ test('a file that is no list is not gone on with, and stays as it is', () => inD
     write(room, others);
     for (const [name, bytes] of Object.entries(others)) {
         const { status, errors } = await run(['scan', '--resume', name, 'a.bin', 'b.bin'], { cwd: room });
-        assert.deepEqual([status, errors], [2, `cdscript: ${name} is no list that scan has written, so it stays as it is\n`]);
+        assert.deepEqual([status, errors], [2, `cdscript: ${name} was not written by cdscript scan, and was left unchanged; give --resume a list that scan wrote, or a new file\n`]);
         assert.deepEqual(read(room, name), Buffer.from(bytes), name);
     }
     write(room, { empty: '' });
@@ -381,7 +381,7 @@ test('a list goes on with files that were replaced, and names how many are gone'
     const { status, errors } = await scan();
     const after = linesOf(room, 'list');
     const damages = ['a', 'b', 'c', 'd', 'e'].map(name => after.get(`set/${name}.bin`).split('\t').slice(1, 4).join(' '));
-    assert.deepEqual([status, errors, after.size], [1, 'cdscript: list: files that no longer exist, whose lines are kept: 1\n', 5]);
+    assert.deepEqual([status, errors, after.size], [1, 'cdscript: list: 1 file no longer exists, but its line is kept\n', 5]);
     assert.deepEqual(damages, ['mode1 20 1 1', 'mode1 19 0 0', 'mode1 20 0 0', 'mode1 20 0 0', 'mode1 20 1 1']);
     assert.deepEqual(['c', 'd'].map(name => after.get(`set/${name}.bin`)), ['c', 'd'].map(name => before.get(`set/${name}.bin`)));
     // A file that is not examined keeps its row.
@@ -439,7 +439,7 @@ test('a DAT without SHA-1 is looked up by CRC32 and MD5, also for a list that la
     const { status, errors } = await run(['scan', ...names, '--resume', 'list', '--dat', 'a.dat'], { cwd: room });
     const said = [...linesOf(room, 'list').values()].sort().map(line => line.split('\t')).map(row => [row[6], row[9], row[10].length]);
     assert.deepEqual(said, [['verified A.bin', crc32Of(image), 32], ['verified B.bin', crc32Of(files['b.bin']), 32], ['not in the DAT', crc32Of(files['c.bin']), 32]]);
-    assert.deepEqual([status, errors], [1, 'cdscript: entries of the DAT without a size or a hash, which match no file: 1\ncdscript: verified 2, known as bad 0, not in the DAT 1\n']);
+    assert.deepEqual([status, errors], [1, 'cdscript: 1 entry of the DAT has no size or no hash, and cannot match a file\ncdscript: verified 2, known as bad 0, not in the DAT 1\n']);
     const info = await run(['info', 'a.bin', '--dat', 'a.dat'], { cwd: room });
     assert.match(info.out, /\nverified A\.bin\n/);
     // Only one of the two hashes, and a CRC-32 that begins with 0.

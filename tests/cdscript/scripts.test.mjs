@@ -66,7 +66,7 @@ test('texts are found in their encodings, over borders of blocks too', { skip },
             const { status, out, errors } = await run(['find', 'disc.bin', text, ...words], { cwd: room });
             assert.equal(status, 0);
             assert.deepEqual(rows(out).map(row => [Number(row[0]), Number(row[1])]), due, encoding);
-            assert.match(errors, new RegExp(`${words.length === 0 ? `^cdscript: the text stands there in ${encoding}\n` : '^'}` +
+            assert.match(errors, new RegExp(`${words.length === 0 ? `^cdscript: found in ${encoding}\n` : '^'}` +
                 `cdscript: hits ${due.length} printed ${due.length}\n$`));
         }
     }
@@ -79,11 +79,11 @@ test('texts are found in their encodings, over borders of blocks too', { skip },
 test('what is not found, and more hits than are printed', { skip }, () => inDirectory(async room => {
     await makeDisc(room);
     const none = await run(['find', 'disc.bin', 'ABSENT TEXT'], { cwd: room });
-    assert.deepEqual([none.status, none.out, none.errors], [1, '', 'cdscript: disc.bin was searched for the text in CP932, EUC-JP, UTF-8, ' +
+    assert.deepEqual([none.status, none.out, none.errors], [1, '', 'cdscript: searched disc.bin in these encodings: CP932, EUC-JP, UTF-8, ' +
         'UTF-16LE, UTF-16BE\ncdscript: hits 0 printed 0\n']);
     write(room, { 'game.cue': 'FILE "disc.bin" BINARY\n  TRACK 02 MODE1/2352\n    INDEX 01 00:00:00\n' });
     assert.equal((await run(['find', 'game.cue', '亀', '--encoding', 'EUC-JP'], { cwd: room })).errors,
-        'cdscript: track 2 in disc.bin was searched for the text in EUC-JP\ncdscript: hits 0 printed 0\n');
+        'cdscript: searched track 2 in disc.bin in these encodings: EUC-JP\ncdscript: hits 0 printed 0\n');
     const zeros = places(read(room, 'disc.bin'), Buffer.alloc(1)).length;
     for (const most of [7, 0]) {
         const { status, out, errors } = await run(['find', 'disc.bin', '00', '--encoding', 'hex', '--limit', String(most)], { cwd: room });
@@ -117,14 +117,14 @@ test('a text is replaced at its place, filled up', { skip }, () => inDirectory(a
     }
     await refuses(room, ['replace', 'disc.bin', '村人', '村人たち'], 'the new text has 12 bytes in UTF-8, and there is room for 6: 6 too many');
     await refuses(room, ['replace', 'disc.bin', '16', '1', 'CD002', 'CD003'], 'old bytes differ at block 16 offset 5');
-    await refuses(room, ['replace', 'disc.bin', 'ABSENT TEXT', 'X'], 'the text is not found');
+    await refuses(room, ['replace', 'disc.bin', 'ABSENT TEXT', 'X'], 'text not found');
 }));
 
 test('a text that stands at several places', { skip }, () => inDirectory(async room => {
     await makeDisc(room);
     const old = encoded(TEXTS['EUC-JP'], 'EUC-JP');
     const due = places(read(room, 'disc.bin'), old);
-    await refuses(room, ['replace', 'disc.bin', TEXTS['EUC-JP'], '城'], 'the text stands at 2 places: give BLOCK and OFFSET of one, or --all');
+    await refuses(room, ['replace', 'disc.bin', TEXTS['EUC-JP'], '城'], 'the text occurs 2 times: give BLOCK and OFFSET of one, or --all');
     assert.equal((await run(['replace', 'disc.bin', TEXTS['EUC-JP'], '神の国の城', '--all', '-o', 'all'], { cwd: room })).status, 2);
     assert.equal((await run(['replace', 'disc.bin', TEXTS['EUC-JP'], '神の城', '--all', '-o', 'all'], { cwd: room })).status, 0);
     assert.equal(read(room, 'all').toString().split('\n').length, 4);
@@ -136,11 +136,11 @@ test('a file is replaced', { skip }, () => inDirectory(async room => {
     const fresh = noise(299000, 9);
     write(room, { fresh, longer: Buffer.alloc(301057) });
     const { status, errors } = await run(['replace-file', 'disc.bin', '/BIG.BIN', 'fresh', '--fill', '00', '-o', 'script'], { cwd: room });
-    assert.deepEqual([status, errors], [0, 'cdscript: bytes filled up with 00: 1000\n']);
+    assert.deepEqual([status, errors], [0, 'cdscript: padded with 1000 bytes (00)\n']);
     write(room, { 'new.bin': applied(room, 'disc.bin', 'script') });
     tool('sh', ['-c', `"${process.execPath}" "${process.env.COMMAND}" user new.bin new.iso`], { cwd: room });
     sameFile(tool('isoinfo', ['-R', '-x', '/BIG.BIN', '-i', 'new.iso'], { cwd: room }), Buffer.concat([fresh, Buffer.alloc(1000)]), 'the file');
-    await refuses(room, ['replace-file', 'disc.bin', '/BIG.BIN', 'longer'], '/BIG.BIN has 300000 bytes and room for 301056, the new file 301057');
+    await refuses(room, ['replace-file', 'disc.bin', '/BIG.BIN', 'longer'], '/BIG.BIN has 300000 bytes and room for 301056, but the new file has 301057');
     write(room, { 'hurt.bin': damaged(read(room, 'disc.bin'), 0, [read(room, 'disc.bin').length / 2352 - 170, 2100]) });
 }));
 
@@ -161,7 +161,7 @@ test('a script of the difference leads from the one image to the other, and its 
     sameFile(applied(room, 'old.bin', 'diff.txt', '--base', '5000'), read(room, 'edited.bin'), 'the new image');
     const undo = await run(['undo', 'old.bin', 'diff.txt', '-o', 'undo.txt'], { cwd: room });
     assert.equal(undo.status, 1);
-    assert.equal(undo.errors, 'cdscript: blocks 5007 to 5008: damage does not come back; address and user data do\n');
+    assert.equal(undo.errors, 'cdscript: blocks 5007 to 5008: the damage is not restored; the address and the user data are\n');
     assert.equal((await run(['undo', 'edited.bin', 'edit.txt'], { cwd: room })).status, 2);
     write(room, { 'sound.bin': imageOf(room, 400, 5000) });
     assert.equal((await run(['undo', 'sound.bin', 'edit.txt', '-o', 'back.txt'], { cwd: room })).status, 0);
@@ -178,7 +178,7 @@ test('undo on an image that is patched already writes nothing', () => inDirector
     const line = (block, at) => `set ${block} ${at} ${other(block, at)} was ${was(block, at)}\n`;
     write(room, { image, one: `cdpatch 1\n${line(2, 0)}`, two: `cdpatch 1\n${line(2, 0)}${line(3, 7)}`, three: `cdpatch 1\n${line(2, 0)}${line(4, 7)}` });
     write(room, { patched: applied(room, 'image', 'two') });
-    const why = 'refused on patched: is it the image before the script?';
+    const why = 'refused on patched: is patched the unpatched image?';
     await refuses(room, ['undo', 'patched', 'one'], `1 patch is ${why}`);
     await refuses(room, ['undo', 'patched', 'two'], `2 patches are ${why}`);
     const some = await run(['undo', 'patched', 'three'], { cwd: room });
@@ -186,7 +186,7 @@ test('undo on an image that is patched already writes nothing', () => inDirector
     assert.match(some.out, /^cdpatch 1\nset 4 7 /);
     write(room, { unconditional: read(room, 'two').toString().replace(/ was .*/g, ''), empty: 'cdpatch 1\n' });
     await refuses(room, ['undo', 'patched', 'unconditional'],
-        'the image already has what the script writes, so nothing can be taken back: it must be the image before the script');
+        'the image already has what the script writes, so nothing can be undone: give the unpatched image');
     const none = await run(['undo', 'patched', 'empty'], { cwd: room });
     assert.deepEqual([none.status, none.out, none.errors], [0, 'cdpatch 1\n', 'cdscript: the script has no patch\n']);
 }));
@@ -215,17 +215,17 @@ test('what no script can say is named, and nothing is written', () => inDirector
     write(room, { image, other, tail: Buffer.concat([image, Buffer.from('a')]), tail2: Buffer.concat([image, Buffer.from('b')]) });
     const named = 'cdscript: other is damaged in blocks 3 to 4\ncdscript: mode1 and other in block 9, and a script changes only mode1\n' +
         'cdscript: mode1 and nosync in block 11, and a script changes only mode1\n';
-    await refuses(room, ['diff', 'image', 'other'], 'no script leads to that image, so none is written: --partial leaves them out');
+    await refuses(room, ['diff', 'image', 'other'], 'no script can produce other, so none was written; use --partial to leave out these differences');
     assert.ok((await run(['diff', 'image', 'other'], { cwd: room })).errors.startsWith(named));
     assert.equal((await run(['diff', 'image', 'other', '--skip-damaged'], { cwd: room })).status, 2);
-    await refuses(room, ['diff', 'tail', 'tail2'], 'no script leads to that image, so none is written: --partial leaves that out');
-    await refuses(room, ['diff', 'image', 'tail'], `the images have ${image.length} and ${image.length + 1} bytes, and no script changes a length`);
+    await refuses(room, ['diff', 'tail', 'tail2'], 'no script can produce tail2, so none was written; use --partial to leave out this difference');
+    await refuses(room, ['diff', 'image', 'tail'], `the images have ${image.length} and ${image.length + 1} bytes, and a script cannot change the length`);
     write(room, { hurt: damaged(image, 0, [3, 100]) });
     const left = await run(['diff', 'image', 'hurt', '--skip-damaged'], { cwd: room });
     assert.deepEqual([left.status, left.out], [1, 'cdpatch 1\n']);
-    assert.equal(left.errors, 'cdscript: hurt is damaged in block 3\ncdscript: the script has no patch\ncdscript: damaged blocks that are left out: 1\n');
+    assert.equal(left.errors, 'cdscript: hurt is damaged in block 3\ncdscript: the script has no patch\ncdscript: damaged blocks left out: 1\n');
     await refuses(room, ['diff', 'image', 'hurt'],
-        'no script leads to that image, so none is written: repair hurt first, as with merge, or give --skip-damaged');
+        'no script can produce hurt, so none was written; repair hurt first, for example with merge, or use --skip-damaged');
 }));
 
 test('of many damaged blocks the first runs are named, and all are counted', () => inDirectory(async room => {
@@ -233,7 +233,7 @@ test('of many damaged blocks the first runs are named, and all are counted', () 
     write(room, { image, hurt: damaged(image, 0, ...Array.from({ length: 1050 }, (_, i) => [[3 * i, 100], [3 * i + 1, 100]]).flat()) });
     const { status, errors } = await run(['diff', 'image', 'hurt', '--skip-damaged'], { cwd: room });
     const due = Array.from({ length: 1000 }, (_, i) => `hurt is damaged in blocks ${3 * i} to ${3 * i + 1}`);
-    const said = [...due, 'and so on: 1050 places in all', 'the script has no patch', 'damaged blocks that are left out: 2100'];
+    const said = [...due, 'and so on: 1050 places in all', 'the script has no patch', 'damaged blocks left out: 2100'];
     assert.deepEqual([status, errors], [1, said.map(line => `cdscript: ${line}\n`).join('')]);
 }));
 

@@ -87,7 +87,7 @@ test('what is no regular file is refused if only a cue sheet names it', () => in
     symlinkSync('image.bin', join(room, 'link.bin'));
     for (const [name, file] of [['zero.cue', 'zero.bin'], ['pipe.cue', 'pipe.bin'], ['folder.cue', 'folder']]) {
         const { status, out, errors } = measured(room, ['info', name]);
-        assert.deepEqual([status, out, errors], [2, '', `cdscript: ${file} is no regular file, and only the cue sheet names it: give it as the image\n`]);
+        assert.deepEqual([status, out, errors], [2, '', `cdscript: ${file} is not a regular file, and only the cue sheet names it: give its name as IMAGE\n`]);
     }
     assert.equal((await run(['info', 'link.cue'], { cwd: room })).status, 0);
 }));
@@ -148,7 +148,7 @@ for (const [what, code] of [['with links', null], ['without links', 'EPERM']]) {
                 return null;
             });
             const size = read(room, 'out').length;
-            if (code === null) assert.deepEqual([status, size, errors], [2, 4, `cdscript: cannot make ${join(room, 'out')}: it exists\n`]);
+            if (code === null) assert.deepEqual([status, size, errors], [2, 4, `cdscript: cannot create ${join(room, 'out')}: it already exists\n`]);
             else assert.deepEqual([status, size, errors], [0, 5 * 2048, '']);
             assert.deepEqual(readdirSync(room).filter(name => name.startsWith('.')), []);
         })));

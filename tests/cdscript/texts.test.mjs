@@ -162,7 +162,7 @@ test('where no text is, none is found; and what cannot be searched is named', t 
     const none = await run(['texts', 'image'], { cwd: room });
     assert.deepEqual([none.status, none.out, none.errors.split('\n').slice(-2)], [1, `${HEAD}\n`, ['cdscript: texts 0', '']]);
     const other = await run(['texts', 'image', '--encoding', 'hex'], { cwd: room });
-    assert.deepEqual([other.status, other.errors], [2, 'cdscript: texts are told by their characters, and hex has none\n']);
+    assert.deepEqual([other.status, other.errors], [2, 'cdscript: hex is not a character encoding, so texts cannot be recognised in it\n']);
     write(room, { 'random.iso': NOISES['RANDOM.BIN'] });
     await run(['raw', 'random.iso', 'random'], { cwd: room });
     for (const { name, signs } of ENCODINGS_KNOWN) {
@@ -171,7 +171,7 @@ test('where no text is, none is found; and what cannot be searched is named', t 
         assert.ok(rowsOf(out).length < 3, out);
     }
     const nowhere = await run(['texts', 'image', '--in', 'X'], { cwd: room });
-    assert.deepEqual([nowhere.status, nowhere.errors.split('\n').slice(-2)[0]], [2, 'cdscript: there is no file X; cdscript files lists them']);
+    assert.deepEqual([nowhere.status, nowhere.errors.split('\n').slice(-2)[0]], [2, 'cdscript: no file or directory X on the disc; cdscript files lists the files']);
 }));
 
 /** Creates a disc with one file for each of these contents with genisoimage. False if it is not installed. */
@@ -242,7 +242,7 @@ test('several paths are looked into, each once, and one that is none is named', 
     assert.deepEqual(await paths(), [0, all, 'cdscript: texts 4\n']);
     assert.deepEqual((await paths('A', '/B/'))[1], all.filter(path => path !== '/AA.BIN+9'));
     assert.deepEqual((await paths('A', 'A/ONE.BIN', 'AA.BIN'))[1], all.slice(0, 3));
-    assert.deepEqual(await paths('A', 'C'), [2, [], 'cdscript: there is no file C; cdscript files lists them\n']);
+    assert.deepEqual(await paths('A', 'C'), [2, [], 'cdscript: no file or directory C on the disc; cdscript files lists the files\n']);
 }));
 
 test('each line of a text is a row with --lines, and comes back as it is', t => inDirectory(async room => {

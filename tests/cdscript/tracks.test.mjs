@@ -4,7 +4,7 @@ import assert from 'node:assert/strict';
 import { test } from 'node:test';
 import { damaged, imageOf, inDirectory, program, read, run, sameFile, tool, write } from './common.mjs';
 
-const TRACK_3 = 'cdscript: track 3 has data too and was not looked at: --track 3\n';
+const TRACK_3 = 'cdscript: track 3 also has data, but was not examined: use --track 3\n';
 
 /** A sheet of tracks with these types, each in its own file. */
 function sheetOf(...tracks) {
@@ -36,7 +36,7 @@ test('info says which track does not give its first block', () => inDirectory(as
     const last = writeSet(room);
     write(room, { 'three.bin': Buffer.concat(Array(10).fill(last.subarray(0, 2352 * 2))) });
     const { errors } = await run(['info', 'game.cue'], { cwd: room });
-    assert.equal(errors, 'cdscript: the addresses in three.bin do not say its first block; its first block counts as 180 here, see --base\n');
+    assert.equal(errors, 'cdscript: the addresses in three.bin do not give its first block, so its first sector counts as block 180; see --base\n');
 }));
 
 test('jobs that look at one of several data tracks say so, once', () => inDirectory(async room => {

@@ -26,7 +26,7 @@ test('on Windows no device and no stream beside a file is made', () => inDirecto
     for (const name of ['AUX.TXT', 'nul', 'Con', 'prn .x', 'COM1.bin', 'lpt9', 'com¹', 'CONIN$', 'C:\\games\\aux.bin', 'disc.bin:new', 'C:disc.bin:new',
         '\\\\.\\C:', '//./pipe/new']) {
         const { status, out, errors } = await runOnWindows(['user', 'disc.bin', name], { cwd: room });
-        assert.deepEqual([status, out, errors], [2, '', `cdscript: cannot make ${name}: it cannot be the name of a file\n`], name);
+        assert.deepEqual([status, out, errors], [2, '', `cdscript: cannot create ${name}: it cannot be the name of a file\n`], name);
     }
     assert.deepEqual(readdirSync(room), ['disc.bin']);
 }));

@@ -107,7 +107,7 @@ const volumeSize = sectors => {
 const SHEET = ascii('FILE "d.bin" BINARY\n TRACK 01 MODE1/2352\n  INDEX 01 00:00:00\n');
 
 /** The message about a refused script without the text that a door adds. */
-const refusal = text => text.replace(/^cdscript: /, '').replace(/(: give --base .*|\.)?\n?$/, '').toLowerCase();
+const refusal = text => text.replace(/^cdscript: /, '').replace(/(: use --base .*|\.)?\n?$/, '').toLowerCase();
 
 const WAS = 'was 7072657373';
 /** Scripts, each with its image and base. */

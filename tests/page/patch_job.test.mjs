@@ -69,7 +69,7 @@ test('a check of a file says how far it has come, and can be cancelled', async (
 
 test('a script that says another base is refused', async () => {
     const said = work({ base: 1, script: 'cdpatch 1\n# base 150\nset 1 0 41 was 00\n' });
-    await assert.rejects(checkWork(app, said, watch), { name: 'Fault', message: 'Line 2 of the script says base 150, and the image begins with block 1 here.' });
+    await assert.rejects(checkWork(app, said, watch), { name: 'Fault', message: 'Line 2 of the script says base 150, but the image begins with block 1.' });
     assert.equal((await checkWork(app, { ...said, script: said.script.replace('150', '1') }, watch)).status, 0);
 });
 

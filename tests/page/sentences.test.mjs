@@ -28,15 +28,15 @@ test('a remark among the facts of another is said in the same language', () => {
 
 test('the first lines of a table that mean nothing here are named, and the others counted', () => {
     const said = lines => sentenceOf({ code: 'text/lines-left-out', facts: { lines } });
-    assert.equal(said([2]), 'line 2 of the table means nothing here, and is left out');
-    assert.equal(said([1, 5]), 'lines 1, 5 of the table mean nothing here, and are left out');
+    assert.equal(said([2]), 'line 2 of the table has no meaning here, and is ignored');
+    assert.equal(said([1, 5]), 'lines 1, 5 of the table have no meaning here, and are ignored');
     assert.match(said(Array.from({ length: 25 }, (_, i) => i + 2)), / 20, 21, and 5 more of the table /);
 });
 
 test('a character without bytes is shown, or is a number if nobody would see it', () => {
     const said = character => sentenceOf({ code: 'text/no-character', facts: { name: 'CP932', character, place: 2, at: 1 } });
-    assert.equal(said('😀'), "CP932 has no '😀' (U+1F600), character 2 of the text");
+    assert.equal(said('😀'), "CP932 cannot encode '😀' (U+1F600), character 2 of the text");
     for (const [character, code] of [['\u00A0', 'U+00A0'], ['\u0301', 'U+0301'], ['\uD800', 'U+D800']]) {
-        assert.equal(said(character), `CP932 has no ${code}, character 2 of the text`);
+        assert.equal(said(character), `CP932 cannot encode ${code}, character 2 of the text`);
     }
 });

@@ -113,7 +113,7 @@ class Text(PageTest):
         self.browser.wait('#panel-text .say', 'No hit in Shift-JIS (CP932).')
         self.browser.type('#find-text', 'Café')
         self.browser.press(Keys.ENTER)
-        self.browser.wait('.hint', "CP932 has no 'é'")
+        self.browser.wait('.hint', "CP932 cannot encode 'é'")
         self.assertNotIn('searched to the end', self.browser.text('#panel-text'))
 
     def test_hits_are_counted_anew_after_the_script_has_changed(self) -> None:
@@ -314,4 +314,4 @@ class Text(PageTest):
         self.browser.wait('#panel-text .say', 'No hit in Shift-JIS (CP932).')
         self.browser.wait('#panel-text .say', f'The user data of {len(discs.game()) // 2352} sectors were searched to the end.')
         self.browser.type('#find-text', '한')
-        self.browser.wait('.hint', "CP932 has no '한' (U+D55C), character 1 of the text")
+        self.browser.wait('.hint', "CP932 cannot encode '한' (U+D55C), character 1 of the text")

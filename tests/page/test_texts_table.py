@@ -171,7 +171,7 @@ class TextsTable(PageTest):
     def test_a_table_that_is_none_adds_nothing(self) -> None:
         image = self.begin(told())
         wrong = common.folder('wrong') / 'mine.csv'
-        for text, why in (('a,b\n1,2\n', 'names no column block, offset, text, new'), (self.printed(image).replace('\t', ','), 'o row of the list has a new text')):
+        for text, why in (('a,b\n1,2\n', 'lacks the columns block, offset, text, new'), (self.printed(image).replace('\t', ','), 'o row of the list has a new text')):
             wrong.write_text(text)
             self.browser.drop('#panel-text', [wrong])
             self.browser.wait('#panel-text .say.bad', why)
@@ -242,5 +242,5 @@ class TextsTable(PageTest):
     def test_a_list_that_is_cut_is_not_taken(self) -> None:
         self.open_image(discs.written(game=discs.game())['game'])
         self.open_list(dat_of(('Starlit.bin', discs.game(), ''))[:-8])
-        self.browser.wait('#messages .say.bad', 'it is cut')
+        self.browser.wait('#messages .say.bad', 'it is incomplete')
         self.assertFalse(self.browser.run("return document.querySelector('#disc-line .tag') !== null"))

@@ -71,16 +71,16 @@ const others = [handle, new DataView(sound.buffer), new Uint16Array(sound.buffer
     { size: NaN, read }];
 for (const other of others) {
     const isNamed = what => error => error instanceof TypeError
-        && error.message.startsWith(`${what} a Blob, a Uint8Array, an ArrayBuffer, what openFile gives`);
+        && error.message.startsWith(`${what} a Blob, a Uint8Array, an ArrayBuffer, the result of openFile`);
     for (const job of ['survey', 'list', 'audit', 'check', 'apply']) {
-        await assert.rejects(cdpatch[job](other, bytes, () => assert.fail()), isNamed('an image is'));
+        await assert.rejects(cdpatch[job](other, bytes, () => assert.fail()), isNamed('an image must be'));
     }
-    await assert.rejects(cdpatch.check(sound, other), isNamed('a script is a string,'));
-    await assert.rejects(cdpatch.patches(other), isNamed('a script is a string,'));
-    await assert.rejects(new Response(patchedStream(cdpatch, other, script).stream).arrayBuffer(), isNamed('an image is'));
+    await assert.rejects(cdpatch.check(sound, other), isNamed('a script must be a string,'));
+    await assert.rejects(cdpatch.patches(other), isNamed('a script must be a string,'));
+    await assert.rejects(new Response(patchedStream(cdpatch, other, script).stream).arrayBuffer(), isNamed('an image must be'));
 }
 await handle.close();
-await assert.rejects(cdpatch.audit('disc.bin'), /^TypeError: an image is .*, and not String$/);
+await assert.rejects(cdpatch.audit('disc.bin'), /^TypeError: an image must be .*, not String$/);
 await assert.rejects(cdpatch.apply(sound, script), TypeError);
 for (const kind of [script, bytes.slice().buffer, new Blob([script]), short(bytes)]) {
     assert.deepEqual(await cdpatch.check(damaged, kind), await cdpatch.check(damaged, bytes));
@@ -107,7 +107,7 @@ for (const job of [() => cdpatch.survey(early), () => cdpatch.apply(early, scrip
 const based = 'cdpatch 1\n# base 100\nset 101 5 0102\n';
 writeFileSync('based', based);
 const { stderr } = spawnSync(process.execPath, ['node_modules/cdpatch/cdscript.cjs', 'check', 'disc.bin', 'based']);
-const [, words] = /^cdscript: (.*): give --base 100/m.exec(stderr);
+const [, words] = /^cdscript: (.*): use --base 100/m.exec(stderr);
 await assert.rejects(cdpatch.check(sound, based), error => error instanceof ScriptError && error.message === words && error.line === 2);
 await assert.rejects(cdpatch.apply(sound, based, () => assert.fail(), { base: 150 }), ScriptError);
 assert.equal((await cdpatch.check(sound, based, { base: 100 })).status, 0);

@@ -26,7 +26,7 @@ def main() -> None:
             browser.open(f'{server.url}/{place}/index.html')
             browser.wait('#log', f'cdpatch.wasm is not at {server.url}/{place}/cdpatch.wasm')
         browser.open(f'{server.url}/whole/index.html')
-        browser.wait('#log', 'openFile is for node')
+        browser.wait('#log', 'openFile works only in node')
     finally:
         browser.quit()
         server.close()

@@ -22,12 +22,12 @@ const jobs = {
     check: source => cdpatch.check(source, script), apply: source => cdpatch.apply(source, 'cdpatch 1\n', () => {}),
 };
 const others = [
-    [async at => image.subarray(at), { name: 'RangeError', message: /^read\(at, length\) gave \d+ bytes, and was asked for \d+$/ }],
+    [async at => image.subarray(at), { name: 'RangeError', message: /^read\(at, length\) must return at most \d+ bytes, not \d+$/ }],
     [async (at, length) => image.slice(at, at + length + 1), { name: 'RangeError' }],
-    [async (at, length) => 'a'.repeat(length), { name: 'TypeError', message: 'read(at, length) gives a Uint8Array, and not String' }],
+    [async (at, length) => 'a'.repeat(length), { name: 'TypeError', message: 'read(at, length) must return a Uint8Array, not String' }],
     [async (at, length) => Array.from(image.subarray(at, at + length)), { name: 'TypeError' }],
     [async (at, length) => image.slice(at, at + length).buffer, { name: 'TypeError' }],
-    [async () => undefined, { name: 'TypeError', message: 'read(at, length) gives a Uint8Array, and not undefined' }],
+    [async () => undefined, { name: 'TypeError', message: 'read(at, length) must return a Uint8Array, not undefined' }],
 ];
 for (const [name, job] of Object.entries(jobs)) {
     // The size is one byte less than the image, so that the last read can return too much.
@@ -60,7 +60,7 @@ assert.deepEqual([status, text], [0, '0-999999 nosync\nsectors 1000000 tail 0\n'
 
 // A base that no image has.
 for (const base of [449850, 500000, -1, 0.5, NaN, '5', null, 2 ** 32]) {
-    const isNamed = { name: 'RangeError', message: `a base is a whole number from 0 to 449849, and not ${base}` };
+    const isNamed = { name: 'RangeError', message: `a base must be a whole number from 0 to 449849, not ${base}` };
     for (const job of ['list', 'audit']) await assert.rejects(cdpatch[job](sound, { base }), isNamed);
     await assert.rejects(cdpatch.check(sound, script, { base }), isNamed);
     await assert.rejects(cdpatch.apply(sound, script, () => assert.fail(), { base }), isNamed);

@@ -30,14 +30,14 @@ const SHORT_WORDS = { '-h': '--help', '-V': '--version' };
 /** @param {string} text */
 function fillOf(text) {
     if (text === 'end') return text;
-    if (!/^([0-9A-Fa-f]{2})+$/.test(text)) throw ownFault(`--fill is two hexadecimal digits for each byte, or end, not '${text}'`);
+    if (!/^([0-9A-Fa-f]{2})+$/.test(text)) throw ownFault(`--fill needs two hexadecimal digits for each byte, or end, not '${text}'`);
     return bytesOfHex(text);
 }
 
 /** @param {string} name */
 function knownEncoding(name) {
     const known = ENCODINGS.map(it => it.name).join(', ');
-    if (encodingOf(name) === null) throw ownFault(`there is no encoding '${name}' here; there are ${known}`);
+    if (encodingOf(name) === null) throw ownFault(`unknown encoding '${name}'; known encodings: ${known}`);
     return name;
 }
 
@@ -81,11 +81,11 @@ function takeOption(options, word, left) {
     const name = Object.keys(OPTION_FORMS).find(key => OPTION_FORMS[key].word === meant);
     if (!name) {
         const known = Object.values(OPTION_FORMS).map(({ word: it }) => it);
-        throw ownFault(`there is no option ${spelled}${didYouMean(spelled, known) || '; a name that begins with - stands after --'}`);
+        throw ownFault(`unknown option ${spelled}${didYouMean(spelled, known) || '; put names that begin with - after --'}`);
     }
     const form = OPTION_FORMS[name];
     const isFlag = form.value === '';
-    if (isFlag && given !== undefined) throw ownFault(`${spelled} takes no value`);
+    if (isFlag && given !== undefined) throw ownFault(`${spelled} does not accept a value`);
     if (name in options && !REPEATED.includes(name)) throw ownFault(`${form.word} was given twice`);
     const text = isFlag || given !== undefined ? given : left.next().value;
     if (!isFlag && text === undefined) throw ownFault(`${form.word} needs ${form.value}`);
@@ -138,16 +138,16 @@ export function argumentsOf(words) {
     const [word = '', ...names] = given[0] === 'help' ? given.slice(1) : given;
     const job = ALIASES.get(word) || word;
     if (options.version || options.notices || (options.help && job === '')) return { job: '', names: [], options };
-    if (job === '') throw ownFault('a job is missing; see cdscript --help');
+    if (job === '') throw ownFault('no job given; see cdscript --help');
     if (!Object.keys(FORMS).includes(job)) {
-        throw ownFault(`there is no job '${job}'${didYouMean(job, Object.keys(FORMS))}; see cdscript --help`);
+        throw ownFault(`unknown job '${job}'${didYouMean(job, Object.keys(FORMS))}; see cdscript --help`);
     }
     const foreign = Object.keys(options).find(name => name !== 'help' && !FORMS[job].options.includes(name));
     if (foreign) throw ownFault(`${job} has no option ${OPTION_FORMS[foreign].word}; see cdscript ${job} --help`);
     if (job === 'replace' && options.partial && options.list === undefined) throw ownFault('--partial needs --list');
     for (const [one, other] of EXCLUDING) {
         if (!(one in options && other in options)) continue;
-        throw ownFault(`${OPTION_FORMS[one].word} and ${OPTION_FORMS[other].word} exclude each other`);
+        throw ownFault(`${OPTION_FORMS[one].word} and ${OPTION_FORMS[other].word} cannot be used together`);
     }
     if (!options.help) checkNames(job, names, options);
     return { job, names, options };

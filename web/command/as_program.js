@@ -83,8 +83,8 @@ async function checkBase(run, name, reader) {
     const { base, agreeing, mode1 } = await orSay(OF_IMAGES, () => sampledBase(run.calls, reader));
     if (base <= 0 || 2 * agreeing <= mode1) return;
     const found = `most addresses in ${name} say that it begins with block ${base}`;
-    if (mode1 >= FEWEST_ADDRESSES) throw ownFault(`${found}: give --base ${base}, or --base 0 to count from 0 all the same`);
-    if (agreeing === mode1) run.say(`this image begins with block ${base}: --base ${base}`);
+    if (mode1 >= FEWEST_ADDRESSES) throw ownFault(`${found}: use --base ${base}, or --base 0 to count from 0 anyway`);
+    if (agreeing === mode1) run.say(`this image begins with block ${base}: use --base ${base}`);
 }
 
 /**
@@ -137,7 +137,7 @@ async function scriptNamed(run) {
  */
 function adviseBase(error) {
     if (!failedBy(error, 'script/other-base')) throw error;
-    throw ownFault(`${sentenceOf(error)}: give --base ${error.facts.base}, or take that line out`);
+    throw ownFault(`${sentenceOf(error)}: use --base ${error.facts.base}, or delete that line`);
 }
 
 /**

@@ -5,7 +5,7 @@ import { Fault } from '../core/faults.js';
 const REASONS = {
     EACCES: 'no permission',
     EBADF: 'it is not open',
-    EEXIST: 'it exists',
+    EEXIST: 'it already exists',
     EINTR: 'interrupted',
     EIO: 'the disk or the drive has an error',
     EISDIR: 'it is a directory',
@@ -14,7 +14,7 @@ const REASONS = {
     ENOENT: 'there is no such file or directory',
     ENOMEM: 'no memory',
     ENOSPC: 'the disk is full',
-    ENOTDIR: 'a part of the path is no directory',
+    ENOTDIR: 'a part of the path is not a directory',
     ENXIO: 'it cannot be the name of a file',
     EDQUOT: 'the quota is used up',
     EPERM: 'no permission',
@@ -49,7 +49,8 @@ export function hasCode(error, code) {
  * @param {unknown} error
  */
 export function fileFault(attempt, name, error) {
-    return new Fault('file', { sentence: `cannot ${attempt} ${name}: ${reasonOf(error)}`, attempt, file: name });
+    const verb = attempt === 'make' ? 'create' : attempt;
+    return new Fault('file', { sentence: `cannot ${verb} ${name}: ${reasonOf(error)}`, attempt, file: name });
 }
 
 /**

@@ -156,7 +156,7 @@ export class Files {
         if (known) return known;
         const descriptor = await this.opened(name, constants.O_RDONLY | (constants.O_NONBLOCK || 0));
         const stat = await tryFile('read', name, () => fstatSync(descriptor));
-        if (!stat.isFile()) throw ownFault(`${name} is no regular file, and only the cue sheet names it: give it as the image`);
+        if (!stat.isFile()) throw ownFault(`${name} is not a regular file, and only the cue sheet names it: give its name as IMAGE`);
         const file = { name, reader: diskReader(name, descriptor, stat.size, 0) };
         this.changed.set(name, timeText(stat));
         this.images.set(name, file);

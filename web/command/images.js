@@ -21,8 +21,7 @@ import { MOST_UNTESTED, linesOfRuns, sayOfRuns, untestedText, visible } from './
 /** @typedef {import('./run.js').Run} Run */
 
 const BLOCKS_WITH_ADDRESS = LAST_BASE + 1;
-const OTHER_EDC = "OLD has a different EDC: perhaps another version";
-const TAILS = 'the bytes after the last sector differ';
+const OTHER_EDC = 'the EDC in OLD is different: perhaps the dumps are of different versions';
 
 /** At most this many places with the same damage in all dumps are listed, since each is also listed as damaged in all. */
 const MOST_ALIKE = 10;
@@ -36,14 +35,15 @@ function repairLines({ taken, damaged, alike, disputed, differing, different, lo
     const numbers = [taken, damaged, disputed].map(blocksIn).concat(different.reduce((sum, count) => sum + count, 0));
     const inBoth = differing.flatMap((runs, other) => runs.map(run => ({ ...run, other })));
     const sameDamage = `alike ${blocksIn(alike)}, damaged with the same bytes in all dumps:`;
-    const notTaken = { true: 'sound only with the address of another block', false: 'damaged in all' };
+    const notTaken = { true: 'sound only with the address of a different block', false: 'damaged in all' };
     return [
         ...linesOfRuns(taken, ({ first, last, other }) => `${first}-${last} from ${others[other].name}`),
         ...linesOfRuns(damaged, ({ first, last, elsewhere }) => `${first}-${last} ${notTaken[`${elsewhere}`]}`),
         ...linesOfRuns(lost, ({ first, last }) => `${first}-${last} not mode1 in any`),
         ...unlikeLines(unlike),
-        ...linesOfRuns(disputed, ({ first, last }) => `${first}-${last} sound in several, but different there`),
-        ...linesOfRuns(inBoth, ({ first, last, other }) => `${first}-${last} sound in ${others[other].name} too, but different there`),
+        ...linesOfRuns(disputed, ({ first, last }) => `${first}-${last} sound in several dumps, but with different contents`),
+        ...linesOfRuns(inBoth, ({ first, last, other }) =>
+            `${first}-${last} also sound in ${others[other].name}, but with different contents`),
         ...alike.length > 0 ? [`${sameDamage} ${blocksText(alike, MOST_ALIKE)}`] : [],
         `taken ${numbers[0]} damaged ${numbers[1]} disputed ${numbers[2]} different ${numbers[3]}`,
     ];
@@ -70,8 +70,9 @@ function unlikeLines(unlike) {
 function sayOtherRange(run, image, other, { common, missing, beyond }, out) {
     if (missing.length > 0) run.say(`${other.name} has only ${blocksText(common)} of ${image.name}`);
     if (beyond.length === 0) return;
-    const what = `${other.name} has ${blocksText(beyond)}, which ${image.name} has not, so ${out} has not either`;
-    run.say(missing.length > 0 ? what : `${what}: name ${other.name} first`);
+    const [are, them] = blocksIn(beyond) === 1 ? ['is', 'it'] : ['are', 'them'];
+    const what = `${blocksText(beyond)} ${are} in ${other.name} but not in ${image.name}, so ${out} lacks ${them} too`;
+    run.say(missing.length > 0 ? what : `${what}; to include ${them}, name ${other.name} first`);
 }
 
 /**
@@ -88,7 +89,8 @@ function refusedText({ different, sectors }, refused, [name, ...others]) {
     }
     const sound = `${different[refused.other]} of ${sectors} sectors are sound in ${name} and in ${other}, and differ`;
     const { shift } = refused;
-    return `${sound}: ${shift ? shiftText(shift, shift.isOther ? other : name) : 'one of them is patched, shifted or of another disc'}`;
+    const why = shift ? shiftText(shift, shift.isOther ? other : name) : 'one of them is patched, shifted, or of a different disc';
+    return `${sound}: ${why}`;
 }
 
 /**
@@ -98,7 +100,8 @@ function refusedText({ different, sectors }, refused, [name, ...others]) {
 function shiftText({ by, first }, name) {
     const count = Math.abs(by);
     const [sectors, are] = count === 1 ? ['1 sector', 'is'] : [`${count} sectors`, 'are'];
-    return `from block ${first} on ${name} is shifted, for ${sectors} before it ${are} ${by > 0 ? 'missing' : 'too many'}`;
+    const why = by > 0 ? `${sectors} before that block ${are} missing` : `there ${are} ${sectors} too many before that block`;
+    return `${name} is shifted from block ${first} on, because ${why}`;
 }
 
 /** @param {Run} run */
@@ -116,11 +119,12 @@ export async function mergeJob(run) {
     const { refused, doubtful, untested } = repair;
     if (refused) throw ownFault(refusedText(repair, refused, [name, ...more]));
     repair.ranges.forEach((ranges, i) => sayOtherRange(run, image, others[i], ranges, out.name));
-    others.filter((_, i) => repair.tails[i]).forEach(other => run.say(`${TAILS} in ${other.name}; those of ${name} are kept`));
+    others.filter((_, i) => repair.tails[i]).forEach(other =>
+        run.say(`the bytes after the last sector differ in ${other.name}; those in ${name} are kept`));
     await run.output.write(bytesOfLines(repairLines(repair, others).map(visible)));
     if (untested.length > 0) run.say(untestedText(untested, opened.disc.sheet !== null));
     const isBad = known !== null && hash !== null && sayKnown(run, known, out.name, image.reader.size, hash.digest());
-    sayOfRuns(run, doubtful, it => `${blocksText([it])}: taken from ${others[it.other].name}, but ${OTHER_EDC}`);
+    sayOfRuns(run, doubtful, it => `${blocksText([it])}: copied from ${others[it.other].name}, but ${OTHER_EDC}`);
     if (isBad) return 1;
     return Number([repair.damaged, doubtful, repair.lost, repair.unlike].some(runs => runs.length > 0));
 }
@@ -133,10 +137,10 @@ export async function rawJob(run) {
     const kind = await kindOfFile(run.calls, reader);
     const count = reader.size / USER_SIZE;
     const what = sentenceOf({ code: 'kind/what', facts: { kind } });
-    if (!['iso', 'audio', 'unknown'].includes(kind)) throw ownFault(`${name} is ${what}, and no ISO image`);
-    if (!Number.isInteger(count)) throw ownFault(`${name} has ${reader.size} bytes, not 2048 for each sector`);
+    if (!['iso', 'audio', 'unknown'].includes(kind)) throw ownFault(`${name} is ${what}, not an ISO image`);
+    if (!Number.isInteger(count)) throw ownFault(`${name} has ${reader.size} bytes, which is not a multiple of ${USER_SIZE}`);
     if (base + count > BLOCKS_WITH_ADDRESS) {
-        throw ownFault(`${name} goes on after block ${BLOCKS_WITH_ADDRESS - 1}, the last one with an address`);
+        throw ownFault(`${name} continues after block ${BLOCKS_WITH_ADDRESS - 1}, the last one with an address`);
     }
     await run.crew.share('raw', [reader], {}, { base, units: [USER_SIZE] }, bytes => out.write(bytes));
     return 0;
@@ -148,7 +152,7 @@ export async function rawJob(run) {
  * @param {KindRun[]} others
  */
 function sayOthers(run, others) {
-    sayOfRuns(run, others, it => `${blocksText([it])}: ${kindName(it.kind)}, in which other bytes may stand where mode1 has user data`);
+    sayOfRuns(run, others, it => `${blocksText([it])}: ${kindName(it.kind)}, so the bytes written may not be user data`);
     return others.length > 0;
 }
 

@@ -21,7 +21,7 @@ import { foundInFiles, hashesOf } from './surveying.js';
 /** @typedef {{ found: boolean, lines: string[] }} Informed whether something is wrong, and the lines to print */
 /** @typedef {import('./surveying.js').FileFound} FileFound */
 
-const WITH_CDSCRIPT = '`cdscript raw` makes the raw image, and `cdscript user` the ISO image.';
+const WITH_CDSCRIPT = '`cdscript raw` writes the raw image, and `cdscript user` the ISO image.';
 
 /** The message about an empty standard input. Node replaces a closed one with an empty file. */
 const NOTHING_PIPED = 'Standard input is empty or closed: give the name of a file, or the image on standard input.';
@@ -33,7 +33,7 @@ const NOTHING_PIPED = 'Standard input is empty or closed: give the name of a fil
 function trackText(disc, { number, type, file, block, sectors, part }) {
     const blocks = block === null || sectors === null ? '' : ` blocks ${block}-${block + sectors - 1}`;
     const kind = type || (part === null ? 'no data' : 'data');
-    return `track ${number} ${kind}${blocks} in ${file < 0 ? 'a file that is not there' : disc.files[file].name}`;
+    return `track ${number} ${kind}${blocks} in ${file < 0 ? 'a missing file' : disc.files[file].name}`;
 }
 
 /**
@@ -42,9 +42,10 @@ function trackText(disc, { number, type, file, block, sectors, part }) {
  */
 function lackText({ missing: { first, last }, blocks, file, isSure }) {
     const what = `${first}-${last} not in the image`;
-    if (file !== '') return `${what}: ${file} goes on there`;
-    if (isSure) return `${what}: the volume has ${blocks} blocks, and the cue sheet no other track`;
-    return `${what}, though the volume says ${blocks} blocks: it is cut, or counts other tracks or a pause`;
+    if (file !== '') return `${what}: ${file} continues there`;
+    if (isSure) return `${what}: the volume has ${blocks} blocks, and the cue sheet has no other track`;
+    const why = 'either the image is cut short, or the volume also counts other tracks or a pause';
+    return `${what}, though the volume has ${blocks} blocks: ${why}`;
 }
 
 /**
@@ -55,9 +56,9 @@ function lackText({ missing: { first, last }, blocks, file, isSure }) {
 function lostText({ first, last, why }, used) {
     const what = `${first}-${last} not mode1`;
     if (why === 'track') return `${what} in a track of mode1`;
-    if (why === 'filled') return `${what}, and filled with one byte, as no audio is`;
+    if (why === 'filled') return `${what}, and filled with the same byte, unlike audio`;
     const file = fileIn(used, { first, last });
-    return `${what}, though ${file === '' ? 'the volume itself' : file} lies there`;
+    return `${what}, though ${file === '' ? 'the volume itself' : file} is stored there`;
 }
 
 /**
@@ -72,7 +73,7 @@ function surveyLines(run, disc, found) {
     const list = new TextDecoder().decode(listText(run.calls, survey, image.tail).text).trimEnd();
     const lines = [`base ${image.base}`, ...list.split('\n'), `mode1 ${mode1} damaged ${damaged} address ${elsewhere}`];
     const mode2 = blocksIn([...kindRuns(survey)].filter(({ kind }) => kind === SECTOR_KIND.MODE2));
-    if (mode2 > 0) lines.push(`mode2 ${mode2}: such sectors can not be audited or patched here; discs of the PlayStation have them`);
+    if (mode2 > 0) lines.push(`mode2 ${mode2}: Mode 2 sectors cannot be audited or patched; PlayStation discs have them`);
     const others = untested.filter(({ kind }) => kind !== SECTOR_KIND.MODE2);
     if (others.length > 0) lines.push(untestedText(others, disc.sheet !== null));
     lines.push(...linesOfRuns(lost, it => lostText(it, used)));
@@ -86,9 +87,9 @@ function surveyLines(run, disc, found) {
 function unsurveyedLines(disc) {
     const others = unsurveyedTracks(disc);
     const sizes = others.map(({ number, type }) => `track ${number} has ${type.replace(/.*\//, '')} bytes a sector`);
-    const lines = sizes.map(it => `${it}: it can not be audited or patched here`);
+    const lines = sizes.map(it => `${it}: it cannot be audited or patched`);
     const hasData = others.length > 0 || disc.tracks.some(({ image }) => image !== null);
-    return hasData ? lines : ['no track has data: audio can not be audited or patched'];
+    return hasData ? lines : ['no data track: audio cannot be audited or patched'];
 }
 
 /**

@@ -24,9 +24,10 @@ export async function replaceListJob(run, list) {
     sayOfRuns(run, left, facts => sentenceOf({ code: 'list/row-left', facts }));
     sayOfRuns(run, codes, facts => sentenceOf({ code: 'list/code-left', facts }));
     if (left.length > 0 && !partial) {
-        throw ownFault(`rows that do not fit: ${left.length}, so no script is written; --partial leaves them out`);
+        const [rows, them] = left.length === 1 ? ['1 row does', 'it'] : [`${left.length} rows do`, 'them'];
+        throw ownFault(`${rows} not fit, so no script was written; use --partial to leave ${them} out`);
     }
-    if (script === null) throw ownFault('no row fits, so no script is written');
+    if (script === null) throw ownFault('no row fits, so no script was written');
     await writeFinished(run, target, script);
     return Number(left.length > 0);
 }

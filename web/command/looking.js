@@ -44,7 +44,7 @@ export async function entriesAtPath(opened, path) {
     const named = files.filter(file => [file.path, visible(file.path)].map(rooted).includes(rooted(path)));
     if (named.length > 0) return named;
     const meant = nearest(rooted(path), files.map(file => rooted(file.path)));
-    throw ownFault(`there is no file ${path}; ${meant === null ? 'cdscript files lists them' : `there is ${meant}`}`);
+    throw ownFault(`no file ${path} on the disc; ${meant === null ? 'cdscript files lists the files' : `did you mean ${meant}?`}`);
 }
 
 /**
@@ -62,7 +62,7 @@ function volumeIn({ volume, fault }) {
  * @param {TrackContents} contents
  */
 export function sayNoVolume(run, { fault }) {
-    if (fault !== null) run.say(`no file is named: ${sentenceOf(fault)}`);
+    if (fault !== null) run.say(`file names are unknown: ${sentenceOf(fault)}`);
 }
 
 /** @param {Run} run */

@@ -13,7 +13,7 @@ import { ownFault } from '../sentences/index.js';
 export function numberOf(text, name, least, most) {
     const number = /^[0-9]+$/.test(text) ? Number(text) : NaN;
     if (number >= least && number <= most) return number;
-    throw ownFault(`${name} is a number from ${least} to ${most}, not '${text}'`);
+    throw ownFault(`${name} must be a number from ${least} to ${most}, not '${text}'`);
 }
 
 /**

@@ -42,7 +42,7 @@ async function openNamedFiles(run, files) {
     } catch (error) {
         if (!failedBy(error, 'disc/missing-files')) throw error;
         const { sheet, file } = error.facts;
-        throw ownFault(`${sheet} names ${file}. It is not in the directory of the cue sheet.`, { file: sheet });
+        throw ownFault(`${sheet} names ${file}, which is not in the directory of the cue sheet.`, { file: sheet });
     }
 }
 
@@ -70,8 +70,8 @@ function sayOtherTracks(run, { tracks }, track, whole) {
     const others = tracks.filter(it => it.image !== null && it.number !== track.number && !(whole && it.file === track.file));
     const numbers = others.map(({ number }) => number);
     if (run.options.track !== undefined || numbers.length === 0) return;
-    const [which, seen] = numbers.length === 1 ? ['track', 'has data too and was'] : ['tracks', 'have data too and were'];
-    run.sayOnce(`${which} ${numbers.join(', ')} ${seen} not looked at: --track ${numbers[0]}`);
+    const [which, seen] = numbers.length === 1 ? ['track', 'also has data, but was'] : ['tracks', 'also have data, but were'];
+    run.sayOnce(`${which} ${numbers.join(', ')} ${seen} not examined: use --track ${numbers[0]}`);
 }
 
 /**
@@ -81,8 +81,8 @@ function sayOtherTracks(run, { tracks }, track, whole) {
  */
 export function sayUnknownBase(run, { name, base, addressed }) {
     if (addressed === base) return;
-    const why = addressed === null ? 'do not say its first block' : 'begin before block 0';
-    run.say(`the addresses in ${name} ${why}; its first block counts as ${base} here, see --base`);
+    const why = addressed === null ? 'do not give its first block' : 'begin before block 0';
+    run.say(`the addresses in ${name} ${why}, so its first sector counts as block ${base}; see --base`);
 }
 
 /**

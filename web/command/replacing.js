@@ -33,17 +33,17 @@ const MOST_PLACES = 1000000;
 async function wantedPlaces(run, opened, text) {
     const { all, inside } = run.options;
     const { image, best } = await foundText(run, opened, text, all ? MOST_PLACES : MOST_LISTED);
-    if (best === null) throw ownFault('the text is not found');
+    if (best === null) throw ownFault('text not found');
     const { count, hits, encoding } = best;
     if (count === 1 && !all && !inside) await assertBegins({ image, encoding, hits });
     if (count === 1 || (all && count === hits.length)) return { image, encoding, hits };
-    if (all) throw ownFault(`the text stands at ${count} places, and no more than ${MOST_PLACES} are replaced`);
+    if (all) throw ownFault(`the text occurs ${count} times, but at most ${MOST_PLACES} can be replaced`);
     for (const hit of hits) {
         const { doubt, before, hit: own, after } = await contextOf(image, encoding, hit);
-        const place = `it stands at block ${hit.block} offset ${hit.offset}${doubt === null ? '' : `, ${sentenceOf(doubt)}`}`;
+        const place = `found at block ${hit.block} offset ${hit.offset}${doubt === null ? '' : `, ${sentenceOf(doubt)}`}`;
         run.say(`${place}: ${[...before, own, ...after].join('')}`);
     }
-    throw ownFault(`the text stands at ${count} places: give BLOCK and OFFSET of one, or --all`);
+    throw ownFault(`the text occurs ${count} times: give BLOCK and OFFSET of one, or --all`);
 }
 
 /**
@@ -61,7 +61,7 @@ async function doubtText({ image, encoding, hits: [hit] }) {
  */
 async function assertBegins(places) {
     const doubt = await doubtText(places);
-    if (doubt !== '') throw ownFault(`${doubt}: --inside replaces it all the same`);
+    if (doubt !== '') throw ownFault(`${doubt}: --inside replaces it anyway`);
 }
 
 /**
@@ -80,6 +80,15 @@ async function placesAt(run, opened, place, text) {
 }
 
 /**
+ * The message about padding.
+ * @param {number} count the number of bytes added
+ * @param {Uint8Array} fill
+ */
+function paddedText(count, fill) {
+    return `padded with ${count} ${count === 1 ? 'byte' : 'bytes'} (${hexText(fill)})`;
+}
+
+/**
  * The new bytes, padded, for each size of the old text. Throws a Fault if they do not fit, or cannot be padded.
  * @param {Run} run
  * @param {Places} places
@@ -93,9 +102,9 @@ function freshBytes(run, { encoding, hits }, text) {
     for (const size of new Set(hits.map(hit => hit.size))) {
         assertHasRoom(encoding, bytes, size);
         const missing = size - bytes.length;
-        if (missing > 0 && fill === null) throw ownFault(`${encoding.name} has no space to fill up with: give --fill`);
+        if (missing > 0 && fill === null) throw ownFault(`${encoding.name} has no space character to pad with: give --fill`);
         known.set(size, filledUp(bytes, size, fill));
-        if (missing > 0 && fill !== null) run.say(`bytes filled up with ${hexText(fill)}: ${missing}`);
+        if (missing > 0 && fill !== null) run.say(paddedText(missing, fill));
     }
     return known;
 }
@@ -115,7 +124,7 @@ async function writeReplaced(run, target, opened, places, { text, inside }) {
     const { script, left } = await replaceHits(run, opened, { ...places, freshFor, inside });
     if (left.length === 1 && places.hits.length === 1) throw new Fault(left[0].why.code, left[0].why.facts);
     sayOfRuns(run, left, facts => sentenceOf({ code: 'replace/hit-left', facts }));
-    if (script === null) throw ownFault('no place is left, so no script is written');
+    if (script === null) throw ownFault('every place is left out, so no script was written');
     await writeFinished(run, target, script);
     return left.length;
 }
@@ -126,7 +135,7 @@ export async function replaceJob(run) {
     const [name, ...more] = run.names;
     const [after, before, offset, block] = more.reverse();
     const given = block === undefined ? null : placeGiven(block, offset);
-    if (given !== null && run.options.all) throw ownFault('--all and a place exclude each other');
+    if (given !== null && run.options.all) throw ownFault('--all cannot be used together with BLOCK and OFFSET');
     const target = await run.target();
     const opened = await openTrackOf(run, name, given !== null);
     const places = given === null ? await wantedPlaces(run, opened, before) : await placesAt(run, opened, given, before);
@@ -137,7 +146,7 @@ export async function replaceJob(run) {
 /** @param {Run} run */
 export async function replaceFileJob(run) {
     const { fill } = run.options;
-    if (fill === 'end' || (fill && fill.length !== 1)) throw ownFault('--fill is one byte here');
+    if (fill === 'end' || (fill && fill.length !== 1)) throw ownFault('--fill must be one byte for replace-file');
     const target = await run.target();
     const opened = await openTrackOf(run, run.names[0]);
     const entries = await entriesAtPath(opened, run.names[1]);
@@ -146,9 +155,9 @@ export async function replaceFileJob(run) {
     const { file } = made;
     sayOfRuns(run, made.left, left => sentenceOf({ code: 'script/left', facts: { runs: [left], image: opened.part.name } }));
     sayOfRuns(run, made.sharing, other => sentenceOf({ code: 'replace/shared-blocks', facts: { path: file.path, other } }));
-    if (made.script === null) throw ownFault('these blocks of the file can not be patched, so no script is written');
-    if (fill && reader.size < file.size) run.say(`bytes filled up with ${hexText(fill)}: ${file.size - reader.size}`);
-    else if (reader.size !== file.size) run.say(`${file.path} had ${file.size} bytes, and gets ${reader.size}`);
+    if (made.script === null) throw ownFault('these blocks of the file cannot be patched, so no script was written');
+    if (fill && reader.size < file.size) run.say(paddedText(file.size - reader.size, fill));
+    else if (reader.size !== file.size) run.say(`${file.path}: ${file.size} bytes, now ${reader.size}`);
     await writeFinished(run, target, made.script);
     return 0;
 }

@@ -93,7 +93,8 @@ export class Run {
                 throw failedBy(error, 'file') || !(error instanceof Fault) ? error : ownFault(`${name}: ${sentenceOf(error)}`);
             });
         }
-        if (known.leftOut > 0) this.say(`entries of the DAT without a size or a hash, which match no file: ${known.leftOut}`);
+        const leftOut = known.leftOut === 1 ? '1 entry of the DAT has' : `${known.leftOut} entries of the DAT have`;
+        if (known.leftOut > 0) this.say(`${leftOut} no size or no hash, and cannot match a file`);
         return dat.length > 0 ? known : null;
     }
 

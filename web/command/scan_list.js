@@ -135,7 +135,8 @@ export class ResumedList {
         const lines = new TextDecoder().decode(bytes.subarray(0, this.size)).split('\n').slice(0, -1);
         if (bytes.length > 0 && (this.size === 0 || !lines.every(line => LISTED.test(line)))) {
             this.close();
-            throw ownFault(`${this.name} is no list that scan has written, so it stays as it is`);
+            const advice = 'give --resume a list that scan wrote, or a new file';
+            throw ownFault(`${this.name} was not written by cdscript scan, and was left unchanged; ${advice}`);
         }
         if (this.size < bytes.length) ftruncateSync(this.descriptor, this.size);
         this.rows = lines.map(line => line.split('\t'));
@@ -240,7 +241,7 @@ function isOther(row) {
 export async function resumedList(run) {
     const { resume, output } = run.options;
     if (resume === undefined) return null;
-    if (output !== undefined) throw ownFault('--resume and -o exclude each other');
+    if (output !== undefined) throw ownFault('--resume and -o cannot be used together');
     await tryFile('open', resume, () => closeSync(openSync(resume, 'a+')));
     run.files.onmake();
     const lock = lockList(resume);

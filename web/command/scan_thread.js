@@ -130,7 +130,7 @@ export async function scanOne(name, needs) {
         if (kind !== 'raw' && kind !== 'audio' && kind !== 'cue') return await otherFile(run, opened, kind, needs);
         const disc = await openDiscOf(run, name);
         const gone = disc.tracks.filter(({ file }) => file < 0);
-        const missing = gone.map(({ number }) => `track ${number} of ${name} is in a file that is not there`);
+        const missing = gone.map(({ number }) => `track ${number} of ${name} is in a missing file`);
         const found = await foundInFiles(run, disc, needs);
         found.forEach(it => sayUntested(run, disc, it));
         return { files: found.map((it, i) => scanned(run, disc, it, i)), notes, missing, fault: '', other: '' };

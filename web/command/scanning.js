@@ -169,11 +169,13 @@ export async function scanJob(run) {
 async function goOn(scan, list, names, needs) {
     const wanted = names.flatMap(({ name }) => isSheetName(name) ? [name, ...filesNamedBy(name)] : [name]);
     const gone = await list.dropOld(new Set(wanted.map(listedName)), needs);
-    if (gone > 0) scan.run.say(`${list.name}: files that no longer exist, whose lines are kept: ${gone}`);
+    const [files, lines] = gone === 1 ? ['1 file no longer exists', 'its line is'] : [`${gone} files no longer exist`, 'their lines are'];
+    if (gone > 0) scan.run.say(`${list.name}: ${files}, but ${lines} kept`);
     scan.done = list.done();
     if (list.hasFindings()) scan.status = Math.max(scan.status, 1);
     const changed = scan.known === null ? 0 : await list.lookUp(scan.known);
-    if (changed > 0) scan.run.say(`${list.name}: its seventh column now says what the DAT knows, lines that changed: ${changed}`);
+    const rows = changed === 1 ? '1 line' : `${changed} lines`;
+    if (changed > 0) scan.run.say(`${list.name}: the seventh column was updated from the DAT; ${rows} changed`);
     if (scan.verdicts) list.count(scan.verdicts);
     const others = list.others();
     for (const { name } of names.filter(it => it.isNamed)) {
@@ -189,9 +191,9 @@ async function goOn(scan, list, names, needs) {
  */
 function sayOthers(run, others) {
     if (others.length === 0) return;
-    run.say(`files that are no raw images: ${others.length}`);
+    run.say(others.length === 1 ? '1 file is not a raw image' : `${others.length} files are not raw images`);
     const alike = others.filter(({ name }) => /\.(bin|img)$/i.test(name));
-    const lines = alike.map(({ name, what }) => `${name} is called like a raw image, and is ${what}`);
+    const lines = alike.map(({ name, what }) => `${name} has the extension of a raw image, but is ${what}`);
     for (const line of lines.sort()) run.say(line);
 }
 

@@ -24,9 +24,8 @@ const SOME_LEFT_OUT = 1;
 /** The number of threads that compare the sectors that this thread patches. More threads would wait for it. */
 const UNDOING_THREADS = 2;
 
-const NOTHING_TO_TAKE_BACK = 'the image already has what the script writes, so nothing can be taken back: ' +
-    'it must be the image before the script';
-const DAMAGE_STAYS_OUT = 'damage does not come back; address and user data do';
+const NOTHING_TO_TAKE_BACK = 'the image already has what the script writes, so nothing can be undone: give the unpatched image';
+const DAMAGE_STAYS_OUT = 'the damage is not restored; the address and the user data are';
 
 /**
  * Writes a finished script, which states its base.
@@ -47,7 +46,7 @@ export async function writeFinished(run, target, script) {
 function sayOfScript(run, { patches, long, carry }) {
     if (patches === 0) run.say('the script has no patch');
     if (carry) run.say('the script patches damaged sectors: it needs --carry');
-    if (long) run.say('the script is longer than cdpatch takes: cdscript apply --long applies it');
+    if (long) run.say('the script is too long for cdpatch: use cdscript apply --long');
 }
 
 /**
@@ -56,8 +55,9 @@ function sayOfScript(run, { patches, long, carry }) {
  * @param {string} newName
  */
 function remedyOf({ left, tail }, newName) {
-    if (tail || left.some(({ why }) => why !== 'damaged')) return `: --partial leaves ${left.length > 0 ? 'them' : 'that'} out`;
-    return `: repair ${newName} first, as with merge, or give --skip-damaged`;
+    const them = left.length > 0 ? 'these differences' : 'this difference';
+    if (tail || left.some(({ why }) => why !== 'damaged')) return `; use --partial to leave out ${them}`;
+    return `; repair ${newName} first, for example with merge, or use --skip-damaged`;
 }
 
 /**
@@ -89,19 +89,19 @@ export async function diffJob(run) {
     const fresh = openTrack(await openDiscOf(run, newName), { track }).image.reader;
     if (image.reader.size !== fresh.size) {
         const sizes = `the images have ${image.reader.size} and ${fresh.size} bytes`;
-        throw ownFault(fields ? sizes : `${sizes}, and no script changes a length`);
+        throw ownFault(fields ? sizes : `${sizes}, and a script cannot change the length`);
     }
     if (fields) return differingFields(run, target, opened, fresh);
     const made = await compareTrack(run, opened, fresh, { skipDamaged, partial, ...takingLines(target) });
     sayOfRuns(run, made.left, left => leftText(left, newName));
-    if (made.tail) run.say('the bytes after the last sector differ, and no script changes them');
-    if (made.script === null) throw ownFault(`no script leads to that image, so none is written${remedyOf(made, newName)}`);
+    if (made.tail) run.say('the bytes after the last sector differ, and a script cannot change them');
+    if (made.script === null) throw ownFault(`no script can produce ${newName}, so none was written${remedyOf(made, newName)}`);
     if (target instanceof NewFile) {
         await target.writeFirst(made.script.pieces[0]);
         sayOfScript(run, made.script);
     } else await writeFinished(run, target, made.script);
     const left = blocksIn(made.left);
-    if (left > 0) run.say(`${partial ? '' : 'damaged '}blocks that are left out: ${left}`);
+    if (left > 0) run.say(`${partial ? '' : 'damaged '}blocks left out: ${left}`);
     return left > 0 || made.tail ? SOME_LEFT_OUT : 0;
 }
 
@@ -125,7 +125,7 @@ export async function rebuildsJob(run) {
  * @param {string} name of the image
  */
 function refusedText(refused, name) {
-    return `${refused === 1 ? '1 patch is' : `${refused} patches are`} refused on ${name}: is it the image before the script?`;
+    return `${refused === 1 ? '1 patch is' : `${refused} patches are`} refused on ${name}: is ${name} the unpatched image?`;
 }
 
 /**

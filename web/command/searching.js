@@ -47,12 +47,12 @@ export async function foundText(run, opened, text, limit) {
     faults.forEach(fault => run.say(sentenceOf(fault)));
     if (best === null) {
         const which = opened.disc.sheet === null ? '' : `track ${opened.track.number} in `;
-        run.say(`${which}${image.name} was searched for the text in ${searched.join(', ')}`);
+        run.say(`searched ${which}${image.name} in these encodings: ${searched.join(', ')}`);
         return found;
     }
-    if (encoding === undefined && table === undefined) run.say(`the text stands there in ${best.encoding.name}`);
+    if (encoding === undefined && table === undefined) run.say(`found in ${best.encoding.name}`);
     for (const { begins, encoding: { name } } of others) {
-        run.say(`in ${name} it stands there ${begins ? `too: --encoding ${name}` : 'only in the middle of characters'}`);
+        run.say(begins ? `also found in ${name}: use --encoding ${name}` : `found in ${name} only in the middle of characters`);
     }
     return found;
 }

@@ -25,7 +25,7 @@ async function writeTable(target, table) {
             await target.write(new TextEncoder().encode(text));
         }
     } catch (error) {
-        if (failedBy(error, 'no-file')) throw ownFault(`${sentenceOf(error)}; cdscript files lists them`);
+        if (failedBy(error, 'no-file')) throw ownFault(`${sentenceOf(error)}; cdscript files lists the files`);
         throw error;
     }
     return texts;
@@ -35,7 +35,9 @@ async function writeTable(target, table) {
 export async function textsJob(run) {
     const { encoding, table: file, csv, lines, min: least, in: paths } = run.options;
     const named = encoding === undefined ? null : encodingOf(encoding);
-    if (named !== null && !named.hasCharacters) throw ownFault(`texts are told by their characters, and ${named.name} has none`);
+    if (named !== null && !named.hasCharacters) {
+        throw ownFault(`${named.name} is not a character encoding, so texts cannot be recognised in it`);
+    }
     const table = file && tableTextOf(await wholeOf((await run.files.image(file)).reader));
     const target = await run.target();
     const opened = await openTrackOf(run, run.names[0]);

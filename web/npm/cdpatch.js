@@ -118,7 +118,7 @@ export class Cdpatch {
      * @returns {Promise<Patched>}
      */
     async apply(image, script, write, settings = {}) {
-        if (typeof write !== 'function') throw new TypeError('write is a function that takes bytes');
+        if (typeof write !== 'function') throw new TypeError('write must be a function that accepts bytes');
         return spoken(patched(this.calls, image, script, settings, write));
     }
 }
@@ -185,5 +185,5 @@ async function ownModule(place) {
     // Some servers answer with a page instead of a file that they lack.
     const isPage = /^text\//.test(response.headers.get('content-type') || '');
     if (response.ok && !isPage) return response.arrayBuffer();
-    throw new Fault(`cdpatch.wasm is not at ${place}; put it there, or give its bytes to load`);
+    throw new Fault(`cdpatch.wasm is not at ${place}; put it there, or pass its bytes to load`);
 }

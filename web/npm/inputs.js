@@ -7,7 +7,7 @@ import { READ_SIZE, readBytes, watchedReader } from '../core/bytes.js';
 /** @typedef {import('./cdpatch.js').Source} Source */
 /** @typedef {import('./cdpatch.js').Watch} Watch */
 
-const KINDS = 'a Blob, a Uint8Array, an ArrayBuffer, what openFile gives, or another object with size and read(at, length)';
+const KINDS = 'a Blob, a Uint8Array, an ArrayBuffer, the result of openFile, or another object with size and read(at, length)';
 
 /**
  * @param {any} input
@@ -16,7 +16,7 @@ const KINDS = 'a Blob, a Uint8Array, an ArrayBuffer, what openFile gives, or ano
 function assertSource(input, kinds) {
     const { size, read } = Object(input);
     if (Number.isSafeInteger(size) && size >= 0 && typeof read === 'function') return;
-    throw new TypeError(`${kinds}, and not ${input?.constructor?.name ?? input}`);
+    throw new TypeError(`${kinds}, not ${input?.constructor?.name ?? input}`);
 }
 
 /**
@@ -28,8 +28,8 @@ function assertSource(input, kinds) {
 function bytesGiven(given, length) {
     // Bytes of another realm, such as a frame, are instances of a different Uint8Array.
     const isBytes = Object.prototype.toString.call(given) === '[object Uint8Array]';
-    if (!isBytes) throw new TypeError(`read(at, length) gives a Uint8Array, and not ${given?.constructor?.name ?? given}`);
-    if (given.length > length) throw new RangeError(`read(at, length) gave ${given.length} bytes, and was asked for ${length}`);
+    if (!isBytes) throw new TypeError(`read(at, length) must return a Uint8Array, not ${given?.constructor?.name ?? given}`);
+    if (given.length > length) throw new RangeError(`read(at, length) must return at most ${length} bytes, not ${given.length}`);
     return given;
 }
 
@@ -38,7 +38,7 @@ function bytesGiven(given, length) {
  * @param {string} [kinds] the allowed types, for the message
  * @returns {Source}
  */
-export function sourceOf(input, kinds = `an image is ${KINDS}`) {
+export function sourceOf(input, kinds = `an image must be ${KINDS}`) {
     const bytes = input instanceof ArrayBuffer ? new Uint8Array(input) : input;
     if (bytes instanceof Uint8Array) return { size: bytes.length, read: async (at, length) => bytes.subarray(at, at + length) };
     if (bytes instanceof Blob) {
@@ -53,7 +53,7 @@ export function sourceOf(input, kinds = `an image is ${KINDS}`) {
  * @returns {Source}
  */
 export function scriptSource(script) {
-    return sourceOf(typeof script === 'string' ? new TextEncoder().encode(script) : script, `a script is a string, ${KINDS}`);
+    return sourceOf(typeof script === 'string' ? new TextEncoder().encode(script) : script, `a script must be a string, ${KINDS}`);
 }
 
 /** @param {Source} source */

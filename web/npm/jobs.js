@@ -57,7 +57,7 @@ export async function surveyed(calls, image, { base = 0, signal, progress }) {
  */
 function assertBase(base) {
     if (Number.isInteger(base) && base >= 0 && base <= LAST_BASE) return;
-    throw new RangeError(`a base is a whole number from 0 to ${LAST_BASE}, and not ${base}`);
+    throw new RangeError(`a base must be a whole number from 0 to ${LAST_BASE}, not ${base}`);
 }
 
 /**

@@ -4,12 +4,12 @@ import { Fault } from './errors.js';
 
 /** @returns {Promise<never>} */
 export async function stat() {
-    throw new Fault('openFile is for node; in a browser an image is a File or a Blob');
+    throw new Fault('openFile works only in node; in a browser, use a File or a Blob as the image');
 }
 
 /** @returns {Promise<never>} */
 export async function readFile() {
-    throw new Fault('a page that is opened as a file can load no module; serve the page, or give the bytes of cdpatch.wasm to load');
+    throw new Fault('a page that is opened as a file cannot load a module; serve it over HTTP, or pass the bytes of cdpatch.wasm to load');
 }
 
 export { stat as open };

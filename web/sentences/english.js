@@ -7,7 +7,6 @@ import { KINDS } from './kinds.js';
 
 /** @typedef {import('../core/facts.js').Facts} Facts */
 
-const OF_DATA = 'of data with 2352 bytes a sector. Choose one that is.';
 const NO_DAT = 'not a DAT in Logiqx XML';
 
 /** The program's message about an image that is too long, without its `cdpatch: `. */
@@ -22,6 +21,12 @@ export const BAD_DUMP = 'known as a bad dump:';
  */
 function inSheet(line, what) {
     return `line ${line} of the cue sheet: ${what}`;
+}
+
+/** @param {Facts['disc/no-track']} facts */
+function noTrack({ sheet, track, tracks }) {
+    const own = `${tracks.length === 1 ? 'track' : 'tracks'} ${tracks.join(', ')}`;
+    return `${sheet} has no track ${track}. It has ${own}. An image without a cue sheet counts as track ${track}.`;
 }
 
 /** @param {Facts['dat/dump']} dump */
@@ -54,8 +59,8 @@ const MOST_NAMED = 20;
 function linesLeftOut({ lines }) {
     const more = lines.length > MOST_NAMED ? [`and ${lines.length - MOST_NAMED} more`] : [];
     const named = [...lines.slice(0, MOST_NAMED), ...more].join(', ');
-    return lines.length === 1 ? `line ${named} of the table means nothing here, and is left out`
-        : `lines ${named} of the table mean nothing here, and are left out`;
+    return lines.length === 1 ? `line ${named} of the table has no meaning here, and is ignored`
+        : `lines ${named} of the table have no meaning here, and are ignored`;
 }
 
 /** @param {Facts['list/code-left']} left */
@@ -78,16 +83,15 @@ export const ENGLISH = {
     'image-ended': ({ at }) => `the image ends at byte ${at}`,
     unread: () => 'a worker cannot read the file',
 
-    'disc/missing-files': ({ sheet, file }) => `${sheet} names ${file}. Put it beside the cue sheet, or open both together.`,
+    'disc/missing-files': ({ sheet, file }) => `${sheet} names ${file}. Put it next to the cue sheet, or open both together.`,
     'disc/two-sheets': ({ one, other }) => `${one} and ${other} are both cue sheets. Open one of them.`,
     'disc/no-image': () => 'Open one image, or a cue sheet together with the files that it names.',
     'disc/other-file': ({ name, kind }) => `${name} is ${KINDS[kind].join('. ')}`,
-    'disc/no-track': ({ sheet, track, tracks }) =>
-        `${sheet} has no track ${track}. It has ${tracks.join(', ')}. An image without a cue sheet is taken as that track.`,
-    'disc/no-data': () => `The disc has no track ${OF_DATA}`,
-    'disc/other-track': ({ track }) => `Track ${track} is no track ${OF_DATA}`,
+    'disc/no-track': noTrack,
+    'disc/no-data': () => 'The disc has no data track with 2352-byte sectors. Choose a disc that has one.',
+    'disc/other-track': ({ track }) => `Track ${track} is not a data track with 2352-byte sectors. Choose a different track.`,
     'disc/sector-size': ({ track, name, size }) =>
-        `Track ${track} in ${name} has sectors of ${size} bytes. Make an image of 2352 bytes a sector of each track first.`,
+        `Track ${track} in ${name} has ${size}-byte sectors. Convert each track to an image with 2352-byte sectors first.`,
     'kind/what': ({ kind }) => KINDS[kind][0],
     'kind/advice': ({ kind }) => KINDS[kind][1],
 
@@ -98,13 +102,13 @@ export const ENGLISH = {
     'cue/track-words': ({ line }) => inSheet(line, 'TRACK needs a number and a type'),
     'cue/track-type': ({ line, type }) => inSheet(line, `unknown track type ${type}`),
     'cue/no-file': ({ line }) => inSheet(line, 'a track before the first FILE'),
-    'cue/track-order': ({ line, track, before }) => inSheet(line, `track ${track} comes after track ${before}`),
+    'cue/track-order': ({ line, track, before }) => inSheet(line, `track numbers must increase: ${track} follows ${before}`),
     'cue/index-words': ({ line }) => inSheet(line, 'INDEX needs a number and a time'),
     'cue/index-late': ({ line, index }) => inSheet(line, `INDEX ${index} comes too late`),
     'cue/index-back': ({ line, index }) => inSheet(line, `INDEX ${index} goes back in its file`),
-    'cue/before-track': ({ line }) => inSheet(line, 'no TRACK stands before this'),
+    'cue/before-track': ({ line }) => inSheet(line, 'there is no TRACK before this'),
     'cue/time': ({ line, time }) => inSheet(line, `invalid time ${time}`),
-    'cue/two-files': ({ line, track }) => inSheet(line, `track ${track} lies in two files`),
+    'cue/two-files': ({ line, track }) => inSheet(line, `track ${track} is in two files`),
     'cue/after-end': ({ line, track, name }) => inSheet(line, `track ${track} begins after the end of ${name}`),
 
     'dat/other-file': () => `it is ${NO_DAT}`,
@@ -112,19 +116,19 @@ export const ENGLISH = {
     'dat/machines': () => `it is a list of MAME's machines, and ${NO_DAT}`,
     'dat/archive': () => 'it is an archive: unpack it',
     'dat/clrmamepro': () => "it is in clrmamepro's own format: save it as Logiqx XML",
-    'dat/encoding': ({ encoding }) => `its encoding ${encoding} is not known here: save it as UTF-8`,
+    'dat/encoding': ({ encoding }) => `its encoding ${encoding} is not supported: save it as UTF-8`,
     'dat/declares': () => 'it declares what a DAT does not, such as entities',
     'dat/entity': ({ entity }) => `it has the entity ${entity}, which a DAT does not have`,
-    'dat/tag': ({ tag }) => `it is not well-formed: a < is inside of the tag <${tag}`,
+    'dat/tag': ({ tag }) => `it is not well-formed: a < is inside the tag <${tag}`,
     'dat/long-tag': ({ most }) => `it has a tag of more than ${most} characters`,
     'dat/long-name': ({ most }) => `it has a name of more than ${most} characters`,
     'dat/deep': ({ most }) => `its elements are more than ${most} deep`,
     'dat/too-many': ({ most }) => `there are more than ${most} dumps`,
-    'dat/cut': () => 'it is cut',
+    'dat/cut': () => 'it is incomplete: download it again',
     'dat/no-dump': () => 'it has no dump with a size and a hash',
     'dat/dump': knownDump,
     'dat/only-size': () => 'the DAT has a dump of this size, but none with this SHA-1: perhaps another dump of the disc repairs it',
-    'dat/no-size': () => 'the DAT has no dump of this size: perhaps it is cut, or of another disc',
+    'dat/no-size': () => 'the DAT has no dump of this size: perhaps the file is cut short, or is of a different disc',
 
     'volume/no-descriptor': ({ block }) => `no ISO 9660 volume: block ${block} has no volume descriptor`,
     'volume/block-size': ({ size, due }) => `the volume has logical blocks of ${size} bytes, not of ${due}`,
@@ -136,11 +140,11 @@ export const ENGLISH = {
     'tree/no-record': ({ at }) => `byte ${at} of the directory has no record of a file`,
     'tree/unread': ({ path, why }, said) => `the directory ${path} is not read: ${said(why)}`,
     'tree/not-in-image': ({ path }) => `the directory ${path} is not in the image`,
-    'tree/same': ({ block }) => `the directory in block ${block} is also another one`,
-    'tree/shared': ({ first, last }) => `the directory in blocks ${first} to ${last} has sectors of another one`,
+    'tree/same': ({ block }) => `two directories claim block ${block}`,
+    'tree/shared': ({ first, last }) => `the directory in blocks ${first} to ${last} shares sectors with another directory`,
     'tree/large': ({ block, size }) => `the directory in block ${block} would have ${size} bytes`,
-    'tree/missing': ({ block }) => `the directory is in block ${block}, which the image has not`,
-    'tree/cut': ({ first, last }) => `the directory in blocks ${first} to ${last} goes on after the image's end`,
+    'tree/missing': ({ block }) => `the directory is in block ${block}, which is not in the image`,
+    'tree/cut': ({ first, last }) => `the directory in blocks ${first} to ${last} continues after the end of the image`,
     'tree/deep': ({ most }) => `its directories are not read: they are more than ${most} deep`,
     'tree/many-entries': ({ most }) => `the volume has more than ${most} files and directories`,
     'tree/long-paths': ({ most }) => `its paths have more than ${most} characters`,
@@ -148,73 +152,75 @@ export const ENGLISH = {
     'tree/ends': ({ why }, said) => `from here on nothing is listed: ${said(why)}`,
     'tree/more': ({ count }) => `and so on: ${count} places in all`,
     'extent/several': () => 'it has several extents',
-    'extent/cut': () => 'the image has not all of it',
+    'extent/cut': () => 'the image does not contain all of it',
     'extent/byte-orders': () => 'its numbers in the two byte orders differ',
-    'extent/other-volume': ({ volume, number }) => `it lies on volume ${volume} of the set, and this is volume ${number}`,
+    'extent/other-volume': ({ volume, number }) => `it is on volume ${volume} of the set, and this is volume ${number}`,
     'extent/interleaved': () => 'it is interleaved',
-    'extent/associated': () => 'it belongs to another file of this name',
-    'extents/apart': ({ path, count }) => `${path} has ${count} parts, which are no file`,
-    'extents/over': ({ path }) => `${path}: its parts lie over each other`,
+    'extent/associated': () => 'it is an associated file (a second stream) of this name',
+    'extents/apart': ({ path, count }) => `${path} has ${count} directory records that do not form one file`,
+    'extents/over': ({ path }) => `the parts of ${path} overlap`,
 
-    'text/no-character': ({ name, character, place }) => `${name} has no ${shownCharacter(character)}, character ${place} of the text`,
+    'text/no-character': ({ name, character, place }) =>
+        `${name} cannot encode ${shownCharacter(character)}, character ${place} of the text`,
     'text/half-byte': ({ place }) => `hexadecimal digits come in pairs: character ${place} of the text is half a byte`,
-    'text/large-table': ({ size, most }) => `the table has ${size} bytes, and one has at most ${most}`,
+    'text/large-table': ({ size, most }) => `the table has ${size} bytes, but a table may have at most ${most}`,
     'text/empty-table': () => 'the table has no line HEX=TEXT',
     'text/no-pair': ({ line }) => `line ${line} of the table is not HEX=TEXT`,
     'text/long-bytes': ({ line, most }) => `line ${line} of the table has more than ${most} bytes`,
     'text/long-text': ({ line, most }) => `line ${line} of the table has a text of more than ${most} characters`,
     'text/many-parameters': ({ line, most }) => `line ${line} of the table has more than ${most} parameters`,
-    'text/twice': ({ line, digits }) => `line ${line} of the table: ${digits} stands twice`,
+    'text/twice': ({ line, digits }) => `line ${line} of the table: ${digits} occurs twice`,
     'text/lines-left-out': linesLeftOut,
 
     'script/refused': ({ line }) => line,
     'script/other-base': ({ line, base, begins }) =>
-        `line ${line} of the script says base ${base}, and the image begins with block ${begins} here`,
+        `line ${line} of the script says base ${base}, but the image begins with block ${begins}`,
     'script/conflict': () => 'the patches conflict, so no script is written',
     'script/too-large': ({ most }) => `the script would have more than ${most} bytes: too much differs`,
     'script/wrong-sector': ({ block }) => `the script for block ${block} would not give the right sector, so it is not written`,
     'script/left': leftClause,
 
-    'find/empty': () => 'there is nothing to find in a text without characters',
-    'find/nothing': () => 'the text is not found',
+    'find/empty': () => 'the text to find is empty',
+    'find/nothing': () => 'text not found',
     'find/inside': ({ before }) => `perhaps in the middle of a character (byte before: ${hexText(Uint8Array.of(before))})`,
-    'no-file': ({ path }) => `there is no file ${path}`,
+    'no-file': ({ path }) => `no file or directory ${path} on the disc`,
 
-    'replace/other-size': ({ fresh, old }) => `the new bytes are ${fresh}, the old ones ${old}`,
+    'replace/other-size': ({ fresh, old }) => `expected ${old} new bytes, one for each old byte, but got ${fresh}`,
     'replace/filler': wrongFiller,
     'replace/no-room': ({ name, size, room }) =>
         `the new text has ${size} bytes in ${name}, and there is room for ${room}: ${size - room} too many`,
     'replace/no-bytes': () => 'there are no old bytes',
-    'replace/no-offset': ({ last }) => `an offset is 0 to ${last}`,
-    'replace/no-block': ({ first, last }) => `the image has the blocks ${first} to ${last}`,
+    'replace/no-offset': ({ last }) => `an offset must be from 0 to ${last}`,
+    'replace/no-block': ({ first, last }) => `the image has only the blocks ${first} to ${last}`,
     'replace/other-bytes': ({ block, offset }) => `old bytes differ at block ${block} offset ${offset}`,
     'replace/damaged': ({ block }) => `block ${block} is damaged: repair it first`,
     'replace/not-mode1': ({ block }) => `block ${block} is not Mode 1`,
-    'replace/overlaps': () => 'it overlaps the one before it',
+    'replace/overlaps': () => 'it overlaps the place before it',
     'replace/hit-left': ({ text: { block, offset }, why }, said) => `block ${block} offset ${offset}: ${said(why)}`,
 
-    'replace/own-block': ({ path, block, kind }) => `${path} has block ${block}, which has a ${kind} of the volume: that is not replaced`,
-    'replace/udf': ({ path }) => `${path} would have its old length in the UDF that the disc has too: --fill keeps the length`,
-    'replace/shared-length': ({ path, other }) => `${path} can have no other length: ${other} has some of its blocks`,
-    'replace/shared-blocks': ({ path, other }) => `${other} has blocks of ${path} too, and changes with it`,
+    'replace/own-block': ({ path, block, kind }) => `block ${block} of ${path} contains a ${kind} of the volume, which cannot be replaced`,
+    'replace/udf': ({ path }) => `the UDF file system of the disc would keep the old length of ${path}: use --fill to keep the length`,
+    'replace/shared-length': ({ path, other }) => `the length of ${path} cannot change: ${other} has some of its blocks`,
+    'replace/shared-blocks': ({ path, other }) => `${other} shares blocks with ${path}, and changes too`,
     'replace/long-file': ({ path, size, room, wanted }) =>
-        `${path} has ${size} bytes${room === null ? '' : ` and room for ${room}`}, the new file ${wanted}`,
+        `${path} has ${size} bytes${room === null ? '' : ` and room for ${room}`}, but the new file has ${wanted}`,
 
-    'list/too-large': ({ name, size, most }) => `${name} has ${size} bytes, and a list at most ${most}`,
+    'list/too-large': ({ name, size, most }) => `${name} has ${size} bytes, but a list may have at most ${most}`,
     'list/too-many-cells': ({ row, most }) => `row ${row} of the table has more than ${most} cells`,
     'list/too-many-rows': ({ most }) => `more than ${most} rows of the list have a new text`,
-    'list/no-column': ({ row, columns }) => `row ${row} of the list names no column ${columns.join(', ')}`,
-    'list/column-twice': ({ row, column }) => `row ${row} of the list names two columns ${column}`,
+    'list/no-column': ({ row, columns }) =>
+        `the header in row ${row} of the list lacks the ${columns.length === 1 ? 'column' : 'columns'} ${columns.join(', ')}`,
+    'list/column-twice': ({ row, column }) => `the header in row ${row} of the list has two columns ${column}`,
     'list/no-new-text': () => 'no row of the list has a new text',
-    'list/no-place': () => 'block and offset are no numbers',
+    'list/no-place': () => 'block or offset is not a number',
     'list/cell-runs-on': ({ row }) => `a cell in quotes runs on to row ${row}, which has a place of its own`,
     'list/overlaps': ({ row }) => `it overlaps the text of row ${row}`,
     'list/long-text': ({ most }) => `a text has more than ${most} characters`,
-    'list/no-space': ({ name }) => `${name} has no space to fill up with`,
-    'list/other-text': () => 'the old text does not stand there',
-    'list/new-text-there': () => 'the new text stands there already',
+    'list/no-space': ({ name }) => `${name} has no space character to pad with`,
+    'list/other-text': () => 'the old text is not there',
+    'list/new-text-there': () => 'the new text is already there',
     'list/formula': ({ cell }) => `a spreadsheet wrote ${cell} in place of a formula: write the text, with {3D} for =`,
-    'list/no-code': ({ code }) => `${code} is not a code, which is two digits 0 to F for each byte; a brace is {7B}`,
+    'list/no-code': ({ code }) => `${code} is not a code: a code has two digits 0 to F for each byte; a brace is {7B}`,
     'list/row-left': ({ text: { number }, why }, said) => `row ${number}: ${said(why)}`,
     'list/code-left': leftCode,
 };
