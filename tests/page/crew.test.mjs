@@ -34,7 +34,7 @@ test('a worker that stops ends the job, which says so, and the next job has new 
     const reader = { size: 10 * 2352, read: async (at, length) => new Uint8Array(length) };
     const taken = [];
     const job = () => crew.share('survey', [reader], {}, { step: 1 }, first => { taken.push(first); });
-    await assert.rejects(job(), { message: 'A worker of this page has stopped (out of memory). Try it again: then a new one starts.' });
+    await assert.rejects(job(), { message: 'A background task of this page has crashed (out of memory). Try again: it will be restarted.' });
     assert.ok(given.workers.length > 0 && given.workers.every(it => it.ended));
     given.stops = false;
     await job();
@@ -46,7 +46,7 @@ test('a reply that cannot be read ends the job, and the next one has new workers
     const crew = crewOf({ module: true, newWorker: () => new TestWorker(given) });
     const reader = { size: 10 * 2352, read: async (at, length) => new Uint8Array(length) };
     const job = () => crew.share('survey', [reader], {}, { step: 1 }, () => {});
-    await assert.rejects(job(), { message: /^A worker of this page has stopped/ });
+    await assert.rejects(job(), { message: /^A background task of this page has crashed/ });
     given.unread = false;
     await job();
 });

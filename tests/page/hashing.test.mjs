@@ -61,5 +61,5 @@ test('a worker that stops while it hashes ends the hashing', async () => {
     } };
     const sums = new Summing({ ...summing, parts: stops }, readerOf(sectors), () => {});
     await sums.read({ base: 0, step: 1 });
-    await assert.rejects(sums.end(), { message: /A worker of this page has stopped \(out of memory\)/ });
+    await assert.rejects(sums.end(), { message: /A background task of this page has crashed \(out of memory\)/ });
 });

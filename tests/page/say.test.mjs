@@ -24,10 +24,10 @@ test('want of memory is said as that, whichever browser or worker has met it', c
             return error;
         }
     };
-    assert.match(messageOf(caught(() => newBytes(Number.MAX_SAFE_INTEGER))), /not enough memory/);
+    assert.match(messageOf(caught(() => newBytes(Number.MAX_SAFE_INTEGER))), /does not have enough memory/);
     context.mock.method(WebAssembly.Memory.prototype, 'grow', () => { throw new RangeError('whatever a browser says'); });
     const long = new Uint8Array(2352 * 30000);
-    assert.match(messageOf(caught(() => calls.survey(long, 0))), /not enough memory/);
+    assert.match(messageOf(caught(() => calls.survey(long, 0))), /does not have enough memory/);
     const { fault } = serving(calls, JOBS)({ number: 1, job: 'survey', pieces: [long], first: 0, args: {} });
     assert.equal(fault.code, 'no-memory');
     assert.equal(messageOf(new Error('block 5 is damaged')), 'block 5 is damaged');

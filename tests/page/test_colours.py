@@ -25,7 +25,7 @@ COLOURS: list[tuple[str, str, list[str], float]] = [
     ('the ring of the focus', 'focus', GROUNDS, 3),
     ('E, data damaged', 'f-edc', MARKS, 3),
     ('P, parity only', 'f-parity', MARKS, 3),
-    ('A, another address', 'f-address', MARKS, 3),
+    ('A, wrong address', 'f-address', MARKS, 3),
     ('S, sync or mode lost', 'f-lost', MARKS, 3),
     ('a letter on these', 'panel', FINDINGS, 4.5),
     ('a byte in a field, and the name of the field', 'ink', FIELDS, 4.5),

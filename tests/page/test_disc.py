@@ -186,7 +186,7 @@ class Disc(PageTest):
                 browser.wait(VERDICT, 'There is no Mode 1 sector here')
                 browser.wait('.sha1', sha1(audio))
                 browser.send('#map', Keys.END)
-                waited(lambda: self.place() == 'Block 499, no sync field: audio, or nothing that is known', self.place())
+                waited(lambda: self.place() == 'Block 499, no sync field: audio, or an unknown format', self.place())
 
     def test_more_images_than_one_beside_the_open_one_are_refused(self) -> None:
         browser = self.opened(file_of(discs.game()))
@@ -335,7 +335,7 @@ class Disc(PageTest):
                             (Keys.PAGE_UP, 0), ('r', SECTORS), (Keys.ARROW_LEFT, SECTORS - 1), (Keys.PAGE_DOWN, last), ('p', 101)):
             browser.press(keys)
             self.assertEqual(self.at(), block, keys)
-        self.assertEqual(self.place(), 'Block 101, no sync field: audio, or nothing that is known, inside Mode 1: sync field or mode lost')
+        self.assertEqual(self.place(), 'Block 101, no sync field: audio, or an unknown format, inside Mode 1: sync field or mode lost')
         browser.press('R')
         self.assertEqual(self.at(), 0)
         browser.press('n')

@@ -163,7 +163,7 @@ class Messages(PageTest):
         self.press('Export texts')
         self.browser.wait('#panel-text .progress')
         self.press('Export texts')
-        self.browser.wait('#panel-text .is-busy', 'Another job runs here. Do it again when that has ended, or press Cancel first.')
+        self.browser.wait('#panel-text .is-busy', 'Another job is running here. Wait until it has finished, or cancel it first.')
         self.press('Cancel')
         self.browser.run('openGate()')
         common.waited(lambda: self.browser.run("return document.querySelector('.is-busy') === null"), 'a job that has ended runs')

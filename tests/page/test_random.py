@@ -328,9 +328,9 @@ class Random(PageTest):
         self.browser.press(Keys.ESCAPE)
         self.browser.wait(f'{card} .job-end .say.warn', common.text('endTheSaving'))
         if self.dice.random() < 0.5:
-            self.press('Go on saving')
+            self.press('Keep saving')
             return
-        self.press('End it')
+        self.press('Stop and discard')
         self.browser.run('chosen.release()')
         self.browser.wait(f'{card} .say', 'Cancelled.')
         self.assertEqual(self.browser.run('return [chosen.state, chosen.removed]'), ['aborted', True])

@@ -26,41 +26,41 @@ export const timeLeft = '{time} left';
 export const megabytesOf = '{done} of {all} MB';
 export const megabytesASecond = '{rate} MB/s';
 export const thingsOf = '{done} of {all} {things}';
-export const endTheSaving = 'End the saving?';
-export const noImageIsKept = 'Then no image is kept.';
-export const goOnSaving = 'Go on saving';
-export const endIt = 'End it';
+export const endTheSaving = 'Stop saving?';
+export const noImageIsKept = 'The unfinished image will be discarded.';
+export const goOnSaving = 'Keep saving';
+export const endIt = 'Stop and discard';
 
 // refused actions, and the reasons
 export const notOpened = 'Not opened: {names}.';
 export const imageBeingSaved = 'An image is being saved.';
-export const anotherJobRuns = 'Another job runs here. Do it again when that has ended, or press Cancel first.';
-export const againWhenEnded = 'Do it again when that has ended, or press Cancel there first.';
+export const anotherJobRuns = 'Another job is running here. Wait until it has finished, or cancel it first.';
+export const againWhenEnded = 'Wait until it has finished, or cancel it first.';
 export const alsoNeeds = '{sheet} also needs {names}.';
 export const openAllTogether = 'Open them all together.';
-export const fileIsShorter = 'The file is shorter than it was when it was opened.';
-export const noMemoryLeft = 'This browser has not enough memory left. Close other tabs, then try again.';
-export const workerStopped = 'A worker of this page has stopped. Try it again: then a new one starts.';
-export const workerStoppedFor = 'A worker of this page has stopped ({why}). Try it again: then a new one starts.';
+export const fileIsShorter = 'The file has become shorter since it was opened.';
+export const noMemoryLeft = 'This browser does not have enough memory left. Close other tabs, then try again.';
+export const workerStopped = 'A background task of this page has crashed. Try again: it will be restarted.';
+export const workerStoppedFor = 'A background task of this page has crashed ({why}). Try again: it will be restarted.';
 
 // the kinds of sectors on the map; the second text of a kind describes a single sector
 export const modeOne = 'Mode 1';
 export const noSync = 'audio, no sync';
-export const noSyncField = 'no sync field: audio, or nothing that is known';
+export const noSyncField = 'no sync field: audio, or an unknown format';
 export const modeTwo = 'Mode 2';
 export const modeZero = 'Mode 0';
 export const otherMode = 'other mode';
-export const unknownMode = 'an unknown mode';
+export const unknownMode = 'unknown mode';
 export const dataDamaged = 'data damaged';
 export const parityOnly = 'parity only';
-export const otherAddress = 'other address';
+export const otherAddress = 'wrong address';
 export const syncOrModeLost = 'sync or mode lost';
 
 // a line of the script, after “It”
 export const lineFits = 'fits';
 export const lineDoesNotFit = 'does not fit: {why}';
-export const scriptIsLong = 'It has more than 4 MB, or more than 150,000 lines. Check, Apply, Publish and Save work with all of it. The ' +
-    'other panels do not mark what it changes.';
+export const scriptIsLong = 'It is larger than 4 MB or longer than 150,000 lines. Check, Apply, Publish, and Save work with all of it. ' +
+    'The other panels do not highlight its changes.';
 
 // ---- end of everywhere
 
