@@ -88,7 +88,7 @@ class States(PageTest):
     def to_start_job(self) -> None:
         """A job is selected: the place to drop files lists those that it needs."""
         self.browser.run('HTMLInputElement.prototype.click = function () {}')
-        self.press('Play a patch')
+        self.press('Apply a patch')
         self.browser.wait('#wanted', 'together with its patch')
 
     def to_start_refused(self) -> None:

@@ -68,7 +68,7 @@ class Kept(PageTest):
             self.browser.wait(f'{place} .say.warn', common.text('imageBeingSaved'))
         self.press('Open it instead')
         self.press('Set the base')
-        self.browser.wait('#disc-line form', 'Set it only if a script or a list counts the blocks of this file from another number.')
+        self.browser.wait('#disc-line form', 'Set it only if a script or list numbers the blocks of this file differently.')
         self.press('Set')
         self.browser.wait('#disc-line .name', 'first.bin')
         self.browser.wait('#second-title', 'second.bin')

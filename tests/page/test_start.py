@@ -39,7 +39,7 @@ class Start(PageTest):
         self.browser.run(ASKED)
         for width in (1280, 360):
             self.browser.size(width)
-            for job, words in (('Play a patch', 'the disc image together with its patch'), ('Translate a disc', 'its cue sheet with all BINs'),
+            for job, words in (('Apply a patch', 'the disc image together with its patch'), ('Translate a disc', 'its cue sheet with all BINs'),
                                ('Repair or compare dumps', 'the second dump with it')):
                 self.browser.run('asked = 0')
                 self.press(job)
@@ -53,7 +53,7 @@ class Start(PageTest):
 
     def test_the_notes_say_what_cdpatch_is_for_and_what_its_words_mean(self) -> None:
         self.browser.click('[popovertarget=about]:not(.shut)')
-        self.browser.wait('#about p', 'cdpatch puts patches on raw CD images')
+        self.browser.wait('#about p', 'cdpatch applies patches to raw CD images')
         self.browser.click('#about .shut')
         self.browser.click('[popovertarget=words]:not(.shut)')
         words = self.browser.run('''return [...document.querySelectorAll('#words dt')].map(it => [it.innerText, it.nextSibling.innerText])''')
@@ -91,7 +91,7 @@ class Start(PageTest):
         self.leads('Open files', 'map', 'disc')
         self.setUp()
         self.browser.run(ASKED)
-        self.press('Play a patch')
+        self.press('Apply a patch')
         self.open_files(discs.written(game=discs.game())['game'])
         self.browser.wait('#panel-script .side', 'Now open the patch: its script (a text file), or its patcher (a page, .html).')
         self.browser.wait('#panel-script .side .btn.main', 'Open the patch…')

@@ -257,7 +257,7 @@ class Coming(Stranger):
         self.browser.open(f'{server.url}/index.html')
         inside = 'document.querySelector("iframe").contentDocument'
         said = f'(it => it?.checkVisibility() && it.innerText)({inside}.querySelector("#not-started"))'
-        self.assertIn('cdpatch does not start inside another page.', self.browser.awaited(said))
+        self.assertIn('cdpatch does not run inside another page.', self.browser.awaited(said))
         self.assertEqual(self.browser.run(f'return {inside}.querySelector("#start").hidden'), True)
 
 

@@ -83,18 +83,17 @@ export const frameFilesToOpen = 'Files to open';
 export const frameOpenImage = 'Open image';
 
 // shown until the page has started
-export const frameHasNotStarted = 'cdpatch has not started.';
-export const frameWhyNotStarted = 'Either this browser cannot run it (any browser since the middle of 2024 can, with scripts allowed), ' +
-    'or the ' +
-    'program in this file was changed: then get the file again from where you trust it.';
-export const frameNotInsideAnother = 'cdpatch does not start inside another page.';
+export const frameHasNotStarted = 'cdpatch could not start.';
+export const frameWhyNotStarted = 'Either your browser cannot run it (any browser from mid-2024 on can, if JavaScript is allowed), or ' +
+    'this file has been modified. In that case get it again from a source you trust.';
+export const frameNotInsideAnother = 'cdpatch does not run inside another page.';
 export const frameOpenTheFile = 'Open the file cdpatch.html itself.';
 
 // the first screen
 export const framePatchTranslateRepair = 'Patch, translate and repair CD images.';
 export const frameNeverChanged = 'Your file is never changed: cdpatch saves a new one.';
 export const frameWhatYouCanDo = 'What you can do';
-export const framePlayPatch = 'Play a patch';
+export const framePlayPatch = 'Apply a patch';
 export const framePutTranslation = 'Choose your disc image and a patch for it, a fan translation for example.';
 export const frameTranslateDisc = 'Translate a disc';
 export const frameFindTexts = 'Choose the disc image: find its texts, write new ones, publish a patch.';
@@ -102,24 +101,23 @@ export const frameRepairDump = 'Repair or compare dumps';
 export const frameSeeDamage = 'Choose one dump or two: see damage on a map, repair it, see what differs.';
 export const frameOpenFilesHere = 'Open files';
 export const frameOpenFiles = 'Open files…';
-export const frameOrTryExample = 'or {example}: a small one, with some damage and the Japanese text {text}';
-export const frameTryExample = 'try it with an example disc';
+export const frameOrTryExample = 'or {example} that has some damage and the Japanese text {text}';
+export const frameTryExample = 'try it with a small example disc';
 export const frameTakesFiles = 'Takes raw images (.bin, .img), their .cue, patch scripts and patcher pages; not ISO or CHD.';
 export const frameNothingLeavesYourComputer = 'Nothing leaves your computer.';
-export const frameOneFileOffline = 'This page is one file without any connection. It works offline.';
+export const frameOneFileOffline = 'This page is a single file and makes no network connections. It works offline.';
 
 // words and their meanings
 export const frameWordBlock = 'Block';
-export const frameBlockMeans = 'A sector by its number on the disc. Block 0 is the first sector of the first track. Scripts write it in ' +
+export const frameBlockMeans = 'The number of a sector on the disc. Block 0 is the first sector of the first track. Scripts write it in ' +
     'decimal.';
 export const frameWordOffset = 'Offset';
 export const frameOffsetMeans = 'A place in the 2048 bytes of user data of one block: 0 to 2047. Byte 0 of the user data is byte 16 of ' +
     'the ' +
     'sector.';
 export const frameWordBase = 'Base';
-export const frameBaseMeans = 'The block number of this file’s first sector: 0 for a whole disc, more for the BIN of a later track. ' +
-    'The page ' +
-    'reads it from the headers of Mode 1 sectors. Set it only if a script or a list counts the blocks of this file from another number.';
+export const frameBaseMeans = 'The block number of this file’s first sector: 0 for a whole disc, more for the BIN of a later track. The ' +
+    'page reads it from the headers of Mode 1 sectors. Set it only if a script or list numbers the blocks of this file differently.';
 export const frameWordUserData = 'User data';
 export const frameUserDataMeans = 'The 2048 bytes of a Mode 1 sector in which files are stored. Patches write here; only “address” ' +
     'writes in ' +
@@ -139,48 +137,48 @@ export const WORDS = [
     ['Dump', 'An image that was read from a disc.'],
     ['Mode 1', 'A kind of sector, with 2048 bytes of user data, EDC and parity: the only one that can be patched.'],
     ['Cue sheet', 'A text file (.cue) that names the BIN files of a disc, and the tracks in them.'],
-    ['Patcher', 'This page with a script in it, which its author publishes for players.'],
+    ['Patcher', 'A copy of this page with a script built in, which the script’s author publishes for players.'],
 ];
 
 // the keys, each between `, and their effects; an entry without keys is a heading
 export const KEYS = [
     ['', 'Anywhere'], ['`F6`, `Shift`+`F6`', 'next, previous part of the panel'],
-    ['`Esc`', 'close a note, else cancel what runs in this card'],
+    ['`Esc`', 'close the note, or cancel the task in this card'],
     ['', 'Map'], ['`←` `→`', 'one sector'], ['`↑` `↓`', 'one row'], ['`Page Up`, `Page Down`', '4500 sectors, a minute'],
     ['`Home`, `End`', 'first, last sector'], ['`N`, `P`', 'next, previous finding'], ['`R`, `Shift`+`R`', 'next, previous run'],
     ['`G`', 'go to a block'], ['`Enter`', 'open the sector'],
-    ['', 'Sector'], ['`←` `→` `↑` `↓`', 'one byte, one row'], ['`0` to `9`, `A` to `F`', 'change the byte: a line of the script'],
+    ['', 'Sector'], ['`←` `→` `↑` `↓`', 'one byte, one row'], ['`0` to `9`, `A` to `F`', 'change the byte: a patch in the script'],
     ['`T`', 'type texts; Esc goes back to digits'], ['`Shift`+`arrows`, `Ctrl`+`A`', 'select'],
     ['`Ctrl`+`C`, `Ctrl`+`V`', 'copy, paste: digits, or texts in their column'],
-    ['`Ctrl`+`Z`', 'take back the bytes that were typed last'],
+    ['`Ctrl`+`Z`', 'undo the last typed bytes'],
     ['`Page Up`, `Page Down`', 'one screen; past the end, the next sector'], ['`Esc`', 'back to the map'],
     ['', 'Script'], ['`Ctrl`+`Enter`, `Ctrl`+`S`', 'Check, save (on a Mac ⌘ for Ctrl)'],
-    ['`F8`, `Shift`+`F8`', 'next, previous fault or refusal'],
+    ['`F8`, `Shift`+`F8`', 'next, previous error or refusal'],
     ['`Ctrl`+`Z`, `Ctrl`+`Y`', 'undo, redo'],
-    ['', 'Text'], ['`Enter`', 'find; in “New text”: replace and go on'],
+    ['', 'Text'], ['`Enter`', 'find; in “New text”: replace and continue'],
 ];
 
 // the notes of the footer, and About
 export const frameProvedCode = 'Every sector that this page makes, every line of a script that it reads, and every finding comes from ' +
     'code ' +
     'whose promises are proved theorems: libcdpatch, which is in this file as WebAssembly.';
-export const frameNotProved = 'JavaScript opens the files, moves the bytes, adds up the counts and draws. It is tested against the ' +
-    'program ' +
-    'cdpatch, byte for byte, and not proved. The compiler, the tool that makes this module of the proved one of 64 bits, and your ' +
-    'browser are trusted.';
-export const frameScriptsWereApplied = 'Scripts of two images, of new texts and to undo were applied by the proved code before you see ' +
-    'them, ' +
-    'and gave just what they should. That a sector inside Mode 1 has lost its sync or mode is a guess of JavaScript.';
-export const frameWhatItIsFor = 'cdpatch puts patches on raw CD images, helps to translate discs, and finds and repairs damaged sectors.';
-export const framePageIsOneFile = 'This page is one file. It has no connection, sends nothing, and works offline: save it where you like.';
-export const frameTriedIn = 'Tried in Chromium 156, Firefox ESR 153 and WebKitGTK 2.50, the engine of Safari. Chrome and Edge write a ' +
-    'patched ' +
-    'image straight to the file that you choose; the others give it to their downloads.';
-export const frameMadeWith = 'Made with {tools}. Of the same sources these make the same bytes.';
-export const frameHashOfPage = 'SHA-256 of this page, without the patch of a patcher: {digits}';
-export const framePageSaysItself = 'The page says it of itself, and a changed page can say anything. To be sure, have another program ' +
-    'calculate that of the file.';
-export const frameHashIsNotKnown = 'not known, for browsers calculate it only for a page from a disk or over https.';
+export const frameNotProved = 'JavaScript opens the files, moves the bytes, adds up the counts, and draws. It is tested against the ' +
+    'program cdpatch, byte for byte, but not proved. You still have to trust the compiler, the tool that converts the proved 64-bit ' +
+    'module to this 32-bit one, and your browser.';
+export const frameScriptsWereApplied = 'Before you see a script made from two images or from new texts, or an undo script, the proved ' +
+    'code has applied it, and the result was exactly as intended. That a sector in a Mode 1 track has lost its sync field or mode byte ' +
+    'is only a guess, made by the JavaScript.';
+export const frameWhatItIsFor = 'cdpatch applies patches to raw CD images, helps to translate discs, and finds and repairs damaged ' +
+    'sectors.';
+export const framePageIsOneFile = 'This page is a single file. It makes no network connections, sends nothing, and works offline: save ' +
+    'it where you like.';
+export const frameTriedIn = 'Tested in Chromium 156, Firefox ESR 153, and WebKitGTK 2.50, the engine of Safari. Chrome and Edge write a ' +
+    'patched image straight to the file that you choose; other browsers save it to the download folder.';
+export const frameMadeWith = 'Made with {tools}. With the same sources these tools produce exactly the same file.';
+export const frameHashOfPage = 'SHA-256 of this page (not counting a patcher’s patch): {digits}';
+export const framePageSaysItself = 'The page computes this itself, and a modified page could show anything. To be sure, compute the ' +
+    'SHA-256 of the file with another program.';
+export const frameHashIsNotKnown = 'not known: browsers calculate it only for a page opened from a disk or over https.';
 export const frameNotices = 'Notices';
 export const frameThirdPartyNotices = 'Third-party notices';
 
