@@ -265,9 +265,11 @@ class Second(PageTest):
         files = discs.written(game=image, more=image + AUDIO[:2 * SECTOR_SIZE], fewer=image[:-7 * SECTOR_SIZE], tail=image + b'tail', later=image[SECTOR_SIZE:])
         self.open_files(files['game'])
         self.browser.wait('#disc-line .lead', 'Mode 1')
-        for name, words in {'more': 'It has 2 sectors more', 'fewer': 'It has 7 sectors fewer', 'tail': 'It has another tail', 'later': 'It is shifted: it begins 1 sector later'}.items():
+        for name, words in {'more': 'It has 2 sectors more than game.bin', 'fewer': 'It has 7 sectors fewer than game.bin',
+                            'tail': 'The bytes after its last sector differ from those of game.bin',
+                            'later': 'It is shifted: it begins 1 sector later than game.bin'}.items():
             self.open_files(files[name])
-            self.browser.wait('#sheet', f'{words} than game.bin. A repair uses the blocks that both have.')
+            self.browser.wait('#sheet', f'{words}. A repair uses the blocks that both images have.')
             buttons = self.browser.run('return [...document.querySelectorAll("#sheet button")].map(it => it.innerText)')
             self.assertEqual(buttons, ['Repair game.bin from it', f'Repair {name}.bin from game.bin', 'Open it instead', 'Cancel'])
             self.browser.answer('Cancel')
@@ -325,7 +327,7 @@ class Second(PageTest):
     def test_an_image_of_another_part_of_the_disc_can_only_be_opened_instead(self) -> None:
         users = [b'%d' % block for block in range(40)]
         self.asked(image_of(users), image_of(users, 1000))
-        self.browser.wait('#sheet', 'It is another part of a disc than game.bin.')
+        self.browser.wait('#sheet', 'It is a different part of the disc from game.bin.')
         self.assertEqual(self.browser.run('return [...document.querySelectorAll("#sheet button")].map(it => it.innerText)'), ['Open it instead', 'Cancel'])
         self.assertEqual(self.browser.run('return document.querySelector("#sheet .main").innerText'), 'Open it instead')
 

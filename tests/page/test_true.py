@@ -92,7 +92,7 @@ class Sayings(PageTest):
         file = discs.written(game=common.damaged(discs.game(), 40))['game']
         self.open_image(file)
         self.open_files(file)
-        self.browser.wait('#sheet', 'This is the open image itself.')
+        self.browser.wait('#sheet', 'This is the image that is already open.')
 
     def test_a_file_that_is_listed_late_is_named_all_the_same(self) -> None:
         image = common.damaged(discs.game(), discs.first_block())
@@ -220,7 +220,7 @@ class Sayings(PageTest):
                 self.browser.wait('#panel-script header', path.name)
                 self.assertTrue(any(lines.strip() in row for row in self.rows()), self.rows())
                 if name in ('mark', 'utf16'):
-                    self.browser.wait('#messages .say.warn', 'which cdpatch does not read: ')
+                    self.browser.wait('#messages .say.warn', 'which the command cdpatch cannot read: ')
                     self.browser.wait('#panel-script header .tag.warn', 'not saved')
                 else:
                     self.browser.wait('.editor', 'A script begins with the line')

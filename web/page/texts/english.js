@@ -191,17 +191,17 @@ export const openChooseWithPatch = 'Choose the disc image together with its patc
 export const openChooseImage = 'Choose the disc image, or its cue sheet with all BINs';
 export const openChooseBothDumps = 'Choose the dump, and the second dump with it if you have one';
 export const openDropHere = 'Drop your files here';
-export const openSavedFirst = 'An image is being saved: nothing is opened before that has ended.';
+export const openSavedFirst = 'An image is being saved. Nothing else can be opened until that is done.';
 export const openDropToOpen = 'Drop it to open it: a disc image, its patch, or both.';
-export const openDropImage = 'An image: you choose whether {name} is repaired from it, compared, or closed for it.';
+export const openDropImage = 'An image: you can repair {name} from it, compare the two, or open it instead.';
 export const openDropScript = 'A script: it is opened and checked.';
 export const openDropScriptInPlace = 'A script: it is opened in place of the one that is open, and checked.';
 export const openExampleName = 'Example disc.bin';
 
 // a script in an encoding that cdpatch does not read
-export const openFileIsEncoded = 'This file is {encoding}, which cdpatch does not read: {name}';
-export const openUtf8WithMark = 'UTF-8 with a mark';
-export const openWasReadHere = 'It was read here all the same.';
+export const openFileIsEncoded = 'This file is {encoding}, which the command cdpatch cannot read: {name}';
+export const openUtf8WithMark = 'UTF-8 with a byte order mark (BOM)';
+export const openWasReadHere = 'This page can read it.';
 export const openSaveAsUtf8 = 'Save it as plain UTF-8';
 
 // the reasons why files are not opened
@@ -211,7 +211,7 @@ export const openIsOpenAlready = 'An image is open already: {name}. Open one mor
 export const openSheetLacks = 'The cue sheet does not name it: {sheet}.|The cue sheet does not name them: {sheet}.';
 export const openTooManySectors = 'An image has at most {most} sectors, and this one has more: {name}.';
 export const openCompressedImage = 'A compressed image (CHD), which cdpatch cannot read: {name}';
-export const openMakeRawImage = 'Make a raw image of it first, in a terminal. Then open the new .cue and .bin here.';
+export const openMakeRawImage = 'Convert it to a raw image first, in a terminal. Then open the new .cue and .bin here.';
 export const openRenameToDisc = 'Rename it to disc.chd before that: a terminal may read a part of its name as a command.';
 export const openWaitForImage = '{names}: open the disc image that it is for.|{names}: open the disc image that they are for.';
 export const openThenTheyAreUsed = 'It is used as soon as the image is open.|They are used as soon as the image is open.';
@@ -223,15 +223,15 @@ export const openRepairOtherFrom = 'Repair {name} from {other}';
 export const openWhatToDoWith = 'What do you want to do with {name}?';
 export const openCompareIt = 'Compare';
 export const openItInstead = 'Open it instead';
-export const openIsImageItself = 'This is the open image itself.';
-export const openIsAnotherPart = 'It is another part of a disc than {name}.';
-export const openHasAnotherTail = 'It has another tail than {name}.';
+export const openIsImageItself = 'This is the image that is already open.';
+export const openIsAnotherPart = 'It is a different part of the disc from {name}.';
+export const openHasAnotherTail = 'The bytes after its last sector differ from those of {name}.';
 export const openHasMoreSectors = 'It has {n} sector more than {name}.|It has {n} sectors more than {name}.';
 export const openHasFewerSectors = 'It has {n} sector fewer than {name}.|It has {n} sectors fewer than {name}.';
 export const openLater = 'It is shifted: it begins {n} sector later than {name}.|It is shifted: it begins {n} sectors later than {name}.';
 export const openEarlier =
     'It is shifted: it begins {n} sector earlier than {name}.|It is shifted: it begins {n} sectors earlier than {name}.';
-export const openRepairUsesCommon = 'A repair uses the blocks that both have. Only images of the same blocks are compared.';
+export const openRepairUsesCommon = 'A repair uses the blocks that both images have. A comparison needs two images with the same blocks.';
 
 // ---- end of opening files
 
