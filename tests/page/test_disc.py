@@ -98,7 +98,7 @@ class Disc(PageTest):
         image = scratched()
         browser = self.opened(file_of(image))
         self.assertEqual(browser.text(VERDICT).split('.')[0], f'9 of {SECTORS - 2} Mode 1 sectors are damaged, in 1 place; '
-                         '2 lost their sync field or mode; 1 has another address')
+                         '2 lost their sync field or mode byte; 1 has a wrong address')
         browser.wait('.sha1', sha1(image))
         self.assertEqual(browser.attempts(), [])
 
@@ -183,7 +183,7 @@ class Disc(PageTest):
             with self.subTest(sheets=len(sheets)):
                 self.setUp()
                 browser = self.opened(file_of(audio), *sheets)
-                browser.wait(VERDICT, 'There is no Mode 1 sector here')
+                browser.wait(VERDICT, 'No Mode 1 sectors: this is audio, or Mode 2')
                 browser.wait('.sha1', sha1(audio))
                 browser.send('#map', Keys.END)
                 waited(lambda: self.place() == 'Block 499, no sync field: audio, or an unknown format', self.place())
@@ -297,7 +297,7 @@ class Disc(PageTest):
         browser.wait('#panel-publish', 'Your image was not read to its end.')
         browser.click('#tab-disc')
         browser.click(f'{VERDICT} button')
-        browser.wait(VERDICT, 'Mode 1 sectors fit')
+        browser.wait(VERDICT, 'Mode 1 sectors match')
 
     def test_an_image_is_read_once_for_its_map_and_its_hashes(self) -> None:
         browser = self.browser

@@ -159,7 +159,7 @@ class Kept(PageTest):
         self.browser.press(Keys.ESCAPE)
         self.browser.run('letGo()')
         self.browser.click('#tab-disc')
-        self.browser.wait('#disc-line .lead', 'Mode 1 sectors fit')
+        self.browser.wait('#disc-line .lead', 'Mode 1 sectors match')
         self.wait_for_hash()
 
     def test_no_patcher_is_opened_and_none_is_left_while_an_image_is_saved(self) -> None:

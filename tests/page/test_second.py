@@ -343,7 +343,7 @@ class Second(PageTest):
         browser = self.browser
         files = discs.written(game=discs.game() * 120, other=discs.game() * 120)
         self.open_files(files['game'])
-        browser.wait('#disc-line .lead', 'Mode 1 sectors fit')
+        browser.wait('#disc-line .lead', 'Mode 1 sectors match')
         browser.run('''const post = Worker.prototype.postMessage; Object.assign(globalThis, { late: [], ranges: 0 });
             Worker.prototype.postMessage = function (...given) {
                 globalThis.ranges += Number(Boolean(given[0].pieces));
