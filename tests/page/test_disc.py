@@ -92,7 +92,7 @@ class Disc(PageTest):
         browser.run("""const choice = document.querySelector('#findings select');
             choice.value = 'list';
             choice.dispatchEvent(new Event('change'));""")
-        browser.wait('#findings', 'to the byte')
+        browser.wait('#findings', 'Exactly what the command cdpatch prints')
 
     def test_it_opens_by_the_button_from_a_file_and_sends_nothing(self) -> None:
         image = scratched()
@@ -335,7 +335,7 @@ class Disc(PageTest):
                             (Keys.PAGE_UP, 0), ('r', SECTORS), (Keys.ARROW_LEFT, SECTORS - 1), (Keys.PAGE_DOWN, last), ('p', 101)):
             browser.press(keys)
             self.assertEqual(self.at(), block, keys)
-        self.assertEqual(self.place(), 'Block 101, no sync field: audio, or an unknown format, inside Mode 1: sync field or mode lost')
+        self.assertEqual(self.place(), 'Block 101, no sync field: audio, or an unknown format, in a Mode 1 track: sync field or mode byte lost')
         browser.press('R')
         self.assertEqual(self.at(), 0)
         browser.press('n')

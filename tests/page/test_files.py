@@ -76,7 +76,7 @@ class Files(PageTest):
         self.browser.type('#files-filter', 'dir4/file41')
         self.assertEqual([row.split(' ')[0] for row in self.shown()], [name for name in names if '/DIR4/FILE41' in name])
         self.browser.type('#files-filter', 'nothing')
-        self.assertEqual(self.shown(), ['No name has this in it.'])
+        self.assertEqual(self.shown(), ['No matching files.'])
 
     def test_a_file_is_saved_as_it_is_on_the_disc(self) -> None:
         self.begin(discs.game())
@@ -87,7 +87,7 @@ class Files(PageTest):
 
     def test_a_file_of_the_same_or_another_length_is_replaced_as_by_cdscript(self) -> None:
         long = discs.messages().replace(discs.START, b'Start   ')
-        for fresh, said in ((long, ''), (long[:1500], f'{MESSAGES} had {len(long):,} bytes, and gets 1,500.'), (long + b'more', 'and gets')):
+        for fresh, said in ((long, ''), (long[:1500], f'{MESSAGES}: {len(long):,} bytes, now 1,500.'), (long + b'more', ' bytes, now ')):
             with self.subTest(size=len(fresh)):
                 self.setUp()
                 image = self.begin(discs.game())
@@ -105,21 +105,21 @@ class Files(PageTest):
         image = self.begin(discs.game())
         self.choose(MESSAGES)
         self.give(discs.messages()[:1500])
-        self.browser.wait('#findings .say.good', 'gets 1,500')
+        self.browser.wait('#findings .say.good', 'bytes, now 1,500')
         path = self.give(discs.messages().replace(discs.START, b'Start   '))
-        self.browser.wait('#findings .say.good', 'that replaced the file before')
+        self.browser.wait('#findings .say.good', 'earlier line')
         self.press('Open Script')
         self.assertEqual(self.script_text(), self.script_of(image, path))
         self.browser.click('#tab-disc')
         self.give(discs.messages())
-        self.browser.wait('#findings .say', 'that replaced the file before')
+        self.browser.wait('#findings .say', 'earlier line')
         self.assertIn(common.text('discNewFileIsSame'), self.browser.text('#findings .say'))
 
     def test_a_file_that_is_replaced_in_a_later_session_has_the_lines_of_that_one_only(self) -> None:
         image = self.begin(discs.game())
         self.choose(MESSAGES)
         first = self.give(discs.messages()[:1500])
-        self.browser.wait('#findings .say.good', 'gets 1,500')
+        self.browser.wait('#findings .say.good', 'bytes, now 1,500')
         saved = discs.written(session=self.script_of(image, first))['session']
         self.setUp()
         self.open_files(image, saved)
@@ -128,9 +128,9 @@ class Files(PageTest):
         self.browser.click('#findings [data-tab=files]')
         self.choose(MESSAGES)
         self.press('Extract')
-        self.browser.wait('#findings .say.good', 'This is the file on the disc, without the changes of the script.')
+        self.browser.wait('#findings .say.good', 'This is the file on the disc, without the patches of the script.')
         path = self.give(discs.messages().replace(discs.START, b'Start   ')[:1400])
-        self.browser.wait('#findings .say.good', 'that replaced the file before')
+        self.browser.wait('#findings .say.good', 'earlier line')
         self.press('Open Script')
         self.assertEqual(self.script_text(), self.script_of(image, path))
         self.open_script(discs.written(mine=f'cdpatch 1\nfill {discs.first_block()} 9 2 00\n')['mine'])
@@ -170,7 +170,7 @@ class Files(PageTest):
         path = discs.written(plain=common.image_of([b'no volume'] * 30))['plain']
         self.open_image(path)
         self.browser.click('#findings [data-tab=files]')
-        self.browser.wait('#findings .files', 'No ISO 9660 volume was found here')
+        self.browser.wait('#findings .files', 'No ISO 9660 file system was found')
         self.assertNotIn('volume', self.browser.text('#findings .foot'))
 
     def test_all_tracks_of_a_cue_sheet_are_named(self) -> None:

@@ -308,7 +308,7 @@ export const discPixelIsSector = '1 pixel = 1 sector';
 export const discPixelIsSectors = '1 pixel = {n} sectors, the worst shown';
 export const discMinutesOnRuler = '{minute} min';
 export const discNoSectorChosen = 'No sector is chosen.';
-export const discPressLegendEntry = 'Legend: press an entry to show it alone';
+export const discPressLegendEntry = 'Legend: select an entry to show only that kind';
 export const discToPreviousFinding = '◂ Previous finding';
 export const discToNextFinding = 'Next finding ▸';
 
@@ -317,7 +317,7 @@ export const discBlockNumber = 'Block {block}';
 export const discSpokenSector = 'Block {block}, {kind}';
 export const discSpokenFinding = 'Block {block}, {kind}, {finding}';
 export const discSectorNotRead = 'not read yet';
-export const discLostInModeOne = 'inside Mode 1: sync field or mode lost';
+export const discLostInModeOne = 'in a Mode 1 track: sync field or mode byte lost';
 export const discIsDamaged = 'damaged';
 export const discIsDamagedBy = 'damaged: {codes}';
 export const discAddressOfSector = 'address {address}';
@@ -342,7 +342,7 @@ export const discSectorsLabel = 'sectors';
 export const discWhatColumn = 'What';
 export const discLooksLikeColumn = 'Looks like';
 export const discLooksLikeIsGuess = '“Looks like” is a guess from the distances. The other columns are what cdpatch found.';
-export const discMoreFindings = 'and {n} more: “As text” has all';
+export const discMoreFindings = 'and {n} more (all are under “As text”)';
 
 // the findings at a place
 export const discDataFound = 'data';
@@ -368,7 +368,7 @@ export const discEverySector = 'every {ordinal} sector';
 export const discEverySectorAllOver = 'every {ordinal} sector all over the disc';
 export const discOrdinals = '{n}st|{n}nd|{n}rd|{n}th';
 export const discLooksScratched = 'a scratch: {what}';
-export const discScratchInEachTurn = 'a scratch: about one sector in each turn of the disc';
+export const discScratchInEachTurn = 'a scratch: about one sector per revolution';
 
 // files
 export const discFilterFiles = 'Filter';
@@ -379,16 +379,16 @@ export const discBlockColumn = 'Block';
 export const discBlockLabel = 'block';
 export const discTheNewFile = 'The new file';
 export const discFilesBeingListed = 'The files are being listed.';
-export const discNoVolumeFound = 'No ISO 9660 volume was found here, so no file can be named.';
+export const discNoVolumeFound = 'No ISO 9660 file system was found, so files cannot be listed.';
 export const discVolumeHasNoFiles = 'The volume has no files.';
-export const discNoNameHasThis = 'No name has this in it.';
+export const discNoNameHasThis = 'No matching files.';
 export const discFilesByBlocks = 'The files of the disc’s ISO 9660 volume, in the order of their blocks.';
 export const discFilesCounted = '{n} file|{n} files';
 export const discFilesOfAll = '{count} of {all}';
 export const discFilesFromTo = '{from}–{to} of {all}';
 export const discPreviousFiles = '◂ Previous';
 export const discNextFiles = 'Next ▸';
-export const discChooseFile = 'Choose a file: its first sector opens, and here it can be saved or replaced.';
+export const discChooseFile = 'Select a file to see its first sector and to save or replace it.';
 export const discExtractFile = 'Extract…';
 export const discReplaceFile = 'Replace…';
 export const discJobCancelled = 'Cancelled.';
@@ -396,17 +396,17 @@ export const discReadingFile = 'Reading the file';
 export const discNoFileSaved = 'No file was saved.';
 export const discFileSaved = 'Saved: {name}';
 export const discSectorsNotModeOne =
-    '{n} sector of it not Mode 1: other bytes may stand there.|{n} sectors of it not Mode 1: other bytes may stand there.';
+    '{n} of its sectors is not Mode 1, so its contents may be wrong.|{n} of its sectors are not Mode 1, so its contents may be wrong.';
 export const discMakingLines = 'Making the lines';
 export const discNothingAdded = 'Nothing was added to the script.';
 export const discNewFileIsSame = 'The new file has the same bytes.';
-export const discScriptTooLongToReplace = 'The script would be longer than cdpatch takes. cdscript replace-file makes it.';
+export const discScriptTooLongToReplace = 'The script would be longer than cdpatch accepts. Use cdscript replace-file instead.';
 export const discLinesAdded = '{n} line added to the script.|{n} lines added to the script.';
-export const discEarlierLinesGone = '{n} line that replaced the file before is gone.|{n} lines that replaced the file before are gone.';
+export const discEarlierLinesGone = '{n} earlier line for this file was removed.|{n} earlier lines for this file were removed.';
 export const discOtherLinesWrite = 'Line {line} writes in this file too, so it will not be exactly the new one.|\
 {n} other lines write in this file too, the first is line {line}, so it will not be exactly the new one.';
-export const discFileAsOnDisc = 'This is the file on the disc, without the changes of the script.';
-export const discFileChangesLength = '{name} had {before} bytes, and gets {after}.';
+export const discFileAsOnDisc = 'This is the file on the disc, without the patches of the script.';
+export const discFileChangesLength = '{name}: {before} bytes, now {after}.';
 export const discOpenScriptPanel = 'Open Script';
 
 // runs
@@ -414,23 +414,24 @@ export const discRunBlocksColumn = 'Blocks';
 export const discKindColumn = 'Kind';
 export const discBeginsAtColumn = 'Begins at';
 export const discBeginsAtLabel = 'begins at';
-export const discMoreRuns = 'and {n} more: “As text” has all.';
-export const discRunIsNeighbours = 'A run is a row of neighbours of one kind. Begins at: minutes, seconds, frames of 1/75 second.';
+export const discMoreRuns = 'and {n} more (all are under “As text”).';
+export const discRunIsNeighbours = 'A run is a series of neighbouring sectors of one kind. Begins at: minutes, seconds, frames of 1/75 ' +
+    'second.';
 
 // the text that the program prints
 export const discWhichText = 'Which text';
-export const discWhatProgramPrints = 'What cdpatch {verb} prints';
+export const discWhatProgramPrints = 'Output of cdpatch {verb}';
 export const discMoreLinesPrinted = '… {n} more line: Copy and Save have all|… {n} more lines: Copy and Save have all';
-export const discPrintedToTheByte = 'What the command-line program cdpatch prints, to the byte.';
-export const discPrintedButForAddresses = 'What the command-line program cdpatch prints, except for addresses: cdpatch counts from ' +
-    'block 0, and this image begins before block 0.';
+export const discPrintedToTheByte = 'Exactly what the command cdpatch prints.';
+export const discPrintedButForAddresses = 'Exactly what the command cdpatch prints, except for addresses: cdpatch counts from block 0, ' +
+    'and this image begins before block 0.';
 
 // lists of known dumps
 export const discFileLoaded = 'Loaded: {name}';
 export const discDumpsListed = 'It lists {n} known dump.|It lists {n} known dumps.';
 export const discOpenToLookUp = 'Open a disc image, to see whether it is one of them.';
 export const discImageIsLookedUp = 'The open image is looked up in it.';
-export const discNotAListOfDumps = 'Not a list of known dumps that can be read: {name}';
+export const discNotAListOfDumps = 'This list of known dumps cannot be read: {name}';
 export const discInNoListOfDumps = 'in none of the lists of known dumps';
 export const discSizeInListOfDumps = 'in none of the lists of known dumps, but one of this size is: perhaps that dump repairs it';
 export const discKnownBadDump = 'known as a bad dump: {name}';
