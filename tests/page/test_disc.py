@@ -418,7 +418,7 @@ class Disc(PageTest):
         self.assertEqual(blocks, ['10', '400', '1090'])
         browser.run("document.querySelectorAll('#findings tr.sub .fold')[1].click()")
         browser.wait('#sector-title', 'block 400')
-        browser.wait('.say.thin', 'The user data of this sector fit their EDC')
+        browser.wait('.say.thin', 'The user data match their EDC')
 
     def test_the_texts_are_the_programs_to_the_byte(self) -> None:
         path = file_of(scratched(b'tail'))
@@ -507,7 +507,7 @@ class Disc(PageTest):
         browser.press('z', held=Keys.CONTROL)
         waited(lambda: browser.run(changed) == [], 'no changed byte')
         browser.press('z', held=Keys.CONTROL)
-        browser.wait('#announced', 'The last change of the script was not typed here.')
+        browser.wait('#announced', 'The last change to the script was not typed here.')
 
     def test_a_byte_that_is_typed_twice_keeps_what_was_there_first(self) -> None:
         image = discs.game()
@@ -520,7 +520,7 @@ class Disc(PageTest):
     def test_a_damaged_sector_says_what_becomes_of_typed_bytes(self) -> None:
         browser = self.opened(file_of(damaged(discs.game(), 50, 75)))
         browser.press('n')
-        browser.wait('.foot', 'This sector is damaged: Check refuses the change, unless damaged sectors are patched too (carry)')
+        browser.wait('.foot', 'This sector is damaged: Check refuses the patch, unless damaged sectors are patched too (carry)')
         self.go_to(60)
         waited(lambda: 'This sector is damaged' not in browser.text('.foot'), 'a sound sector is called damaged')
 

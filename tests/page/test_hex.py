@@ -31,7 +31,7 @@ class Hex(PageTest):
         for _ in range(7):
             browser.press(Keys.ARROW_RIGHT, held=Keys.SHIFT)
         self.assertEqual(self.selected(), [*range(8)])
-        browser.wait('#panel-disc .foot', '8 bytes selected, from offset 0 on')
+        browser.wait('#panel-disc .foot', '8 bytes selected, starting at offset 0')
         browser.run(CLIPBOARD)
         for label, text in (('Copy as hex', start), ('Copy as text', 'スタート')):
             browser.run("[...document.querySelectorAll('.copies button')].find(it => it.innerText === arguments[0]).click()", label)
@@ -50,8 +50,8 @@ class Hex(PageTest):
         browser.press('c', '0')
         waited(lambda: browser.text('#count-script').startswith('1'), 'no line in the script')
         self.press('Add rebuild to the script')
-        browser.wait('#panel-disc .say.bad', 'Line 2 is rebuild 60 now, before the change.')
-        self.assertEqual(browser.text('#announced'), 'Line 2 is rebuild 60 now, before the change.')
+        browser.wait('#panel-disc .say.bad', 'Line 2 is rebuild 60 now, before the other patches of this sector.')
+        self.assertEqual(browser.text('#announced'), 'Line 2 is rebuild 60 now, before the other patches of this sector.')
         self.assertTrue(self.is_off('rebuild is in the script'))
         self.assertEqual(self.focused().split(': ')[1], 'rebuild is in the script')
         browser.click('#tab-script')
@@ -91,9 +91,9 @@ class Hex(PageTest):
         browser.wait('#announced', f'In the script: {line}')
         browser.press(Keys.ESCAPE)
         self.paste('Ok')
-        browser.wait('#panel-disc .foot', 'These are no pairs of hexadecimal digits.')
+        browser.wait('#panel-disc .foot', 'These are not pairs of hexadecimal digits.')
         self.paste('00' * 2039)
-        browser.wait('#panel-disc .foot', 'These are 2,039 bytes, and only 2038 follow here')
+        browser.wait('#panel-disc .foot', 'You are pasting 2,039 bytes, but there is room for only 2038 here')
         browser.press('t')
         self.paste('é')
         browser.wait('#panel-disc .foot .bad-ink', 'é')
@@ -117,7 +117,7 @@ class Hex(PageTest):
         browser.run('scrollTo(0, 0)')
         place = '''const [keys, hex] = [...document.querySelectorAll('.keys-line, .hex')].map(it => it.getBoundingClientRect());
             return [keys.bottom <= Math.min(hex.top, innerHeight), keys.height < 30]'''
-        for words in ('arrows move · 0–F change · T for text · Ctrl+Z takes back · Ctrl+C copies', 'Esc for digits'):
+        for words in ('arrows move · 0–F change · T for text · Ctrl+Z undoes · Ctrl+C copies', 'Esc for digits'):
             browser.wait('.keys-line', words)
             self.assertEqual(browser.run(place), [True, True], words)
             browser.press('t')
@@ -150,5 +150,5 @@ class Hex(PageTest):
         browser.wait('#panel-disc .foot', '0x21')
         rows = "return [...document.querySelectorAll('.hex .line .o')].slice(1, 5).map(it => it.innerText)"
         self.assertEqual(browser.run(rows), ['0', '16', '32', '48'])
-        browser.run("[...document.querySelectorAll('#panel-disc header button')].find(it => it.innerText.startsWith('Offsets')).click()")
+        browser.run("[...document.querySelectorAll('#panel-disc header button')].find(it => it.innerText === 'Show hex offsets').click()")
         self.assertEqual(browser.run(rows), ['000', '010', '020', '030'])

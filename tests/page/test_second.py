@@ -291,7 +291,7 @@ class Second(PageTest):
         saved = self.browser.downloaded('game (repaired).bin')
         waited(lambda: saved.read_bytes() == with_faults((60, 9), (end + 5, 9)), 'the repaired image')
         saved.unlink()
-        self.sees_second(40, 'other.bin has a sound copy: it will be taken.')
+        self.sees_second(40, 'other.bin has a sound copy, which will be used.')
 
     def sees_second(self, block: int, words: str) -> None:
         """Opens a sector, and waits for this message about it."""
@@ -302,8 +302,8 @@ class Second(PageTest):
         first = bytearray(with_faults((40, 9), (60, 9), (80, 9), (80, 2048)))
         first[100 * SECTOR_SIZE:100 * SECTOR_SIZE + 12] = bytes(12)
         self.pair(bytes(first), with_faults((60, 500)), ('.tally', 'can be repaired'))
-        for block, words in ((40, 'other.bin has a sound copy: it will be taken.'), (60, 'other.bin has no sound copy of it.'),
-                             (80, 'But its data and EDC are others'), (100, 'other.bin has a sound copy: it will be taken.')):
+        for block, words in ((40, 'other.bin has a sound copy, which will be used.'), (60, 'other.bin has no sound copy of it.'),
+                             (80, 'But its data and EDC are different'), (100, 'other.bin has a sound copy, which will be used.')):
             self.sees_second(block, words)
             shown = self.browser.run(f'return Boolean({BUTTON})', 'Repair from another dump')
             self.assertEqual(shown, block == 60, block)
@@ -315,7 +315,7 @@ class Second(PageTest):
         self.press('40')
         self.press('Repair from other.bin')
         self.browser.wait('.tally', 'can be repaired')
-        self.browser.wait('#panel-disc .say', 'other.bin has a sound copy: it will be taken.')
+        self.browser.wait('#panel-disc .say', 'other.bin has a sound copy, which will be used.')
 
     def test_a_dump_with_sectors_missing_is_said_to_be_shifted(self) -> None:
         image = with_faults((40, 9))

@@ -66,8 +66,8 @@ export class SectorCard {
             element('label', { class: 'row small' }, texts.sectorGoToBlock, this.goTo));
         const offsets = button('slim bare', () => {
             this.view.setOffsets(!this.view.hexadecimal);
-            fill(offsets, this.view.hexadecimal ? texts.sectorOffsetsHexadecimal : texts.sectorOffsetsDecimal);
-        }, texts.sectorOffsetsDecimal);
+            fill(offsets, this.view.hexadecimal ? texts.sectorOffsetsDecimal : texts.sectorOffsetsHexadecimal);
+        }, texts.sectorOffsetsHexadecimal);
         const encoding = element('label', { class: 'row small' }, texts.sectorEncodingOfBytes, this.choice);
         return element('div', { class: 'row' }, form, encoding, offsets);
     }

@@ -447,8 +447,8 @@ export const sectorOfBlock = 'Sector of {block} {number}';
 export const sectorGoToBlock = 'Go to block';
 export const sectorBlocksOfImage = 'The blocks of this image are {first} to {last}.';
 export const sectorEncodingOfBytes = 'Text';
-export const sectorOffsetsDecimal = 'Offsets: decimal';
-export const sectorOffsetsHexadecimal = 'Offsets: hexadecimal';
+export const sectorOffsetsDecimal = 'Show decimal offsets';
+export const sectorOffsetsHexadecimal = 'Show hex offsets';
 export const sectorHowToOpenSector =
     'Click the map, or a block in the findings. With the keyboard: {tab} to the map, then the arrows and {enter}.';
 export const sectorTabKey = 'Tab';
@@ -456,47 +456,46 @@ export const sectorEnterKey = 'Enter';
 
 // the errors of a sector
 export const sectorIsSound = 'This sector is sound.';
-export const sectorEdcAndParityFit = 'Its EDC and parity fit.';
+export const sectorEdcAndParityFit = 'Its EDC and parity match.';
 export const sectorDataAreDamaged = 'The data of this sector are damaged. {line}';
-export const sectorOtherBytesDamaged = 'The user data of this sector fit their EDC; other bytes are damaged. {line}';
-export const sectorEdcDoesNotFit = 'The {edc} does not fit the bytes before it.';
+export const sectorOtherBytesDamaged = 'The user data match their EDC. The damage is elsewhere in this sector. {line}';
+export const sectorEdcDoesNotFit = 'The {edc} does not match the bytes before it.';
 export const sectorZerosDoNotFit = 'The eight bytes after the EDC are not all zero.';
 export const sectorHeaderHasOtherAddress = 'The header has the address {address}, not that of the block.';
-export const sectorCodesDoNotFit = '{columns} of {ofColumns} P columns and {diagonals} of {ofDiagonals} Q diagonals do not fit';
+export const sectorCodesDoNotFit = '{columns} of {ofColumns} P columns and {diagonals} of {ofDiagonals} Q diagonals do not match';
 export const sectorCodesDoNotFitEither =
-    '{columns} of {ofColumns} P columns and {diagonals} of {ofDiagonals} Q diagonals do not fit either';
-export const sectorTheyCrossNowhere = '{codes}; they cross nowhere.';
+    '{columns} of {ofColumns} P columns and {diagonals} of {ofDiagonals} Q diagonals do not match either';
+export const sectorTheyCrossNowhere = '{codes}; they have no byte in common.';
 export const sectorTheyCrossOnce = '{codes}; they cross at the outlined byte, {place}: it is probably the wrong one.';
 export const sectorTheyCross = '{codes}; they cross at the {count} outlined bytes, {place}: the wrong ones are probably among these.';
 export const sectorBytesFromTo = '{first} to {last}';
-export const sectorSoundElsewhere = 'This sector is sound, but it has another address. {line}';
+export const sectorSoundElsewhere = 'This sector is sound, but it has a wrong address. {line}';
 export const sectorHeaderSays = 'Its header says {has}, and block {block} has {wants}.';
-export const sectorElsewhereIsNoDamage = 'This is no damage: perhaps the image was spliced by hand, or its {base} is another one.';
+export const sectorElsewhereIsNoDamage = 'This is not damage: the image may have been spliced by hand, or its {base} may be wrong.';
 export const sectorBaseTerm = 'base';
 export const sectorHasNoSync = 'This sector has no sync field.';
-export const sectorIsNotModeOne = 'This sector is not of Mode 1.';
-export const sectorIsAudioOrUnknown = 'It is audio, or its form is not known.';
-export const sectorOnlyLookedAt = 'It can be looked at, not patched.';
-export const sectorHasLostSync = 'This sector has no sync field, and its track is Mode 1.';
-export const sectorHasLostMode = 'This sector is not of Mode 1, and its track is.';
-export const sectorNoPatchRepairsThat = 'So it has probably lost its sync field or its mode. No patch can repair that: a whole sector ' +
-    'from ' +
-    'another dump can.';
+export const sectorIsNotModeOne = 'This is not a Mode 1 sector.';
+export const sectorIsAudioOrUnknown = 'It is audio or an unknown format.';
+export const sectorOnlyLookedAt = 'You can view it, but not patch it.';
+export const sectorHasLostSync = 'This sector has no sync field, but its track is Mode 1.';
+export const sectorHasLostMode = 'This sector is not Mode 1, but its track is.';
+export const sectorNoPatchRepairsThat = 'It has probably lost its sync field or mode byte. A patch cannot repair that, but a whole ' +
+    'sector from another dump can.';
 
 // the remedies for the errors of a sector
-export const sectorHasSoundCopy = '{name} has a sound copy: it will be taken.';
-export const sectorCopyIsDoubtful = 'But its data and EDC are others: compare both first. Perhaps it is another release.';
+export const sectorHasSoundCopy = '{name} has a sound copy, which will be used.';
+export const sectorCopyIsDoubtful = 'But its data and EDC are different: compare the two first. Perhaps it is another release.';
 export const sectorHasNoSoundCopy = '{name} has no sound copy of it.';
 export const sectorRepairFrom = 'Repair from {name}';
 export const sectorAddToScript = 'Add {verb} to the script';
 export const sectorIsInScript = '{verb} is in the script';
 export const sectorRebuildsNow = 'Line {line} is {patch} now.';
-export const sectorRebuildsBeforeChange = 'Line {line} is {patch} now, before the change.';
+export const sectorRebuildsBeforeChange = 'Line {line} is {patch} now, before the other patches of this sector.';
 export const sectorRebuildHidesDamage =
-    '{verb} makes the sector valid with the bytes as they are. If these are wrong, it hides the damage for good.';
+    '{verb} makes the sector valid with its present bytes. If these are wrong, it hides the damage for good.';
 
 // the fields and bytes of a sector
-export const sectorPressFieldToGo = 'Fields: press one to go there';
+export const sectorPressFieldToGo = 'Fields (select one to jump there)';
 export const sectorSyncField = 'sync';
 export const sectorHeaderField = 'header';
 export const sectorUserDataField = 'user data';
@@ -504,7 +503,7 @@ export const sectorEdcField = 'EDC';
 export const sectorZerosField = 'zeros';
 export const sectorParityPField = 'P parity';
 export const sectorParityQField = 'Q parity';
-export const sectorAllElseField = 'all else';
+export const sectorAllElseField = 'everything else';
 export const sectorBytesOfSector = 'Bytes of the sector';
 export const sectorOffsetWord = 'offset';
 export const sectorSyncAndHeader = 'Sync field and header';
@@ -516,8 +515,8 @@ export const sectorByteOfSector = 'byte {at} of the sector';
 export const sectorPlaceHolds = '{place}: {digits}';
 
 // the keys, each between `, in one line over the bytes: of digits, of texts, and of bytes that cannot be changed
-export const sectorKeysOfDigits = '`arrows` move · `0`–`F` change · `T` for text · `Ctrl`+`Z` takes back · `Ctrl`+`C` copies';
-export const sectorKeysOfTexts = 'type the text · `Esc` for digits · `Ctrl`+`Z` takes back · `Ctrl`+`C` copies';
+export const sectorKeysOfDigits = '`arrows` move · `0`–`F` change · `T` for text · `Ctrl`+`Z` undoes · `Ctrl`+`C` copies';
+export const sectorKeysOfTexts = 'type the text · `Esc` for digits · `Ctrl`+`Z` undoes · `Ctrl`+`C` copies';
 export const sectorKeysOfOthers = '`arrows` move · `Ctrl`+`C` copies';
 
 // the chosen byte
@@ -525,26 +524,25 @@ export const sectorFileAt = 'file {name} at {position}';
 export const sectorInNoFile = 'in no file';
 export const sectorInDirectory = 'in a directory';
 export const sectorVolumeDescriptor = 'volume descriptor';
-export const sectorBytesSelected = '{n} bytes selected, from {place} on';
+export const sectorBytesSelected = '{n} bytes selected, starting at {place}';
 export const sectorCopyAsHex = 'Copy as hex';
 export const sectorCopyAsText = 'Copy as text';
 export const sectorChangedByScript = 'changed by the script, {digits} in the file';
 export const sectorInSecondImage = '{digits} in the second image';
-export const sectorChangeIsLine = 'Each change becomes a line of the script.';
-export const sectorChangeWillBeRefused = 'This sector is damaged: Check refuses the change, unless damaged sectors are patched too ' +
-    '(carry), ' +
-    'or a rebuild in the script comes before it.';
-export const sectorEdcFollowsFromData = 'Only user data can be typed over. EDC and parity follow from them.';
+export const sectorChangeIsLine = 'Each change becomes a patch in the script.';
+export const sectorChangeWillBeRefused = 'This sector is damaged: Check refuses the patch, unless damaged sectors are patched too ' +
+    '(carry), or a rebuild in the script comes before it.';
+export const sectorEdcFollowsFromData = 'Only user data can be edited. EDC and parity are recalculated.';
 export const sectorOnlyModeOneChanges = 'Only Mode 1 sectors can be changed.';
 
 // keys, copy and paste
 export const sectorBytesCopied = 'Copied {n} byte|Copied {n} bytes';
 export const sectorInTheScript = 'In the script: {line}';
-export const sectorBytesTakenBack = 'The bytes that were typed last are taken back.';
-export const sectorNotTypedHere = 'The last change of the script was not typed here.';
-export const sectorOnlyUserDataTyped = 'Only the user data of Mode 1 sectors can be typed over.';
-export const sectorTooManyBytes = 'These are {n} bytes, and only {room} follow here in the user data of this sector.';
-export const sectorNoHexDigits = 'These are no pairs of hexadecimal digits. Press T to paste it as text.';
+export const sectorBytesTakenBack = 'The last typed bytes were undone.';
+export const sectorNotTypedHere = 'The last change to the script was not typed here.';
+export const sectorOnlyUserDataTyped = 'Only the user data of Mode 1 sectors can be edited.';
+export const sectorTooManyBytes = 'You are pasting {n} bytes, but there is room for only {room} here in the user data of this sector.';
+export const sectorNoHexDigits = 'These are not pairs of hexadecimal digits. Press T to paste as text.';
 
 // ---- end of a sector
 
