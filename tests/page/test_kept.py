@@ -266,7 +266,7 @@ class Kept(PageTest):
         self.browser.click('#find-text')
         self.browser.press('x', Keys.ENTER)
         self.browser.wait('#panel-text .progress')
-        self.browser.wait('#panel-text .say.warn', 'Lines are still being made.')
+        self.browser.wait('#panel-text .say.warn', 'The script is still being updated.')
         self.browser.run('openGate()')
         self.browser.wait('#count-script', '400')
 

@@ -52,7 +52,7 @@ class Text(PageTest):
         self.assertEqual(len(self.hits()), 5)
         common.waited(lambda: 'もう一度スタートに戻りますか？' in self.row(3), self.row(3))
         self.assertIn('/DATA/MSG00.DAT', self.row(3))
-        self.assertIn('goes on in the next block', self.row(4))
+        self.assertIn('continues in the next block', self.row(4))
 
     def test_hits_are_copied_as_a_table_with_file_and_text(self) -> None:
         self.find_in_game()
@@ -114,7 +114,7 @@ class Text(PageTest):
         self.browser.type('#find-text', 'Café')
         self.browser.press(Keys.ENTER)
         self.browser.wait('.hint', "CP932 cannot encode 'é'")
-        self.assertNotIn('searched to the end', self.browser.text('#panel-text'))
+        self.assertNotIn('were searched', self.browser.text('#panel-text'))
 
     def test_hits_are_counted_anew_after_the_script_has_changed(self) -> None:
         self.find_in_game()
@@ -154,7 +154,7 @@ class Text(PageTest):
         self.assertIn('53746172' + '8140' * 2, self.browser.text('.line-out'))
         self.browser.click('#new-text')
         self.browser.press('t')
-        self.browser.wait('#panel-text .say.bad', '3 bytes cannot be filled with that')
+        self.browser.wait('#panel-text .say.bad', '3 bytes cannot be filled evenly with that filler')
         self.assertTrue(self.is_off('Replace'))
 
     def texts(self, texts: dict[str, str]) -> None:
@@ -217,7 +217,7 @@ class Text(PageTest):
         self.browser.wait('.hits tbody tr:nth-child(1)', 'perhaps in the middle of a character (byte before: 8A)')
         self.browser.press('xx')
         self.press('Replace all 3')
-        self.browser.wait('#panel-text .say.warn', '1 hit left: block 0 offset 2: perhaps in the middle of a character (byte before: 8A)')
+        self.browser.wait('#panel-text .say.warn', '1 hit not replaced: block 0 offset 2: perhaps in the middle of a character (byte before: 8A)')
         self.browser.click('#tab-script')
         self.assertEqual(self.script_text(), 'cdpatch 1\nset 0 5 7878 was 6B7A\nset 0 8 7878 was 6B7A\n')
 
@@ -312,6 +312,6 @@ class Text(PageTest):
         self.browser.click('#find-text')
         self.browser.press('存在しない', Keys.ENTER)
         self.browser.wait('#panel-text .say', 'No hit in Shift-JIS (CP932).')
-        self.browser.wait('#panel-text .say', f'The user data of {len(discs.game()) // 2352} sectors were searched to the end.')
+        self.browser.wait('#panel-text .say', f'All user data ({len(discs.game()) // 2352} sectors) were searched.')
         self.browser.type('#find-text', '한')
         self.browser.wait('.hint', "CP932 cannot encode '한' (U+D55C), character 1 of the text")

@@ -116,7 +116,7 @@ class TextsTable(PageTest):
         self.browser.click('#tab-text')
         corrected = self.table(image, {2: 'The game begins.', 3: 'Save?', 5: 'The end.'})
         self.give(corrected)
-        self.browser.wait('#panel-text .say.good', '1 line added to the script. 1 line took the place of another one. 1 line is in the script already.')
+        self.browser.wait('#panel-text .say.good', '1 line added to the script. 1 line replaced an earlier one. 1 line is in the script already.')
         self.press('Open Script')
         head, *lines = common.cdscript_prints('replace', image, '--list', corrected).splitlines()
         self.assertEqual(self.script_text().splitlines(), ['# mine', head, *lines])

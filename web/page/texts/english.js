@@ -562,20 +562,20 @@ export const textTableToLoad = 'A table to load';
 export const textSearchesEverySector = 'Searches the {data} of every sector, including text that runs over into the next one.';
 export const textSearchedData = 'data';
 export const textBytesAre = '{n} byte: {bytes}|{n} bytes: {bytes}';
-export const textIsEncodingNow = 'It is the encoding now, here and where bytes are shown as text.';
-export const textNoReadableTable = 'Not a table that can be read: {name}';
+export const textIsEncodingNow = 'It is now used here and wherever bytes are shown as text.';
+export const textNoReadableTable = 'This table cannot be read: {name}';
 
 // the search
 export const textNoImageIsOpen = 'No image is open.';
 export const textOpenDiscFirst = 'Open the disc image first.';
-export const textLinesBeingMade = 'Lines are still being made.';
-export const textSearchWhenEnded = 'Search again when that has ended, or press Cancel there first.';
+export const textLinesBeingMade = 'The script is still being updated.';
+export const textSearchWhenEnded = 'Search again when that has finished, or cancel it first.';
 export const textSearching = 'Searching';
-export const textSearchNotEnded = 'The search has not come to its end.';
+export const textSearchNotEnded = 'The search did not finish.';
 export const textNoHitIn = 'No hit in {encoding}.';
 export const textNoHit = 'No hit.';
-export const textSearchedToEnd = 'The user data of {sectors} were searched to the end.';
-export const textAnotherEncoding = 'Another encoding? A game may also have its own table, or packed texts.';
+export const textSearchedToEnd = 'All user data ({sectors}) were searched.';
+export const textAnotherEncoding = 'Another encoding? The game may also use its own character table, or compressed text.';
 
 // the hits
 export const textTheHits = 'Hits';
@@ -589,7 +589,7 @@ export const textColumnContext = 'Context';
 export const textOffsetLabel = 'offset';
 export const textHitNumber = 'hit {number}';
 export const textInScriptLine = 'in the script, line {line}';
-export const textOverBlockBorder = 'goes on in the next block';
+export const textOverBlockBorder = 'continues in the next block';
 export const textShowMoreHits = 'Show {n} more';
 
 // replacing a hit
@@ -599,7 +599,7 @@ export const textHitOfHits = 'hit {number} of {count}';
 export const textOldTextHas = 'Old text: {n} byte|Old text: {n} bytes';
 export const textNewText = 'New text';
 export const textBytesOfNewText = '{n} byte|{n} bytes';
-export const textJustAsMany = '{bytes} of {size}, just as many';
+export const textJustAsMany = '{bytes} of {size}, exact fit';
 export const textMoreToFill = '{bytes} of {size}, and {more} to fill';
 export const textBytesTooMany = '{n} byte, {more} too many|{n} bytes, {more} too many';
 export const textForOldText = '{bytes} for the {size} of the old text';
@@ -613,10 +613,10 @@ export const textAnotherByte = 'another byte…';
 export const textCannotMoveBytes = 'A patch cannot move bytes: the new text needs as many bytes as the old one, or fewer.';
 export const textShortenBy = 'Shorten it by\u00A0{more}.';
 export const textTypeNewText = 'Type the new text.';
-export const textCannotFill = '{n} byte cannot be filled with that.|{n} bytes cannot be filled with that.';
-export const textChooseAnotherByte = 'Choose another byte.';
-export const textLineWritesHere = 'Line {line} of the script writes here already. A second line would meet other old bytes.';
-export const textTakesPlaceOfLine = 'This line takes the place of line {line}';
+export const textCannotFill = '{n} byte cannot be filled evenly with that filler.|{n} bytes cannot be filled evenly with that filler.';
+export const textChooseAnotherByte = 'Choose a different filler.';
+export const textLineWritesHere = 'Line {line} of the script already writes here. A second line would find different old bytes.';
+export const textTakesPlaceOfLine = 'This line replaces line {line}';
 export const textGoesIntoScript = 'This line goes into the script';
 export const textUpdateLine = 'Update line {line}';
 export const textReplaceAll = 'Replace all {n}';
@@ -625,7 +625,7 @@ export const textReplacesAndNext = '{key} replaces and goes to the next hit.';
 export const textAddedToScript = 'Added to the script.';
 export const textLineUpdated = 'Line {line} is updated.';
 export const textMakingOfHits = 'hits';
-export const textHitsLeft = '{n} hit left: {why}|{n} hits left: {why}';
+export const textHitsLeft = '{n} hit not replaced: {why}|{n} hits not replaced: {why}';
 export const textAllHitsInScript = 'All hits are in the script.';
 export const textCheckToTest = 'Open Script and press Check to test them.';
 
@@ -641,12 +641,12 @@ export const textLookingForTexts = 'Looking for texts';
 export const textNoTableSaved = 'No table was saved.';
 export const textNoTextFound = 'No text was found.';
 export const textTableHasTexts = 'It has {n} text.|It has {n} texts.';
-export const textWriteNewTexts = 'Write the new ones in its column “new”, and import it.';
+export const textWriteNewTexts = 'Put your translations in the column “new”, then import the table.';
 export const textImportTable = 'Import a table…';
 export const textTableToImport = 'A table to import';
 export const textMakingOfRows = 'rows';
-export const textScriptLongerThanTaken = 'The script would be longer than cdpatch takes. cdscript replace --list makes it.';
-export const textLinesReplaced = '{n} line took the place of another one.|{n} lines took the place of others.';
+export const textScriptLongerThanTaken = 'The script would be longer than cdpatch accepts. Use cdscript replace --list instead.';
+export const textLinesReplaced = '{n} line replaced an earlier one.|{n} lines replaced earlier ones.';
 export const textLinesAsBefore = '{n} line is in the script already.|{n} lines are in the script already.';
 export const textLinesWithdrawn = 'The table has no new text for line {lines} of the script.|\
 The table has no new text for the lines {lines} of the script.';
@@ -662,8 +662,8 @@ export const textColumnPlace = 'Block, offset';
 export const textColumnText = 'Text';
 export const textColumnWhyNot = 'Why it does not fit';
 export const textPlaceLabel = 'at';
-export const textMoreRowsCopied = 'and {n} more, which Copy has too.';
-export const textPressRow = 'Press a row to see the bytes at its place. Correct it in the table, and import that again.';
+export const textMoreRowsCopied = 'and {n} more (included in Copy).';
+export const textPressRow = 'Select a row to see the bytes there. Correct it in your table and import the table again.';
 
 // ---- end of text
 
