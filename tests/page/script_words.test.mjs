@@ -15,11 +15,11 @@ function said(line, where = '') {
 
 test('each verb is said in plain words', () => {
     assert.equal(said('set 4711 85 5361 was 835A', '/DATA/MSG00.DAT'),
-        'write 2 bytes at [offset] 85 of [block] 4711, in /DATA/MSG00.DAT, if the old ones are there.');
-    assert.equal(said('set 4711 2047 5361'), 'write 2 bytes at [offset] 2047 of [block] 4711, over the border to block 4712, whatever is there.');
-    assert.equal(said('fill 4720 2000 96 0a'), 'write 96 bytes 0A at [offset] 2000 of [block] 4720, over the border to block 4721.');
+        'write 2 bytes at [offset] 85 of [block] 4711, in /DATA/MSG00.DAT, if the old bytes are there.');
+    assert.equal(said('set 4711 2047 5361'), 'write 2 bytes at [offset] 2047 of [block] 4711, continuing into block 4712, whatever is there.');
+    assert.equal(said('fill 4720 2000 96 0a'), 'write 96 bytes 0A at [offset] 2000 of [block] 4720, continuing into block 4721.');
     assert.equal(said('set 0 0 41'), 'write 1 byte at [offset] 0 of [block] 0, whatever is there.');
-    assert.equal(said('rebuild 7'), 'calculate EDC and parity of [block] 7 anew, from the bytes that it has.');
+    assert.equal(said('rebuild 7'), 'recalculate EDC and parity of [block] 7 from its current bytes.');
     assert.equal(said('address 7 00:02:07'), 'write the address 00:02:07 in the header of [block] 7.');
 });
 
@@ -38,7 +38,7 @@ test('each fault has a sentence, and some a line that mends it', () => {
 
 test('a verb of a later version asks for its head line, and a word of another place for none', () => {
     const help = line => helpOfFault(new ScriptLines(calls, `cdpatch 1\n${line}`), 1);
-    const fix = { says: 'Make it cdpatch 2', lines: ['cdpatch 2'], head: true };
+    const fix = { says: 'Change it to “cdpatch 2”', lines: ['cdpatch 2'], head: true };
     assert.deepEqual(help('address 1 00:02:00'), { text: 'The verb address needs the head line cdpatch 2.', fix });
     assert.deepEqual(help('address 1'), { text: 'The verb address needs the head line cdpatch 2.', fix });
     assert.match(help('adress 1 00:02:00').text, /The verbs are/);
@@ -67,14 +67,14 @@ test('a script without a head line gets one', () => {
 test('a head line that is none becomes one by a press', () => {
     for (const [head, mended] of [['cdpatch 9', 'cdpatch 2'], ['CDPATCH 1', 'cdpatch 1'], ['cdpatch 1 0', 'cdpatch 1'], ['cdpatch', 'cdpatch 2']]) {
         const { fix } = helpOfFault(new ScriptLines(calls, `${head}\nrebuild 1`), 0);
-        assert.deepEqual(fix, { says: `Make it ${mended}`, lines: [mended] }, head);
+        assert.deepEqual(fix, { says: `Change it to “${mended}”`, lines: [mended] }, head);
     }
 });
 
 test('a line that needs version 2 mends the head line', () => {
     const lines = new ScriptLines(calls, '# mine\ncdpatch 1\naddress 7 00:02:07');
     const { fix } = helpOfFault(lines, 2);
-    assert.deepEqual(fix, { says: 'Make it cdpatch 2', lines: ['cdpatch 2'], head: true });
+    assert.deepEqual(fix, { says: 'Change it to “cdpatch 2”', lines: ['cdpatch 2'], head: true });
     lines.edit(lines.head, 1, fix.lines);
     assert.equal(lines.faults, 0);
 });
@@ -83,5 +83,5 @@ test('each refusal has a sentence', () => {
     const image = { base: 150, sectors: 10 };
     for (const result of [1, 2, 4, 5]) assert.ok(helpOfRefusal(result, image, 0).text.length > 20, `result ${result}`);
     assert.match(helpOfRefusal(4, image, 0).text, /150 to 159/);
-    assert.equal(helpOfRefusal(5, image, 2).text, 'Line 2 has changed these bytes already.');
+    assert.equal(helpOfRefusal(5, image, 2).text, 'Line 2 has already changed these bytes.');
 });

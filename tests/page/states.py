@@ -295,7 +295,7 @@ class States(PageTest):
 
     def to_script_version(self) -> None:
         """A script of an unknown version."""
-        self.marked(discs.script().replace('cdpatch 1', 'cdpatch 3').encode(), 'Make it cdpatch 2')
+        self.marked(discs.script().replace('cdpatch 1', 'cdpatch 3').encode(), 'Change it to “cdpatch 2”')
 
     def to_script_marked(self) -> None:
         """A script in UTF-16: it has been read, and one press saves it as UTF-8."""

@@ -198,7 +198,7 @@ class Kept(PageTest):
         self.edit(Keys.ARROW_DOWN, f'set {discs.first_block()} 0 41')
         self.browser.click('#tab-publish')
         self.browser.type('#patcher-title', 'Mine')
-        self.browser.wait('#panel-publish', '1 change, which fits')
+        self.browser.wait('#panel-publish', '1 patch, which fits')
         self.press('See it as a player')
         self.browser.wait('#player h1', 'Mine')
         self.press('Open this in the full cdpatch')

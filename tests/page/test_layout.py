@@ -86,7 +86,7 @@ class Layout(PageTest):
         self.browser.wait('.tally', '400')
         self.judge('script')
         self.browser.click('#tab-publish')
-        self.browser.wait('#panel-publish', '400 of 401 changes fit')
+        self.browser.wait('#panel-publish', '400 of 401 patches fit')
         self.assertNotIn('The name of the patched image has to', self.browser.text('#panel-publish'))
         self.judge('publish')
 

@@ -100,7 +100,7 @@ class Messages(PageTest):
         self.browser.wait('[aria-label="Cannot be repaired: 1"]')
         self.copies('[aria-label="Cannot be repaired: 1"] [data-copies]', 'Copy', f'{discs.first_block() + 1}\t')
         self.open_files(files['english'])
-        self.press('What cdpatch check prints')
+        self.press('Output of cdpatch check')
         self.browser.wait('#panel-script .log', 'applied')
         self.copies('[aria-label=Log] [data-copies]', 'Copy', 'line 4: applied')
         self.find()

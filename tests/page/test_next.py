@@ -10,7 +10,7 @@ from sector import SYNC
 from states import another
 
 SAID = '#panel-script .say'
-ALL_FIT = 'english.txt: 6 changes, all fit game.bin.'
+ALL_FIT = 'english.txt: 6 patches, all fit game.bin.'
 
 
 class Next(PageTest):
@@ -34,7 +34,7 @@ class Next(PageTest):
         self.browser.wait(f'{SAID}.good', ALL_FIT)
         self.browser.click('#tab-disc')
         self.browser.drop('#main', [files['refused']])
-        self.browser.wait(f'{SAID}.warn', 'refused.txt: 6 of 8 changes fit game.bin, 2 do not.')
+        self.browser.wait(f'{SAID}.warn', 'refused.txt: 6 of 8 patches fit game.bin, 2 do not.')
 
     def test_a_script_that_is_opened_is_read_drawn_and_checked_in_turns_of_their_own(self) -> None:
         files = self.files()
@@ -76,8 +76,8 @@ class Next(PageTest):
     def test_how_many_changes_fit_is_said(self) -> None:
         files = {**self.files(), **discs.written(one='cdpatch 1\nrebuild 1\n', none='cdpatch 1\nset 9999 0 41\n')}
         self.open_image(files['scratched'])
-        for name, said in (('refused', 'refused.txt: 5 of 8 changes fit scratched.bin, 3 do not.'), ('one', 'Nothing shows whether the change of one.txt fits scratched.bin.'),
-                           ('none', 'none.txt: 1 change, which does not fit scratched.bin.')):
+        for name, said in (('refused', 'refused.txt: 5 of 8 patches fit scratched.bin, 3 do not.'), ('one', 'Nothing shows whether the patch of one.txt fits scratched.bin.'),
+                           ('none', 'none.txt: 1 patch, which does not fit scratched.bin.')):
             self.open_files(files[name])
             self.browser.wait(SAID, said)
             self.assertIn(said, self.browser.text('#announced'))
@@ -99,16 +99,16 @@ class Next(PageTest):
                 self.assertNotIn(words, shown)
         self.open_script(files['some'])
         self.browser.wait(f'{SAID}.warn', '1 of 4 places holds other bytes. 1 of 4 places is damaged. Repair the image first')
-        self.browser.wait(f'{SAID}.warn', 'A new image can be saved without those changes.')
+        self.browser.wait(f'{SAID}.warn', 'A new image can be saved without those patches.')
         self.browser.wait(f'{SAID}.warn .btn', 'Save with the 2 changes that fit…')
 
     def test_a_script_of_which_nothing_shows_that_it_fits_is_not_presented_as_one_that_does(self) -> None:
         files = discs.written(other=another(), game=discs.game(), english=discs.script(), refused=discs.refused(),
                               unnamed='cdpatch 1\nfill 20 0 4 20\nrebuild 21\n', few='cdpatch 1\nfill 20 0 4 20\nset 99999 0 41\n')
-        cases = [('other', 'english', 'bad', 'None of the 4 changes of english.txt that name old bytes fits other.bin.', 'Save with the other 2 changes…', 'Go to line 4'),
-                 ('other', 'unnamed', 'warn', 'Nothing shows whether the 2 changes of unnamed.txt fit other.bin.', 'Apply and save…', 'Check again'),
-                 ('other', 'few', 'warn', 'Nothing shows whether the 2 changes of few.txt fit other.bin.', 'Save with the other change…', 'Go to line 3'),
-                 ('game', 'refused', 'warn', 'refused.txt: 6 of 8 changes fit game.bin, 2 do not.', 'Save with the 6 changes that fit…', 'Go to line 11')]
+        cases = [('other', 'english', 'bad', 'None of the 4 patches of english.txt that name old bytes fits other.bin.', 'Save with the other 2 patches…', 'Go to line 4'),
+                 ('other', 'unnamed', 'warn', 'Nothing shows whether the 2 patches of unnamed.txt fit other.bin.', 'Apply and save…', 'Check again'),
+                 ('other', 'few', 'warn', 'Nothing shows whether the 2 patches of few.txt fit other.bin.', 'Save with the other patch…', 'Go to line 3'),
+                 ('game', 'refused', 'warn', 'refused.txt: 6 of 8 patches fit game.bin, 2 do not.', 'Save with the 6 changes that fit…', 'Go to line 11')]
         for image, script, tone, words, save, focused in cases:
             with self.subTest(script):
                 self.setUp()
@@ -125,7 +125,7 @@ class Next(PageTest):
         patched = discs.written(patched=applied(files['game'], files['english'])[2])['patched']
         self.browser.drop('#drop', [patched, files['english']])
         self.browser.wait(f'{SAID}.good', 'patched.bin is patched already.')
-        self.assertIn('It holds what all 6 changes of english.txt write.', self.browser.text(f'{SAID}.good'))
+        self.assertIn('It holds what all 6 patches of english.txt write.', self.browser.text(f'{SAID}.good'))
         self.assertNotIn('Apply and save', self.browser.text('#panel-script .side'))
         self.assertIn('is patched already', self.browser.text('#announced'))
 
@@ -187,7 +187,7 @@ class Next(PageTest):
         self.open_image(files['game'])
         self.browser.run(f'{GATE} held = 0')
         self.open_script(files['refused'])
-        self.browser.wait(SAID, 'refused.txt: 6 of 8 changes fit game.bin')
+        self.browser.wait(SAID, 'refused.txt: 6 of 8 patches fit game.bin')
         self.browser.run('Object.assign(globalThis, { reads: 0, held: Infinity, least: 0 })')
         self.press('Check again')
         self.browser.wait('#panel-script .side .progress')

@@ -41,7 +41,7 @@ class Publish(PageTest):
         self.wait_for_hash()
         self.open_script(paths['english'])
         self.browser.click('#tab-publish')
-        self.browser.wait('#panel-publish', 'english.txt: 6 changes, all fit game.bin.')
+        self.browser.wait('#panel-publish', 'english.txt: 6 patches, all fit game.bin.')
         self.browser.type('#patcher-title', HOSTILE)
 
     def test_a_patcher_is_the_page_byte_for_byte_and_data_after_it(self) -> None:
@@ -84,7 +84,7 @@ class Publish(PageTest):
             const { slice } = Blob.prototype;
             Blob.prototype.slice = function (...given) { globalThis.slices += 1; return slice.apply(this, given); }''')
         self.browser.click('#tab-publish')
-        self.browser.wait('#panel-publish', '1,567 changes, all fit')
+        self.browser.wait('#panel-publish', '1,567 patches, all fit')
         self.browser.type('#patcher-title', 'Title')
         self.press('Save as a patcher')
         saved = self.browser.downloaded('Title.html').read_bytes()
@@ -132,7 +132,7 @@ class Publish(PageTest):
     def test_it_is_refused_while_a_patch_is_refused(self) -> None:
         self.open_both(discs.game(), discs.refused())
         self.browser.click('#tab-publish')
-        self.browser.wait('#panel-publish', 'english.txt: 6 of 8 changes fit game.bin, 2 do not.')
+        self.browser.wait('#panel-publish', 'english.txt: 6 of 8 patches fit game.bin, 2 do not.')
         self.browser.type('#patcher-title', 'Title')
         self.assertTrue(self.is_off('Save as a patcher') and self.is_off('See it as a player'))
         self.press('Go to line 11')
@@ -394,7 +394,7 @@ class Player(PageTest):
         self.press('Open this in the full cdpatch')
         self.browser.wait('#disc-line .name', 'mine.bin')
         self.browser.click('#tab-script')
-        self.browser.wait('#panel-script header .tag', '6 changes, version 1')
+        self.browser.wait('#panel-script header .tag', '6 patches, version 1')
         self.browser.click('#tab-publish')
         fields = 'return ["title", "author", "note", "name"].map(it => document.querySelector(`#patcher-${it}`).value)'
         self.assertEqual(self.browser.run(fields), ['Starlit Detective in English', 'Team Comet', 'All menus.\nChapter 1.', 'Starlit (English).bin'])

@@ -35,7 +35,7 @@ class Script(PageTest):
         said = {line.split(': ', 1)[0]: line.split(': ', 1)[1].replace('applied', 'fits').replace('refused', 'does not fit') for line in text.split('\n')[:-2]}
         shown = {f"line {row.split('|')[0]}": row.split('|')[2] for row in self.rows() if row.split('|')[2]}
         self.assertEqual(shown, said)
-        self.assertIn('english.txt: 5 of 8 changes fit game.bin, 3 do not.', self.browser.text('#panel-script .side'))
+        self.assertIn('english.txt: 5 of 8 patches fit game.bin, 3 do not.', self.browser.text('#panel-script .side'))
 
     def texts(self) -> list[str]:
         """The texts that the drawn lines of the editor set."""
@@ -67,7 +67,7 @@ class Script(PageTest):
         shown = self.browser.text('#panel-script .two')
         for word in ('applied', 'status'):
             self.assertNotIn(word, shown)
-        self.press('What cdpatch check prints (a trial: nothing is saved)')
+        self.press('Output of cdpatch check (dry run: nothing is saved)')
         self.browser.wait('pre.log', 'refused 2')
         self.press('Check again')
         self.browser.wait('pre.log', 'refused 2')
@@ -82,7 +82,7 @@ class Script(PageTest):
         self.assertEqual(saved.read_bytes(), out)
         self.browser.wait('#panel-script .side', 'without 3 of 8 changes')
         self.assertEqual(self.browser.run('return document.querySelector("pre.log").textContent'), text)
-        self.assertEqual(self.browser.text('#panel-script summary'), 'What cdpatch apply prints')
+        self.assertEqual(self.browser.text('#panel-script summary'), 'Output of cdpatch apply')
         self.browser.wait('#saved-sha1', common.sha1(out))
         self.assertEqual(self.browser.text('#saved-crc32'), f'{zlib.crc32(out):08x}')
         one_line = 'return document.querySelector("#saved-sha1").offsetHeight === document.querySelector("#saved-crc32").offsetHeight'
@@ -173,17 +173,17 @@ class Script(PageTest):
         _, text = common.run_program('check', files['game'], files['faulty'])
         self.assertIn(faults[0], text)
         self.assertIn('An odd number of digits: 3. Two digits make one byte.', self.browser.text('.editor'))
-        self.assertIn('3 lines have a fault', self.browser.text('#panel-script .side'))
+        self.assertIn('3 lines have an error', self.browser.text('#panel-script .side'))
         self.assertIn('The lines are 2, 3 and 4.', self.browser.text('#panel-script .side'))
         self.assertTrue(self.is_off('Check') and self.is_off('Apply and save'))
         self.press('Block 27 offset 57?')
-        self.browser.wait('#panel-script header .tag', '2 faults')
+        self.browser.wait('#panel-script header .tag', '2 errors')
         self.assertIn('set 27 57 41 was 42', self.script_text())
 
     def test_a_line_that_needs_version_2_mends_the_head_line(self) -> None:
         self.open_script(discs.written(old='# mine\ncdpatch 1\nrebuild 1\naddress 7 00:02:07\n')['old'])
-        self.press('Make it cdpatch 2')
-        self.browser.wait('#panel-script header .tag:not(.bad)', '2 changes, version 2')
+        self.press('Change it to “cdpatch 2”')
+        self.browser.wait('#panel-script header .tag:not(.bad)', '2 patches, version 2')
         self.assertEqual(self.script_text(), '# mine\ncdpatch 2\nrebuild 1\naddress 7 00:02:07\n')
 
     def test_keys_edit_lines_and_undo_takes_back(self) -> None:
@@ -199,7 +199,7 @@ class Script(PageTest):
         self.assertEqual([row.split('|')[1] for row in self.rows()], ['# end'])
         self.browser.press('z', held=Keys.CONTROL)
         self.browser.press(Keys.ENTER, held=Keys.CONTROL)
-        self.browser.wait('#panel-script .say.warn', 'Nothing shows whether the 2 changes')
+        self.browser.wait('#panel-script .say.warn', 'Nothing shows whether the 2 patches')
         self.assertEqual(self.script_text(), 'cdpatch 1\nrebuild 1\nrebuild 2\n# end')
 
     def type_script(self) -> None:
@@ -265,13 +265,13 @@ class Script(PageTest):
     def test_only_visible_lines_of_65535_are_drawn(self) -> None:
         script = 'cdpatch 1\n' + ''.join(f'set {i} 0 {"4A" * (4096 if i == 9 else 8)}\n' for i in range(65535))
         self.open_script(discs.written(large=script)['large'])
-        self.browser.wait('#panel-script header .tag', '65,535 changes')
+        self.browser.wait('#panel-script header .tag', '65,535 patches')
         self.assertLess(len(self.rows()), 80)
         self.browser.click('.editor textarea')
         self.browser.press(Keys.END, held=Keys.CONTROL)
         self.assertEqual(self.rows()[-2].split('|')[:2], ['65536', 'set 65534 0 4A4A4A4A4A4A4A4A'])
         self.browser.press('rebuild 7')
-        self.browser.wait('#panel-script header .tag', '1 fault')
+        self.browser.wait('#panel-script header .tag', '1 error')
         self.assertEqual(self.rows()[-1], '65537|rebuild 7|more than 65535 patches')
         self.assertEqual(self.browser.attempts(), [])
 
@@ -280,7 +280,7 @@ class Script(PageTest):
         files = discs.written(game=discs.game(), large='cdpatch 1\n' + ''.join(f'set {i % 180} {i % 2048} 4A was 4B\n' for i in range(65535)))
         self.open_image(files['game'])
         self.open_script(files['large'])
-        self.browser.wait('#panel-script header .tag', '65,535 changes')
+        self.browser.wait('#panel-script header .tag', '65,535 patches')
         self.press('Check')
         self.browser.wait('.tally', 'not fit')
         self.browser.click('.editor textarea')
@@ -297,7 +297,7 @@ class Script(PageTest):
             self.assertLess(counts['texts'], 300, digits)
             self.assertLess(counts['elements'], 1000, digits)
             self.assertEqual(counts['sectors'], 0, digits)
-        self.browser.wait('#panel-script header .tag', '65,535 changes')
+        self.browser.wait('#panel-script header .tag', '65,535 patches')
 
     def test_a_key_reads_no_sector_that_is_not_shown(self) -> None:
         files = discs.written(game=discs.game(), english=discs.script())
@@ -343,7 +343,7 @@ class Script(PageTest):
         files = self.open_both(discs.scratched(), discs.script())
         self.browser.click('#panel-script input[type=checkbox]')
         self.press(common.text('scriptUndoScript'))
-        self.browser.wait('#panel-script .said .say', 'Apply it with carry, as this script.')
+        self.browser.wait('#panel-script .said .say', 'Apply it with carry, like this script.')
         undo = self.browser.downloaded('english (undo).txt')
         _, _, patched = applied(files['game'], files['english'], '--carry')
         status, _, again = applied(discs.written(patched=patched)['patched'], undo, '--carry')
@@ -388,7 +388,7 @@ class Script(PageTest):
     def test_a_script_of_its_head_line_alone_is_shown(self) -> None:
         self.open_files(discs.written(head='cdpatch 1\n')['head'])
         self.browser.wait('#panel-script header h2', 'head.txt')
-        self.browser.wait('#panel-script h2', 'No changes yet')
+        self.browser.wait('#panel-script h2', 'No patches yet')
 
 
 class Streaming(PageTest):

@@ -181,7 +181,7 @@ class Second(PageTest):
         self.assertEqual(run_program('apply', path, script, out)[0], 0)
         self.assertEqual(out.read_bytes(), bytes(second))
         self.press('Open in Script')
-        self.browser.wait('#panel-script .say.good', 'other (changes).txt: 3 changes, all fit game.bin.')
+        self.browser.wait('#panel-script .say.good', 'other (changes).txt: 3 patches, all fit game.bin.')
         self.assertNotIn('not saved', self.browser.text('#panel-script'))
         script.unlink()
 
@@ -192,7 +192,7 @@ class Second(PageTest):
         script = self.browser.downloaded('other (changes).txt')
         self.assertRegex(script.read_text(), '^cdpatch 1\n# base 1000\nset 1000 0 ')
         self.press('Open in Script')
-        self.browser.wait('#panel-script .say.good', 'other (changes).txt: 1 change, which fits game.bin.')
+        self.browser.wait('#panel-script .say.good', 'other (changes).txt: 1 patch, which fits game.bin.')
         script.unlink()
 
     def test_a_base_that_is_set_by_hand_is_that_of_the_second_image_too(self) -> None:

@@ -50,7 +50,7 @@ class Sending(PageTest):
         self.press('Replace all')
         self.browser.click('#tab-script')
         self.press('Check')
-        self.browser.wait('#panel-script .say.good', '5 changes, all fit')
+        self.browser.wait('#panel-script .say.good', '5 patches, all fit')
         self.press('Apply and save')
         self.browser.downloaded('game (patched).bin')
         self.browser.click('#tab-publish')

@@ -328,11 +328,11 @@ class Long(Stranger):
         self.browser.wait('#panel-script .say', 'This script is too long: its lines are not shown.')
         self.assertEqual(self.browser.run('return document.querySelector(".editor").checkVisibility()'), False)
         self.press('Check')
-        self.browser.wait('#panel-script .say.good', '6 changes, all fit')
+        self.browser.wait('#panel-script .say.good', '6 patches, all fit')
         self.press('Apply and save')
         self.assertEqual(self.browser.downloaded('game (patched).bin').read_bytes(), applied(files['game'], files['short'])[2])
         self.open_script(files['short'])
-        self.browser.wait('#panel-script header .tag', '6 changes, version 1')
+        self.browser.wait('#panel-script header .tag', '6 patches, version 1')
         self.assertEqual(self.browser.run('return document.querySelector(".editor").checkVisibility()'), True)
 
     def test_a_script_in_no_file_comes_back_from_under_a_long_one(self) -> None:
@@ -343,6 +343,6 @@ class Long(Stranger):
         self.open_script(files['long'])
         self.browser.wait('#messages .say.warn', common.text('scriptReplacedYours'))
         self.press('Bring it back')
-        self.browser.wait('#panel-script header .tag', '1 change, version 1')
+        self.browser.wait('#panel-script header .tag', '1 patch, version 1')
         self.assertIn('rebuild 7', ' '.join(self.rows()))
 

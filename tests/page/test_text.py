@@ -81,7 +81,7 @@ class Text(PageTest):
         new = 'Start'.encode().ljust(8).hex().upper()
         self.assertEqual(script, 'cdpatch 1\n' + ''.join(f'set {place} {new} was {discs.START.hex().upper()}\n' for place in places(discs.START)))
         self.press('Check')
-        self.browser.wait('#panel-script .say.good', '5 changes, all fit')
+        self.browser.wait('#panel-script .say.good', '5 patches, all fit')
         self.press('Apply and save')
         saved = self.browser.downloaded('game (patched).bin').read_bytes()
         self.assertEqual(saved, applied(self.files['game'], discs.written(script=script)['script'])[2])

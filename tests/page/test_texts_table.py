@@ -121,7 +121,7 @@ class TextsTable(PageTest):
         head, *lines = common.cdscript_prints('replace', image, '--list', corrected).splitlines()
         self.assertEqual(self.script_text().splitlines(), ['# mine', head, *lines])
         self.press('Check')
-        self.browser.wait('#panel-script .say.good', '3 changes, all fit')
+        self.browser.wait('#panel-script .say.good', '3 patches, all fit')
 
     def test_lines_whose_new_texts_are_gone_are_named_and_removed(self) -> None:
         image = self.begin(told())

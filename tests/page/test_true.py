@@ -210,7 +210,7 @@ class Sayings(PageTest):
         self.open_image(discs.written(game=discs.game())['game'])
         given = {'nohead': lines.encode(), 'comment': f'# mine\n{lines}'.encode(), 'later': f'cdpatch 9\n{lines}'.encode(),
                  'capitals': f'CDPATCH 1\n{lines}'.encode(), 'mark': b'\xef\xbb\xbf' + whole.encode(), 'utf16': whole.encode('utf-16')}
-        mends = {'nohead': 'Add it', 'comment': 'Add it', 'later': 'Make it cdpatch 2', 'capitals': 'Make it cdpatch 1', 'mark': 'Save it as plain UTF-8',
+        mends = {'nohead': 'Add it', 'comment': 'Add it', 'later': 'Change it to “cdpatch 2”', 'capitals': 'Change it to “cdpatch 1”', 'mark': 'Save it as plain UTF-8',
                  'utf16': 'Save it as plain UTF-8'}
         for name, data in given.items():
             with self.subTest(name):
@@ -225,7 +225,7 @@ class Sayings(PageTest):
                 else:
                     self.browser.wait('.editor', 'A script begins with the line')
                 self.press(mends[name])
-                self.browser.wait('#panel-script header .tag:not(.bad)', '1 change, version')
+                self.browser.wait('#panel-script header .tag:not(.bad)', '1 patch, version')
                 if name in ('mark', 'utf16'):
                     saved = self.browser.downloaded(path.name)
                     self.assertEqual(common.waited(saved.read_bytes, 'the script is empty'), whole.encode())

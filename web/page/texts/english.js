@@ -672,9 +672,9 @@ export const textPressRow = 'Select a row to see the bytes there. Correct it in 
 // the script's head
 export const scriptCard = 'Script';
 export const scriptNewScript = 'New script';
-export const scriptFaultsOfScript = '{n} fault|{n} faults';
+export const scriptFaultsOfScript = '{n} error|{n} errors';
 export const scriptCharactersOfScript = '{n} character|{n} characters';
-export const scriptChangesOfScript = '{n} change|{n} changes';
+export const scriptChangesOfScript = '{n} patch|{n} patches';
 export const scriptChangesAndVersion = '{changes}, version {version}';
 export const scriptNotSaved = 'not saved';
 export const scriptToOpen = 'A script to open';
@@ -686,21 +686,21 @@ export const scriptBringItBack = 'Bring it back';
 export const scriptLinesNotShown = 'This script is too long: its lines are not shown.';
 
 // the script that undoes the open script
-export const scriptUndoScript = 'Save a script that takes it back…';
+export const scriptUndoScript = 'Save an undo script…';
 export const scriptMakingUndo = 'Making the undo script';
 export const scriptMakingFile = 'Making {name}';
 export const scriptUndoFile = '{script} (undo).txt';
 export const scriptUndoGetsOriginalBack = 'Apply it to the patched image to get the original back.';
-export const scriptUndoButForDamage =
-    'Apply it to the patched image to get the original back, but for the damage of {blocks}: their address and user data come back.';
+export const scriptUndoButForDamage = 'Apply it to the patched image to get the original back, except for the damage in {blocks}, of which \
+only address and user data are restored.';
 export const scriptUndoButForRefused =
-    '{n} change does not fit this image, and is not taken back.|{n} changes do not fit this image, and are not taken back.';
-export const scriptUndoWithCarry = 'Apply it with carry, as this script.';
-export const scriptUndoIsLong = 'It is longer than cdpatch and this page take: cdscript applies it with --long.';
-export const scriptHasFault = 'The script has a fault.';
+    '{n} patch does not fit this image, and is not undone.|{n} patches do not fit this image, and are not undone.';
+export const scriptUndoWithCarry = 'Apply it with carry, like this script.';
+export const scriptUndoIsLong = 'It is longer than cdpatch and this page accept: apply it with cdscript and --long.';
+export const scriptHasFault = 'The script has an error.';
 export const scriptNoUndoMade = 'No undo script was made.';
 export const scriptImageHasItAlready = 'The image already has what the script writes.';
-export const scriptAllRefusedByImage = '{n} change does not fit this image.|{n} changes do not fit this image.';
+export const scriptAllRefusedByImage = '{n} patch does not fit this image.|{n} patches do not fit this image.';
 export const scriptOpenImageBefore = 'No undo script was made. Open the image as it was before the script.';
 
 // the lines of the script
@@ -712,17 +712,17 @@ export const scriptBlockWord = 'block';
 export const scriptLineMeans = 'Line {line}:';
 export const scriptEmptyLine = 'an empty line.';
 export const scriptCommentLine = 'a comment. It changes nothing.';
-export const scriptHeadMeans = 'the version of the script. Then one change a line, for example {example}';
-export const scriptExampleMeans = 'which writes 5 bytes at [offset] 26 of [block] 4711, if the old ones are there.';
+export const scriptHeadMeans = 'the version of the script. Then one patch per line, for example {example}';
+export const scriptExampleMeans = 'which writes 5 bytes at [offset] 26 of [block] 4711, if the old bytes are there.';
 export const scriptAtOffset = 'at [offset] {offset} of [block] {block}';
-export const scriptOverBorder = '{place}, over the border to block {last}';
+export const scriptOverBorder = '{place}, continuing into block {last}';
 export const scriptInFile = '{place}, in {file}';
 export const scriptAndAnotherFile = ' and ';
 export const scriptWriteIfOldThere =
-    'write {size} byte {place}, if the old ones are there.|write {size} bytes {place}, if the old ones are there.';
+    'write {size} byte {place}, if the old byte is there.|write {size} bytes {place}, if the old bytes are there.';
 export const scriptWriteWhatever = 'write {size} byte {place}, whatever is there.|write {size} bytes {place}, whatever is there.';
 export const scriptWriteByte = 'write {size} byte {byte} {place}.|write {size} bytes {byte} {place}.';
-export const scriptCalculateAnew = 'calculate EDC and parity of [block] {block} anew, from the bytes that it has.';
+export const scriptCalculateAnew = 'recalculate EDC and parity of [block] {block} from its current bytes.';
 export const scriptWriteAddress = 'write the address {address} in the header of [block] {block}.';
 export const scriptPatchIsRefused = 'It {words}.';
 export const scriptNewTextShort = 'new';
@@ -740,16 +740,16 @@ export const scriptAddressIs = 'An address is MM:SS:FF with two digits each: SS 
 export const scriptMostPatches = 'A script has at most {most} patches. Cut it into two scripts.';
 export const scriptBeginsWithHead = 'A script begins with the line cdpatch 1.';
 export const scriptAddIt = 'Add it';
-export const scriptHeadHasNothingElse = 'A script begins with the line cdpatch 1, or cdpatch 2, and nothing else stands in it.';
-export const scriptMakeIt = 'Make it {head}';
+export const scriptHeadHasNothingElse = 'A script begins with the line cdpatch 1 or cdpatch 2. Nothing else may be on that line.';
+export const scriptMakeIt = 'Change it to “{head}”';
 export const scriptVerbNeedsHead = 'The verb {verb} needs the head line {head}.';
 export const scriptOneHeadLine = 'A script has one head line, and it is the first.';
-export const scriptVerbsAreSmall = 'Verbs are written in small letters.';
+export const scriptVerbsAreSmall = 'Verbs are written in lower case.';
 export const scriptIsItVerb = '{verb}?';
-export const scriptTheVerbsAre = 'The verbs are set, fill and rebuild, and in version 2 address, in small letters.';
+export const scriptTheVerbsAre = 'The verbs are set, fill, and rebuild, and in version 2 address, in lower case.';
 export const scriptOddDigits = 'An odd number of digits: {digits}. Two digits make one byte.';
 export const scriptBytesAreHexadecimal = 'Bytes are hexadecimal digits, two for each byte: no 0x, no quotes, no spaces between them.';
-export const scriptFillTakes = 'fill takes a count of 1 to {most}, and one byte: two digits.';
+export const scriptFillTakes = 'fill needs a count of 1 to {most}, and one byte: two digits.';
 export const scriptPatchWritesMost = 'A patch writes 1 to {most} bytes. Cut longer ones into several lines.';
 export const scriptNewAndOldDiffer = 'New bytes: {fresh}, old bytes: {old}. There must be as many of each.';
 export const scriptOffsetCounts = 'An offset counts the {size} user bytes of one block.';
@@ -759,16 +759,16 @@ export const scriptIsItThere = 'Block {block} offset {offset}?';
 export const scriptOnlyMode1 = 'Only Mode 1 sectors are patched: this is audio, has another mode, or lost its sync field.';
 export const scriptRepairFirst = 'Repair the sector first, or tick “Patch damaged sectors too”.';
 export const scriptHasBlocks = 'This image has the blocks {first} to {last}. Another track, or a wrong block?';
-export const scriptLineHasChanged = 'Line {line} has changed these bytes already.';
+export const scriptLineHasChanged = 'Line {line} has already changed these bytes.';
 export const scriptWrongReleaseOrPlace = 'Another release of the game, or a wrong block or offset.';
 export const scriptShowThePlace = 'Show the place';
 
-// while the script has no changes
-export const scriptNoChangesYet = 'No changes yet';
+// while the script has no patches
+export const scriptNoChangesYet = 'No patches yet';
 export const scriptNowOpenPatch = 'Now open the patch: its script (a text file), or its patcher (a page, .html).';
 export const scriptOpenThePatch = 'Open the patch…';
-export const scriptOrMakeChanges = 'Or make your own changes. A script is their list, which you rarely type:';
-export const scriptIsList = 'A script is the list of your changes. You rarely type it:';
+export const scriptOrMakeChanges = 'Or make your own changes. A script lists them as patches, which you rarely type yourself:';
+export const scriptIsList = 'A script lists your changes as patches. You rarely type it yourself:';
 export const scriptFindAndReplaceText = 'Find and replace a text';
 export const scriptChangeBytesOfSector = 'Change bytes of a sector';
 export const scriptOpenAScript = 'Open a script…';
@@ -777,57 +777,57 @@ export const scriptOpenAScript = 'Open a script…';
 export const scriptCheckScript = 'Check';
 export const scriptOpenPatchedImage = 'Open the image that this script patches.';
 export const scriptOpenTheImage = 'Open the image…';
-export const scriptLinesHaveFault = 'A line has a fault|{n} lines have a fault';
-export const scriptNotAppliedAtAll = 'A script with a fault is not applied at all.';
+export const scriptLinesHaveFault = 'A line has an error|{n} lines have an error';
+export const scriptNotAppliedAtAll = 'A script with an error is not applied at all.';
 export const scriptFaultyLines = 'The line is {lines}.|The lines are {lines}.';
 export const scriptMoreLines = '{n} more';
 export const scriptGoToLine = 'Go to line {line}';
-export const scriptNoChangeYet = 'The script has no change yet.';
+export const scriptNoChangeYet = 'The script has no patches yet.';
 export const scriptCheckTries =
-    'Check tries its change on this image, and writes nothing.|Check tries its {n} changes on this image, and writes nothing.';
-export const scriptCheckTriesAll = 'Check tries its changes on this image, and writes nothing.';
+    'Check tries its patch on this image, and writes nothing.|Check tries its {n} patches on this image, and writes nothing.';
+export const scriptCheckTriesAll = 'Check tries its patches on this image, and writes nothing.';
 export const scriptPatchDamagedToo = 'Patch damaged sectors too ({carry})';
 export const scriptTheyStayDamaged = 'They stay marked as damaged.';
 export const scriptCheckAgain = 'Check again';
 export const scriptApplyAndSave = 'Apply and save…';
 export const scriptFixErrors = 'Fix the errors to continue.';
 export const scriptSavesNewImage = 'Saves a new image.';
-export const scriptSavesWhatFits = 'Saves a new image with the {n} change that fits.|Saves a new image with the {n} changes that fit.';
+export const scriptSavesWhatFits = 'Saves a new image with the {n} patch that fits.|Saves a new image with the {n} patches that fit.';
 export const scriptStaysAsItIs = '{name} stays as it is.';
 export const scriptCheckingScript = 'Checking';
 export const scriptNothingSavedOpenAgain = 'Nothing was saved. Open it again.';
 
 // how the script matches the image
 export const scriptTheScript = 'The script';
-export const scriptHasNoChange = '{script} has no change.';
-export const scriptWouldBeCopy = 'The saved image would be a copy.';
-export const scriptAllChangesFit = '{script}: {n} change, which fits {image}.|{script}: {n} changes, all fit {image}.';
-export const scriptNoChangeFits = '{script}: {n} change, which does not fit {image}.|{script}: {n} changes, which do not fit {image}.';
+export const scriptHasNoChange = '{script} has no patches.';
+export const scriptWouldBeCopy = 'The saved image would be an unchanged copy.';
+export const scriptAllChangesFit = '{script}: {n} patch, which fits {image}.|{script}: {n} patches, all fit {image}.';
+export const scriptNoChangeFits = '{script}: {n} patch, which does not fit {image}.|{script}: {n} patches, which do not fit {image}.';
 export const scriptIsPatchedAlready = '{image} is patched already.';
-export const scriptChangesStandThere = 'It holds what the change of {script} writes.|It holds what all {n} changes of {script} write.';
+export const scriptChangesStandThere = 'It holds what the patch of {script} writes.|It holds what all {n} patches of {script} write.';
 export const scriptAnotherRelease = 'Another release, another disc, or another base?';
 export const scriptSomeChangesFit =
-    '{script}: {fitting} of {all} changes fit {image}, {n} does not.|{script}: {fitting} of {all} changes fit {image}, {n} do not.';
-export const scriptNothingShowsFit = 'Nothing shows whether the change of {script} fits {image}.|\
-Nothing shows whether the {n} changes of {script} fit {image}.';
+    '{script}: {fitting} of {all} patches fit {image}, {n} does not.|{script}: {fitting} of {all} patches fit {image}, {n} do not.';
+export const scriptNothingShowsFit =
+    'Nothing shows whether the patch of {script} fits {image}.|Nothing shows whether the {n} patches of {script} fit {image}.';
 export const scriptNamesNone = 'It names no old bytes.|None of them names old bytes.';
-export const scriptNoNamedFits = 'The change of {script} that names old bytes does not fit {image}.|\
-None of the {n} changes of {script} that name old bytes fits {image}.';
-export const scriptOthersNameNone = 'The other change names no old bytes, so nothing shows whether it fits.|\
-The other {n} changes name no old bytes, so nothing shows whether they fit.';
-export const scriptSaveWithOthers = 'Save with the other change…|Save with the other {n} changes…';
+export const scriptNoNamedFits = 'The patch of {script} that names old bytes does not fit {image}.|\
+None of the {n} patches of {script} that name old bytes fits {image}.';
+export const scriptOthersNameNone = 'The other patch names no old bytes, so nothing shows whether it fits.|\
+The other {n} patches name no old bytes, so nothing shows whether they fit.';
+export const scriptSaveWithOthers = 'Save with the other patch…|Save with the other {n} patches…';
 export const scriptRepairOrCarry = 'Repair the image first, or tick “Patch damaged sectors too”.';
 export const scriptAnotherTrack = 'Only Mode 1 sectors are patched. Another track, or another disc?';
 export const scriptAnotherTrackOrBase = 'Another track, or another base?';
-export const scriptSavedWithout = 'A new image can be saved without that change.|A new image can be saved without those changes.';
+export const scriptSavedWithout = 'A new image can be saved without that patch.|A new image can be saved without those patches.';
 export const scriptCountCanBeApplied = '{n} can be applied';
 export const scriptCountFits = '{n} fits|{n} fit';
 export const scriptCountDoesNotFit = '{n} does not fit|{n} do not fit';
 
 // the log; only screen readers say the purpose of its buttons
 export const scriptLogOfCheck = 'Log';
-export const scriptWhatTrialPrints = 'What {command} prints (a trial: nothing is saved)';
-export const scriptWhatIsPrinted = 'What {command} prints';
+export const scriptWhatTrialPrints = 'Output of {command} (dry run: nothing is saved)';
+export const scriptWhatIsPrinted = 'Output of {command}';
 export const scriptWhichLog = ' the log';
 export const scriptLogFile = 'log.txt';
 export const scriptLogIsPrinted = 'The same text as {command} prints, in the order of application: by block, then by line.';
