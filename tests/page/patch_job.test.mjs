@@ -144,7 +144,7 @@ test('a file that cannot be read again after it was closed is saved', async () =
 
 test('a browser that wants a fresh click says so', async () => {
     globalThis.window.showSaveFilePicker = async () => { throw new DOMException('gesture', 'SecurityError'); };
-    await assert.rejects(saveWork(app, work(), 'out.bin', '', watch), { message: /fresh click. Press the button again/ });
+    await assert.rejects(saveWork(app, work(), 'out.bin', '', watch), { message: /right after a click\. Press the button again/ });
 });
 
 test('a repaired image is saved whole', async () => {

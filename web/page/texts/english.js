@@ -839,34 +839,34 @@ export const scriptLogIsPrinted = 'The same text as {command} prints, in the ord
 // while an image is being saved
 export const saveSavingImage = 'Saving';
 export const saveSavingFile = 'Saving {name}';
-export const saveAfterCancel = 'After Cancel no image is kept: the browser throws the unfinished file away.';
+export const saveAfterCancel = 'If you cancel, the browser deletes the unfinished file.';
 export const savePatchedInName = 'patched';
 
 // the saved image
 export const saveImageSaved = 'Saved';
 export const saveSavingByBrowser = 'Saving by your browser';
 export const saveBrowserIsSaving = 'Your browser is saving {name}';
-export const saveFileWithout = '{name}, without {refused} of {n} change|{name}, without {refused} of {n} changes';
+export const saveFileWithout = '{name}, without {refused} of {n} patch|{name}, without {refused} of {n} patches';
 export const saveOtherBytesAsBefore = 'All other bytes are as before.';
 export const saveKeepPageOpenOnly = 'Keep this page open until the download is complete.';
 export const saveSizeOfSaved = 'size';
 export const saveHashPercent = '({percent} %)';
-export const saveSumNotRead = 'not known, for the browser does not read the file again';
+export const saveSumNotRead = 'not available: the browser does not read the file back';
 export const saveDropToCheck = 'To check what was saved, drop the file on this page.';
-export const saveEmulatorOpensSheet = 'Your emulator opens a cue sheet: save one that names the new image, beside it.';
+export const saveEmulatorOpensSheet = 'Your emulator opens a cue sheet: save one that names the new image, next to it.';
 export const saveOldSheetNamesOld = 'A .cue of the old image starts the old game. Open it with that image here, ' +
     'and you can save one for the new image.';
-export const saveSheetNamesOthers = 'The cue sheet names files too that you saved before: {names}';
+export const saveSheetNamesOthers = 'The cue sheet also names files that you saved before: {names}';
 export const saveCueSheet = 'Save a cue sheet…';
 export const saveOpenNewImage = 'Open the new image';
 export const saveBackToCheck = 'Back to Check';
 
 // the saved file, dropped on the page
-export const saveSavedFileRight = 'Right: {name}';
+export const saveSavedFileRight = 'Correct: {name}';
 export const saveSumsMatch = 'Its size and SHA-1 are those of the patched image.';
 export const saveOpenSavedFile = 'Open it';
-export const saveSavedFileWrong = 'Not what it should be: {name}';
-export const saveNotSavedToEnd = 'It has {size} bytes and not {wanted}: it was not saved to its end.';
+export const saveSavedFileWrong = 'Wrong contents: {name}';
+export const saveNotSavedToEnd = 'It has {size} bytes instead of {wanted}: saving did not finish.';
 export const saveSumDiffersSaveAgain = 'Its SHA-1 does not match. Save it again.';
 
 // the reasons why an image was not saved
@@ -875,12 +875,12 @@ export const saveBackFromSaving = 'Back';
 export const saveNoImageKept = 'No image was kept.';
 export const saveDiskIsFull = 'The disk is full at {percent} %.';
 export const saveWritingFailed = 'Writing failed at {percent} %: {why}';
-export const saveAsksAfterClick = 'The browser asks for a file only after a fresh click. Press the button again.';
+export const saveAsksAfterClick = 'The browser shows its file dialog only right after a click. Press the button again.';
 export const saveOpenFileHasName = 'Another open file has this name: {name}';
 export const saveNothingSavedChooseName = 'Nothing was saved. Choose another name.';
 export const saveIsOpenImage = 'This is the open image itself: {name}';
 export const saveNeverWrittenOver = 'cdpatch never writes over it. Choose another name.';
-export const saveSetSaidBase = 'Set the base that the script says, or take that line out.';
+export const saveSetSaidBase = 'Set the base named in the script, or delete that line.';
 export const saveScriptTooLong = 'The script is too long.';
 export const saveMostScriptBytes = 'A script has at most {most} bytes. Cut it into two.';
 export const saveCorrectLineFirst = 'Nothing was done. Correct the line first.';
