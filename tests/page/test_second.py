@@ -175,7 +175,7 @@ class Second(PageTest):
         self.browser.wait('[aria-label="Bytes that differ, by field"]', '70')
         self.press('Save the script')
         script = self.browser.downloaded('other (changes).txt')
-        self.browser.wait('#second-body .say.good', 'The script has 3 changes.')
+        self.browser.wait('#second-body .say.good', 'The script has 3 patches.')
         self.browser.wait('#second-body .say.good', 'Saved: other (changes).txt')
         out = path.parent / 'new.bin'
         self.assertEqual(run_program('apply', path, script, out)[0], 0)
@@ -241,7 +241,7 @@ class Second(PageTest):
         self.browser.wait('#second-body .say.bad', 'the second image is damaged in blocks 33 and 44')
         self.assertEqual([*self.browser.downloads.iterdir()], [])
         self.press('Leave these 2 out')
-        self.browser.wait('#second-body .say.warn', 'gives other.bin, but for blocks 33 and 44, which it leaves as they are.')
+        self.browser.wait('#second-body .say.warn', 'gives other.bin, except for blocks 33 and 44, which it leaves as they are.')
         script = self.browser.downloaded('other (changes).txt')
         self.assertEqual(script.read_text(), 'cdpatch 1\n')
         script.unlink()
@@ -322,7 +322,7 @@ class Second(PageTest):
         missing = with_faults()[:100 * SECTOR_SIZE] + with_faults()[102 * SECTOR_SIZE:] + AUDIO[:2 * SECTOR_SIZE]
         self.pair(image, missing)
         self.browser.wait('#second-body .say.bad', 'The second image is shifted by 2 sectors from block 100 on.')
-        self.browser.wait('#second-body .say.bad', '2 sectors before it are missing. Nothing is taken.')
+        self.browser.wait('#second-body .say.bad', '2 sectors before it are missing. Nothing was copied.')
 
     def test_an_image_of_another_part_of_the_disc_can_only_be_opened_instead(self) -> None:
         users = [b'%d' % block for block in range(40)]

@@ -51,7 +51,7 @@ class Sayings(PageTest):
     def test_a_refused_repair_counts_nothing_as_repairable(self) -> None:
         other = common.image_of([b'%d other' % block for block in range(len(discs.game()) // 2352)])
         self.pair(common.damaged(discs.game(), 40), other)
-        self.browser.wait('#second-body .say.bad', 'Nothing is taken.')
+        self.browser.wait('#second-body .say.bad', 'Nothing was copied.')
         self.assertEqual(self.browser.run('return document.querySelectorAll("#second-body .tally").length'), 0)
         self.assertNotIn('can be repaired', self.legend())
         self.browser.wait('.legend', 'data damaged')

@@ -897,8 +897,8 @@ export const secondWhatWithSecond = 'What to do with the second image';
 export const secondImageIs = 'Second image: {name}';
 export const secondRepairFromIt = 'Repair from it';
 export const secondComparingBoth = 'Comparing both images';
-export const secondBeginAgain = 'Begin again';
-export const secondNothingFoundOut = 'Nothing was found out.';
+export const secondBeginAgain = 'Start over';
+export const secondNothingFoundOut = 'There is no result.';
 
 // the map of both images
 export const secondNothingToDo = 'no repair needed';
@@ -907,7 +907,7 @@ export const secondCannotBeRepaired = 'cannot be repaired';
 export const secondSameInBoth = 'same in both';
 export const secondDifferInSecond = 'differ, sound in the second';
 export const secondDamagedInSecond = 'damaged in the second';
-export const secondDifferNotMode1 = 'differ, and not of Mode 1';
+export const secondDifferNotMode1 = 'differ, not Mode 1';
 
 // repair
 export const secondIntactButDifferent = 'intact in both, but different';
@@ -915,8 +915,9 @@ export const secondDumpLacksBlocks = 'The second image does not have {blocks}.';
 export const secondTheseStay = 'These stay as they are here.';
 export const secondRepairsNothing = 'This dump cannot repair anything here.';
 export const secondNoneDamagedHere = 'No sector here is damaged.';
-export const secondNoneSoundThere = 'No sector that is damaged here is sound there, with the address of its block.';
-export const secondOtherDataHere = '{n} sector has other data here, and another EDC.|{n} sectors have other data here, and another EDC.';
+export const secondNoneSoundThere = 'None of the sectors damaged here has a sound copy with the right address there.';
+export const secondOtherDataHere =
+    '{n} sector has different data and a different EDC here.|{n} sectors have different data and a different EDC here.';
 export const secondLookAtThemFirst = 'Perhaps the second image is another release of the disc: look at {blocks} first.';
 export const secondSoundInBoth = '{n} sector is sound in both, and differs.|{n} sectors are sound in both, and differ.';
 export const secondNotTestedDiffer = '{n} sector is not Mode 1, and differs.|{n} sectors are not Mode 1, and differ.';
@@ -932,13 +933,13 @@ export const secondWriteRepairAsScript = 'Write it as a script';
 // a repair that is refused
 export const secondImageShifted = '{image} is shifted by {sectors} from block {block} on.';
 export const secondImageItself = 'The second image';
-export const secondAddressesSaySo = 'Its addresses say so: {why}. Nothing is taken.';
+export const secondAddressesSaySo = 'Its addresses show it: {why}. Nothing was copied.';
 export const secondMissingBefore = '{n} sector before it is missing|{n} sectors before it are missing';
 export const secondTooManyBefore = '{n} sector before it is too many|{n} sectors before it are too many';
 export const secondNotTheSameDisc = 'These are not dumps of the same disc.';
 export const secondMostAreSame = '{n} of {all} sectors are the same in both: it may be another release.';
 export const secondSomeAreSame = '{n} of {all} sectors are the same in both.';
-export const secondTooManyDiffer = '{sectors}: more than one in a hundred. Nothing is taken.';
+export const secondTooManyDiffer = '{sectors}: more than one in a hundred. Nothing was copied.';
 export const secondSoundAndDiffer = '{n} sector is sound in both and differs|{n} sectors are sound in both and differ';
 
 // the sectors that are not repaired
@@ -948,9 +949,9 @@ export const secondColumnInSecond = 'In the second image';
 export const secondHereLabel = 'here';
 export const secondThereLabel = 'there';
 export const secondNotThere = 'not there';
-export const secondNotOfMode1 = 'not of Mode 1';
-export const secondMoreHaveNoRow = '{n} more has no row here.|{n} more have no row here.';
-export const secondDifferInEach = 'The images differ in each block.';
+export const secondNotOfMode1 = 'not Mode 1';
+export const secondMoreHaveNoRow = 'and {n} more block.|and {n} more blocks.';
+export const secondDifferInEach = 'The images differ in each of these blocks.';
 export const secondNoSoundCopyThere = 'The second image has a sound copy of none of these blocks.';
 export const secondSameBytesIn = 'In {blocks} both images hold the same bytes: perhaps the damage is on the disc itself, or on purpose.';
 export const secondThirdDump = 'A third dump would show it.';
@@ -971,7 +972,7 @@ export const secondBothSameBytes = 'Both images are the same, byte for byte.';
 export const secondSectorDiffers = 'sector differs';
 export const secondSectorsDiffer = 'sectors differ';
 export const secondDifferInCodesOnly = 'only in EDC or parity';
-export const secondNoScriptChangesThem = 'No script changes them.';
+export const secondNoScriptChangesThem = 'A script cannot change them.';
 export const secondSaveTheScript = 'Save the script…';
 export const secondOpenInScript = 'Open in Script';
 export const secondBytesThatDiffer = 'Bytes that differ, by field';
@@ -979,19 +980,19 @@ export const secondSaveTheList = 'Save the list…';
 export const secondColumnHeader = 'header';
 export const secondColumnUserData = 'user data';
 export const secondColumnParity = 'parity';
-export const secondMoreBlocksWithoutRow = '{n} more block has no row here.|{n} more blocks have no row here.';
+export const secondMoreBlocksWithoutRow = 'and {n} more block.|and {n} more blocks.';
 export const secondUserDataWithoutEdc = 'If the user data differ and the EDC does not, one of the two is damaged.';
 
 // the script from one image to the other
 export const secondWritingScript = 'Writing the script';
 export const secondTheSecondImage = 'the second image';
 export const secondTheRepairedImage = 'the repaired image';
-export const secondScriptHasPatches = 'The script has {n} change.|The script has {n} changes.';
+export const secondScriptHasPatches = 'The script has {n} patch.|The script has {n} patches.';
 export const secondScriptHasBytes = '{n} bytes.';
 export const secondGivesExactly = 'Verified: applied to {image} it gives exactly {goal}.';
-export const secondGivesButForOne = 'Verified: applied to {image} it gives {goal}, but for {blocks}, which it leaves as it is.';
-export const secondGivesButForSome = 'Verified: applied to {image} it gives {goal}, but for {blocks}, which it leaves as they are.';
-export const secondAppliedWithLong = 'This is more than cdpatch takes: cdscript applies it with --long.';
+export const secondGivesButForOne = 'Verified: applied to {image} it gives {goal}, except for {blocks}, which it leaves as it is.';
+export const secondGivesButForSome = 'Verified: applied to {image} it gives {goal}, except for {blocks}, which it leaves as they are.';
+export const secondAppliedWithLong = 'This exceeds the limits of cdpatch: apply it with cdscript and --long.';
 export const secondNoScriptWritten = 'No script was written.';
 export const secondScriptNotWritten = 'The script is not written: {why}.';
 export const secondBecauseTailsDiffer = 'the bytes after the last sector differ';
