@@ -121,7 +121,7 @@ class Asked(PageTest):
         self.browser.click('#tab-publish')
         self.browser.type('#patcher-title', 'Mine')
         self.close()
-        self.browser.wait('#sheet', 'Your script is not saved. What you wrote under Publish is in no patcher yet.')
+        self.browser.wait('#sheet', 'Your script is not saved. Your entries under Publish have not been saved in a patcher yet.')
         self.browser.answer('Cancel')
         self.browser.wait('#disc-line .name', 'game.bin')
         self.assertTrue(self.browser.asks_before_leaving())

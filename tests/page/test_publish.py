@@ -134,7 +134,7 @@ class Publish(PageTest):
         self.browser.click('#tab-publish')
         self.browser.wait('#panel-publish', 'english.txt: 6 of 8 patches fit game.bin, 2 do not.')
         self.browser.type('#patcher-title', 'Title')
-        self.assertTrue(self.is_off('Save as a patcher') and self.is_off('See it as a player'))
+        self.assertTrue(self.is_off('Save as a patcher') and self.is_off('Preview as a player'))
         self.press('Go to line 11')
         label = 'return document.activeElement.getAttribute("aria-label")'
         self.assertIn('Script, line 11 of 13', self.browser.run(label))
@@ -148,7 +148,7 @@ class Publish(PageTest):
 
     def test_an_author_sees_it_as_a_player_and_goes_back(self) -> None:
         self.publish()
-        self.press('See it as a player')
+        self.press('Preview as a player')
         self.browser.wait('#player h1', HOSTILE)
         self.press('Back to Publish')
         self.browser.wait('#panel-publish h2', 'A patcher for your players')

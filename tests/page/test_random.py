@@ -374,8 +374,8 @@ class Random(PageTest):
     def see(self) -> None:
         if not self.ready():
             return
-        common.waited(lambda: not self.is_off('See it as a player'), 'nothing can be shown')
-        self.press('See it as a player')
+        common.waited(lambda: not self.is_off('Preview as a player'), 'nothing can be shown')
+        self.press('Preview as a player')
         self.browser.wait('#player h1', self.model.title)
         self.model.panel = 'player'
 

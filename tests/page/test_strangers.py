@@ -112,7 +112,7 @@ class Fitting(Stranger):
     def test_authors_are_warned_of_each_line_without_old_bytes(self) -> None:
         self.open_both(discs.game(), discs.script())
         self.browser.click('#tab-publish')
-        self.browser.wait('#panel-publish', '2 changes without old bytes (was): on another dump nothing shows whether they fit. Players are told so.')
+        self.browser.wait('#panel-publish', '2 patches without old bytes (was): on another dump nothing shows whether they fit. The patcher says so to players.')
 
 
 class Names(Stranger):
@@ -133,7 +133,7 @@ class Names(Stranger):
         self.browser.type('#patcher-title', 'Title')
         for name in ('Play.html', 'nul.bin', 'a/b.bin'):
             self.browser.type('#patcher-name', name)
-            self.browser.wait('#panel-publish', 'The name of the patched image has to end in .bin, .img or .iso')
+            self.browser.wait('#panel-publish', 'The name of the patched image has to end in .bin, .img, or .iso')
             self.assertTrue(self.is_off('Save as a patcher'))
         self.browser.type('#patcher-name', 'Game.img')
         self.assertFalse(self.is_off('Save as a patcher'))

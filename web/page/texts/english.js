@@ -1009,37 +1009,37 @@ export const publishPatcherAuthor = 'By';
 export const publishNoteForPlayers = 'Note for players';
 export const publishPatchedImageName = 'Name of the patched image';
 export const publishOfferCueSheet = 'Offer a cue sheet that names the patched image';
-export const publishDamagedTooAsOpened = 'Patch damaged sectors too ({carry}), as the patcher that was opened';
-export const publishNothingInPatcherYet = 'What you wrote under Publish is in no patcher yet.';
+export const publishDamagedTooAsOpened = 'Patch damaged sectors too ({carry}), as in the patcher you opened';
+export const publishNothingInPatcherYet = 'Your entries under Publish have not been saved in a patcher yet.';
 // before the patcher is saved: the parts that are ready, and those that are not
 export const publishBeforeYouSave = 'Before you save';
 export const publishOpenImageOfScript = 'Open the image that the script is made for.';
-export const publishTryingOnImage = 'Trying the script on your image…';
-export const publishChangesForDamage = '{n} change is for a damaged sector: repair the image first.|\
-{n} changes are for a damaged sector: repair the image first.';
-export const publishAllNameOldBytes = 'Each change names the bytes that it replaces.';
-export const publishWithoutOldBytes = '{n} change without old bytes ({was}): on another dump nothing shows whether it fits. Players are \
-told so.|{n} changes without old bytes ({was}): on another dump nothing shows whether they fit. Players are told so.';
+export const publishTryingOnImage = 'Testing the script on your image…';
+export const publishChangesForDamage =
+    '{n} patch is for a damaged sector: repair the image first.|{n} patches are for a damaged sector: repair the image first.';
+export const publishAllNameOldBytes = 'Each patch names the bytes that it replaces.';
+export const publishWithoutOldBytes = '{n} patch without old bytes ({was}): on another dump nothing shows whether it fits. The patcher \
+says so to players.|{n} patches without old bytes ({was}): on another dump nothing shows whether they fit. The patcher says so to players.';
 export const publishReadingYourImage = 'Reading your image…';
 export const publishNotReadToEnd = 'Your image was not read to its end. Read it again under Disc.';
 export const publishYourImageSound = 'Your image is sound.';
-export const publishYourImageHasFindings = 'Your image has {n} finding: players with a sound disc have another SHA-1.|\
-Your image has {n} findings: players with a sound disc have another SHA-1.';
+export const publishYourImageHasFindings = 'Your image has {n} finding: players with a sound disc have a different SHA-1.|\
+Your image has {n} findings: players with a sound disc have a different SHA-1.';
 export const publishCalculatingOwnSha1 = 'Calculating the SHA-1 of your image…';
 export const publishComparedWithSha1 = 'Players’ images are compared with this SHA-1: {sha1}';
 export const publishTitleMissing = 'The title is missing.';
-export const publishWriteTitle = 'Write it';
+export const publishWriteTitle = 'Add a title';
 // The page inserts the signs, since | separates the forms of a text.
-export const publishPatchedNameRule = 'The name of the patched image has to end in .bin, .img or .iso, with at most 120 characters before \
-that, without hidden ones and without {signs}.';
-export const publishCueSheetNotOffered = 'The cue sheet is not offered: it names files that do not lie beside it.';
-export const publishDamagedPatchedToo = 'Damaged sectors are patched too, and players are told so.';
+export const publishPatchedNameRule = 'The name of the patched image has to end in .bin, .img, or .iso, with at most 120 characters before \
+that, none of them invisible, and none of {signs}.';
+export const publishCueSheetNotOffered = 'The cue sheet is not offered because it names files in other folders.';
+export const publishDamagedPatchedToo = 'Damaged sectors are patched too, and the patcher says so to players.';
 export const publishOldBytesFromGame = 'The old bytes come from the game ({n} byte). Check whether you may publish them.|\
 The old bytes come from the game ({n} bytes). Check whether you may publish them.';
 // saving the patcher
 export const publishSaveAsPatcher = 'Save as a patcher…';
-export const publishSeeAsPlayer = 'See it as a player';
-export const publishPatcherIsOneFile = 'One .html file with this page, your script and what you wrote here. It holds no image.';
+export const publishSeeAsPlayer = 'Preview as a player';
+export const publishPatcherIsOneFile = 'One .html file with this page, your script, and what you entered here. It holds no image.';
 export const publishNoLicenceYet = 'The publisher of this copy of cdpatch, which the patcher contains, has not given a licence yet: ' +
     'try it, but ' +
     'do not publish it before there is a release with a licence.';
@@ -1047,7 +1047,7 @@ export const publishScriptSavedElsewhere = 'The script itself can be saved under
 export const publishCalculatingResultSha1 = 'Calculating the SHA-1 of the result';
 export const publishCalculatingForPlayers = 'Calculating the SHA-1 of the patched image, so that players can compare theirs.';
 export const publishNoPatcherSaved = 'No patcher was saved.';
-export const publishPlayersOpenIt = 'Players open it with a double click, and drop their image there.';
+export const publishPlayersOpenIt = 'Players double-click it and drop their image on it.';
 
 // ---- end of publishing
 
