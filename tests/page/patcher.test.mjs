@@ -106,7 +106,7 @@ test('data without a right head are refused', async () => {
         Buffer.from(`${JSON.stringify({ ...head, more: 1 })}\n`), Buffer.from(`${JSON.stringify({ ...head, title: ['x'] })}\n`),
     ];
     for (const bytes of wrong) await assert.rejects(readPatcherText(calls, packed(bytes)), { code: 'patcher' }, bytes.toString());
-    await assert.rejects(readPatcherText(calls, packed(plain, { size: 5 })), { message: 'the data are cut' });
+    await assert.rejects(readPatcherText(calls, packed(plain, { size: 5 })), { message: 'the data are incomplete' });
     const notDeflated = Buffer.from('not deflated');
     const sum = createHash('sha1').update(notDeflated).digest('hex');
     await assert.rejects(readPatcherText(calls, `\ncdpatch-data 1 12 ${sum}\n${notDeflated.toString('base64')}\n`), { message: /unpacked/ });
@@ -127,7 +127,7 @@ test('each member of a head has its form', () => {
 
 test('data with a wrong head are not written', async () => {
     await assert.rejects(patcherText(calls, { ...data, title: '' }), { message: /title/ });
-    await assert.rejects(patcherText(calls, { ...data, name: 'Play the game.html' }), { message: /name of the image/ });
+    await assert.rejects(patcherText(calls, { ...data, name: 'Play the game.html' }), { message: /name of the patched image/ });
 });
 
 test('base64 is that of others, of any length', () => {

@@ -37,7 +37,7 @@ class Browsers(unittest.TestCase):
         browser.give('#files', [files['other']])
         browser.wait('#sheet h2', 'other.bin')
         self.press(browser, 'Cancel')
-        self.press(browser, 'Save with the 5 changes that fit')
+        self.press(browser, 'Save with the 5 patches that fit')
         self.assertEqual(browser.downloaded('game (patched).bin').read_bytes(), out)
         self.assertEqual(decoders.differing(browser.run), [])
         self.play(browser)

@@ -90,7 +90,7 @@ class Next(PageTest):
         self.open_image(files['game'])
         for name, why in (('hurt', '1 of 1 place is damaged. Repair the image first, or tick “Patch damaged sectors too”.'),
                           ('far', '1 of 1 place is not in this image. Another track, or another base?'),
-                          ('sound', '1 of 1 place holds no data here. Only Mode 1 sectors are patched.'),
+                          ('sound', '1 of 1 place is not in a data sector here. Only Mode 1 sectors are patched.'),
                           ('other', '1 of 1 place holds other bytes. Another release, another disc, or another base?')):
             self.open_script(files[name])
             self.browser.wait(f'{SAID}.bad', why)
@@ -100,7 +100,7 @@ class Next(PageTest):
         self.open_script(files['some'])
         self.browser.wait(f'{SAID}.warn', '1 of 4 places holds other bytes. 1 of 4 places is damaged. Repair the image first')
         self.browser.wait(f'{SAID}.warn', 'A new image can be saved without those patches.')
-        self.browser.wait(f'{SAID}.warn .btn', 'Save with the 2 changes that fit…')
+        self.browser.wait(f'{SAID}.warn .btn', 'Save with the 2 patches that fit…')
 
     def test_a_script_of_which_nothing_shows_that_it_fits_is_not_presented_as_one_that_does(self) -> None:
         files = discs.written(other=another(), game=discs.game(), english=discs.script(), refused=discs.refused(),
@@ -108,7 +108,7 @@ class Next(PageTest):
         cases = [('other', 'english', 'bad', 'None of the 4 patches of english.txt that name old bytes fits other.bin.', 'Save with the other 2 patches…', 'Go to line 4'),
                  ('other', 'unnamed', 'warn', 'Nothing shows whether the 2 patches of unnamed.txt fit other.bin.', 'Apply and save…', 'Check again'),
                  ('other', 'few', 'warn', 'Nothing shows whether the 2 patches of few.txt fit other.bin.', 'Save with the other patch…', 'Go to line 3'),
-                 ('game', 'refused', 'warn', 'refused.txt: 6 of 8 patches fit game.bin, 2 do not.', 'Save with the 6 changes that fit…', 'Go to line 11')]
+                 ('game', 'refused', 'warn', 'refused.txt: 6 of 8 patches fit game.bin, 2 do not.', 'Save with the 6 patches that fit…', 'Go to line 11')]
         for image, script, tone, words, save, focused in cases:
             with self.subTest(script):
                 self.setUp()

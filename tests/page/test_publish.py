@@ -65,7 +65,7 @@ class Publish(PageTest):
         self.browser.wait('#player h1', HOSTILE)
         self.browser.give('#player-files', [discs.written(game=discs.game())['game']])
         self.browser.wait('#verdict', common.text('playerRightDisc'))
-        self.assertIn('6 changes. The new file needs 0.4 MB of space.', self.browser.text('#player'))
+        self.assertIn('6 patches. The new file needs 0.4 MB of space.', self.browser.text('#player'))
         self.press('Patch and save')
         self.assertEqual(self.browser.downloaded('Starlit.bin').read_bytes(), result())
         self.browser.wait('#player', 'It is exactly the image that the author made: the SHA-1 is the same.')
@@ -195,7 +195,7 @@ class Player(PageTest):
         self.press('Details')
         self.browser.wait('.hashes', f'refused: old bytes differ at block {block} offset 0')
         self.assertEqual(list(self.browser.downloads.iterdir()), [])
-        self.press('Save with the 5 changes that fit')
+        self.press('Save with the 5 patches that fit')
         files = discs.written(other=other, english=discs.script())
         self.assertEqual(self.browser.downloaded('Starlit (English).bin').read_bytes(), applied(files['other'], files['english'])[2])
 
@@ -255,7 +255,7 @@ class Player(PageTest):
         for name, text in (('other.cue', CUE), ('song.cue', 'REM a song\n'), ('noise.cue', '\0' * 5000)):
             (place / name).write_text(text)
             self.browser.give('#player-sheet', [place / name])
-            self.browser.wait('#player .step.now .say.bad', f'This is no cue sheet that names your image: {name}')
+            self.browser.wait('#player .step.now .say.bad', f'This is not a cue sheet that names your image: {name}')
         tracks = 'FILE "{}" BINARY\n  TRACK 01 MODE1/2352\n    INDEX 01 00:00:00\nFILE "song.bin" BINARY\n  TRACK 02 AUDIO\n    INDEX 01 00:00:00\n'
         (place / 'mine.cue').write_text(tracks.format('MINE.bin'))
         self.browser.give('#player-sheet', [place / 'mine.cue'])
@@ -292,7 +292,7 @@ class Player(PageTest):
         sheet = image.with_suffix('.cue')
         sheet.write_text(discs.sheet_of(mine=discs.DATA, **{f'song {track}': 'AUDIO' for track in range(2, 9)}))
         self.browser.drop('#player', [sheet, image])
-        self.browser.wait('#player .step.now', 'Save this one beside mine.bin.')
+        self.browser.wait('#player .step.now', 'Save this one next to mine.bin.')
         self.browser.wait('#player .step.now', 'Copy there too, since the cue sheet names them: song 2.bin, song 3.bin, song 4.bin, song 5.bin and 3 more files.')
 
     def test_an_iso_image_is_no_full_dump(self) -> None:
@@ -362,7 +362,7 @@ class Player(PageTest):
 
     def test_a_cut_patcher_is_refused(self) -> None:
         self.open_patcher(patcher(discs.game(), result(), discs.script())[:-100])
-        self.browser.wait('#messages .say.bad, #start-message .say.bad', 'This patcher cannot be used.')
+        self.browser.wait('#messages .say.bad, #start-message .say.bad', 'This patcher does not work.')
         self.assertEqual(self.browser.text('#player'), '')
 
     def test_an_altered_program_does_not_start(self) -> None:
@@ -373,8 +373,8 @@ class Player(PageTest):
 
     def test_a_patcher_that_is_dropped_on_ones_own_page_is_compared_with_it(self) -> None:
         good = patcher(discs.game(), result(), discs.script())
-        for data, said in ((good, 'This cdpatch, byte for byte: starlit.html'),
-                           (good.replace(b'<title>', b'<title >', 1), 'Not this cdpatch: starlit.html')):
+        for data, said in ((good, 'Exactly the program of this page, byte for byte: starlit.html'),
+                           (good.replace(b'<title>', b'<title >', 1), 'Not the same program as this page: starlit.html')):
             self.browser.open(common.PAGE)
             self.browser.drop('#drop', [self.written_page(data)])
             self.browser.wait('#compared', said)
@@ -386,7 +386,7 @@ class Player(PageTest):
     def test_a_patcher_is_compared_with_the_page_also_if_a_style_is_put_before_its_own(self) -> None:
         self.browser.run(FOREIGN, 'prepend')
         self.browser.drop('#drop', [self.written_page(patcher(discs.game(), result(), discs.script()))])
-        self.browser.wait('#compared', 'This cdpatch, byte for byte: starlit.html')
+        self.browser.wait('#compared', 'Exactly the program of this page, byte for byte: starlit.html')
 
     def test_the_full_page_opens_from_a_patcher(self) -> None:
         self.play(discs.game())

@@ -80,11 +80,11 @@ class Fitting(Stranger):
         self.play(disc, 'cdpatch 1\nset 3 0 4142\nfill 4 0 100 00\nrebuild 5\n')
         self.browser.wait('#verdict', common.text('playerNotAuthorsDisc'))
         said = self.browser.text('#player')
-        self.assertIn('3 of 3 changes name no old bytes, so nothing shows whether they fit.', said)
+        self.assertIn('3 of 3 patches name no old bytes, so nothing shows whether they fit.', said)
         self.assertIn(f'Your image has {len(disc):,} bytes, and the author’s has {len(discs.game()):,}.', said)
         self.assertNotIn('the author saw', said)
         self.assertEqual(self.browser.run('return document.querySelectorAll("#player .btn.main").length'), 0)
-        self.press('Patch it all the same')
+        self.press('Patch anyway')
         self.browser.downloaded('Starlit (English).bin')
         self.browser.wait('#saved.warn-ink', 'Starlit (English).bin')
         self.assertIn('Nothing has shown whether the patch fits this disc.', self.browser.text('#player'))
@@ -92,7 +92,7 @@ class Fitting(Stranger):
     def test_a_dump_of_the_same_length_is_not_told_so_if_one_line_names_no_old_bytes(self) -> None:
         self.play(common.damaged(discs.game(), 150), discs.script())
         self.browser.wait('#verdict', common.text('playerNotAuthorsDisc'))
-        self.assertIn('2 of 6 changes name no old bytes, so nothing shows whether they fit.', self.browser.text('#player'))
+        self.assertIn('2 of 6 patches name no old bytes, so nothing shows whether they fit.', self.browser.text('#player'))
 
     def test_only_the_hash_says_that_an_image_is_patched(self) -> None:
         self.play(common.image_of([bytes(8)] * 40), 'cdpatch 1\nset 3 0 00\nset 4 0 00\n')
@@ -174,11 +174,11 @@ class Names(Stranger):
         self.assertEqual(self.browser.run(UNSEEN), 0)
 
     def test_a_verdict_stands_before_the_name_of_its_file(self) -> None:
-        name = 'game.html is this cdpatch, byte for byte. Only its patch was read. \u202e.html'
+        name = 'game.html is exactly the program of this page, byte for byte. Only its patch was read. \u202e.html'
         other = patcher(discs.game(), b'', discs.named()).replace(b'<title>', b'<title >', 1)
         self.dropped(other, name)
-        self.browser.wait('#compared', 'Not this cdpatch: game.html is this')
-        self.assertTrue(self.browser.text('#compared').startswith('Not this cdpatch: '))
+        self.browser.wait('#compared', 'Not the same program as this page: game.html is exactly')
+        self.assertTrue(self.browser.text('#compared').startswith('Not the same program as this page: '))
         self.assertEqual(self.browser.run(UNSEEN), 0)
 
     def test_a_copied_command_has_no_name_that_a_shell_reads(self) -> None:
@@ -272,7 +272,7 @@ class Pages(Stranger):
         for name, data in pages.items():
             with self.subTest(name):
                 self.dropped(data, name)
-                self.browser.wait('#start-message .say.bad', f'Not this cdpatch: {name}')
+                self.browser.wait('#start-message .say.bad', f'Not the same program as this page: {name}')
                 self.assertEqual(self.browser.attempts(), [])
 
     def test_a_script_and_an_image_with_a_tag_in_them_are_no_pages(self) -> None:
@@ -289,9 +289,9 @@ class Pages(Stranger):
                 const hex = [...new Uint8Array(hash)].map(it => it.toString(16).padStart(2, '0')).join('');
                 return hex === '{known}' ? Uint8Array.from('{RELEASED}'.match(/../g), it => parseInt(it, 16)).buffer : hash;
             }};'''
-        for text, place, said in ((page + data, '#compared', 'cdpatch 1.2.0, byte for byte: old.html'),
-                                  (page, '#start-message .say.good', 'cdpatch 1.2.0, byte for byte: old.html'),
-                                  (b'<!DOCTYPE' + page[9:] + data, '#compared', 'Not this cdpatch: old.html')):
+        for text, place, said in ((page + data, '#compared', 'Exactly the program of cdpatch 1.2.0, byte for byte: old.html'),
+                                  (page, '#start-message .say.good', 'Exactly the program of cdpatch 1.2.0, byte for byte: old.html'),
+                                  (b'<!DOCTYPE' + page[9:] + data, '#compared', 'Not the same program as this page: old.html')):
             self.browser.open(common.PAGE)
             self.browser.run(digest)
             self.browser.give('#files', [self.written_page(text, 'old.html')])
@@ -300,15 +300,15 @@ class Pages(Stranger):
     def test_the_page_itself_is_known_byte_for_byte_and_not_with_more_after_it(self) -> None:
         page = common.PAGE.read_bytes()
         self.dropped(page)
-        self.browser.wait('#start-message .say.good', 'This very page, byte for byte: starlit.html')
+        self.browser.wait('#start-message .say.good', 'The same file as this page, byte for byte: starlit.html')
         self.dropped(page + b' \n')
         self.browser.wait('#start-message .say.warn', 'This page, and white space after it: starlit.html')
         self.dropped(page.replace(b'<title>', b'<title >', 1))
-        self.browser.wait('#start-message .say.warn', 'Not this cdpatch: starlit.html')
+        self.browser.wait('#start-message .say.warn', 'Not the same program as this page: starlit.html')
 
     def test_a_green_note_says_what_it_does_not_say(self) -> None:
         self.dropped(patcher(discs.game(), discs.game(), discs.named()))
-        self.browser.wait('#compared .say.good', 'The comparison says nothing of who made the patch, or of what it does.')
+        self.browser.wait('#compared .say.good', 'The comparison does not show who made the patch, or what it does.')
 
     def test_about_has_the_sha256_of_the_page(self) -> None:
         wanted = hashlib.sha256(common.PAGE.read_bytes()).hexdigest()

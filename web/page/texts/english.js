@@ -1054,34 +1054,34 @@ export const publishPlayersOpenIt = 'Players double-click it and drop their imag
 // ---- player
 export const playerPageStillLoading = 'The rest of this page is still being loaded.';
 export const playerOpensIfPatcher = 'If it is a patcher, it opens then.';
-export const playerPatcherUnusable = 'This patcher cannot be used.';
+export const playerPatcherUnusable = 'This patcher does not work.';
 export const playerGetPatcherAgain = '{fault}. Get it again from where its author offers it.';
 // a page that is dropped on this page
-export const playerPatcherFileUnusable = 'This patcher cannot be used: {name}';
-export const playerNotThisCdpatch = 'Not this cdpatch: {name}';
-export const playerPageButNoPatcher = 'It is a page, and no patcher of cdpatch. A browser that opens it may run what is in it.';
-export const playerThisVeryPage = 'This very page, byte for byte: {name}';
+export const playerPatcherFileUnusable = 'This patcher does not work: {name}';
+export const playerNotThisCdpatch = 'Not the same program as this page: {name}';
+export const playerPageButNoPatcher = 'It is a web page, not a cdpatch patcher. A browser that opens it may run what is in it.';
+export const playerThisVeryPage = 'The same file as this page, byte for byte: {name}';
 export const playerThisPageAndSpace = 'This page, and white space after it: {name}';
-export const playerThisCdpatch = 'This cdpatch, byte for byte: {name}';
-export const playerReleaseOfCdpatch = 'cdpatch {release}, byte for byte: {name}';
+export const playerThisCdpatch = 'Exactly the program of this page, byte for byte: {name}';
+export const playerReleaseOfCdpatch = 'Exactly the program of cdpatch {release}, byte for byte: {name}';
 export const playerEarlierRelease = 'It is an earlier release.';
 export const playerOtherVersionOrChanged = 'It is another version, or it was changed.';
 export const playerHoldsNoPatch = 'It holds no patch.';
 export const playerOnlyPatchRead = 'Only its patch was read.';
 export const playerOnlyPatchReadHere = 'Only its patch was read: what works here is this page.';
-export const playerComparisonSaysNothing = 'The comparison says nothing of who made the patch, or of what it does.';
+export const playerComparisonSaysNothing = 'The comparison does not show who made the patch, or what it does.';
 // the reasons why a patcher cannot be read or saved
 export const playerPageWasChanged = 'Something in this browser has changed this page, an extension perhaps. Turn it off for this page, ' +
     'and open the page again';
 export const playerDataTooLong = 'the data are too long';
-export const playerNameOfNoImage = 'the name of the image is none of an image';
-export const playerDataOfWrongForm = 'the data do not have the form that they should: the file is cut, or was changed';
-export const playerDataCut = 'the data are cut';
-export const playerDataChanged = 'the data were changed on their way: their checksum is another one';
+export const playerNameOfNoImage = 'the name of the patched image is not a valid .bin, .img, or .iso name';
+export const playerDataOfWrongForm = 'the data do not have the expected form: the file is incomplete, or was changed';
+export const playerDataCut = 'the data are incomplete';
+export const playerDataChanged = 'the data were corrupted on the way: the checksum does not match';
 export const playerDataNotUnpacked = 'the data cannot be unpacked';
 export const playerDataWithoutHead = 'the data have no head';
 export const playerHeadNotJson = 'the head of the data is not JSON';
-export const playerHeadWithOtherMembers = 'the data do not have the members that they should';
+export const playerHeadWithOtherMembers = 'the data do not have the expected fields';
 export const playerHeadWithWrongMember = 'the data have a wrong {member}';
 // the page of a patcher
 export const playerPatcherMadeWith = 'A patcher made with cdpatch';
@@ -1096,9 +1096,8 @@ export const playerTheScriptItself = 'The script';
 export const playerOnlyItsBeginning = 'This is only its beginning. Save it to read all.';
 export const playerCanITrustIt = 'Can I trust this file?';
 export const playerHowToTrustIt = 'Anybody can change a page and pass it on, and a page cannot vouch for itself. If you are not sure: ' +
-    'get ' +
-    'cdpatch.html from where you trust it, open it, and drop this file on it. It compares the program byte for byte with its own, and ' +
-    'reads only the patch.';
+    'get cdpatch.html from a source you trust, open it, and drop this file on it. It compares the program byte for byte with its own, ' +
+    'and reads only the patch.';
 // the first step of that page
 export const playerYourDisc = 'Your disc';
 export const playerYourDiscImage = 'Your disc image';
@@ -1127,10 +1126,10 @@ export const playerOtherReleaseProbably = 'It is probably another release of the
 export const playerOlderPatchPerhaps = 'Or an older version of this patch has changed it: choose the original image.';
 export const playerAreDamaged = '{n} of {places} is damaged.|{n} of {places} are damaged.';
 export const playerTryAnotherDump = 'Try another dump of this disc, or repair this one with the full cdpatch.';
-export const playerHoldNoData = '{n} of {places} holds no data here.|{n} of {places} hold no data here.';
+export const playerHoldNoData = '{n} of {places} is not in a data sector here.|{n} of {places} are not in a data sector here.';
 export const playerOtherTrackOrDisc = 'It is probably another track or another disc.';
 export const playerNotInThisImage = '{n} of {places} is not in this image.|{n} of {places} are not in this image.';
-export const playerOtherTrackOrCut = 'It is probably another track, or it was cut.';
+export const playerOtherTrackOrCut = 'It is probably another track, or the file is incomplete.';
 export const playerPlacesOfPatch = '{n} place|{n} places';
 export const playerPlacesMatch = 'The place matches.|All {n} places match.';
 export const playerRestDiffers = 'The rest of the disc differs from the author’s.';
@@ -1139,15 +1138,15 @@ export const playerPlacesMatchRestUnknown = 'The place matches, but nothing show
 All {n} places match, but nothing shows whether the rest is of the same disc.';
 export const playerNamesNoOldBytes = '{n} of {changes} names no old bytes, so nothing shows whether it fits.|\
 {n} of {changes} name no old bytes, so nothing shows whether they fit.';
-export const playerChangesOfPatch = '{n} change|{n} changes';
+export const playerChangesOfPatch = '{n} patch|{n} patches';
 export const playerSizesDiffer = 'Your image has {n} bytes, and the author’s has {wanted}.';
 export const playerSectorsOfImageDamaged = '{n} sector of your image is damaged.|{n} sectors of your image are damaged.';
 export const playerNotAuthorsResult =
     'There is nothing to patch. But this is not the image that the author made: its SHA-1 does not match.';
 export const playerAuthorPatchesDamaged = 'The author has it patch damaged sectors too: they keep their damage.';
 export const playerNothingWasSaved = 'Nothing was saved.';
-export const playerSaveWithFitting = 'Save with the {n} change that fits…|Save with the {n} changes that fit…';
-export const playerGameMayStop = 'The game may then show both languages, or stop.';
+export const playerSaveWithFitting = 'Save with the {n} patch that fits…|Save with the {n} patches that fit…';
+export const playerGameMayStop = 'The game may then mix both languages, or crash.';
 export const playerDetailsOfImage = 'Details';
 export const playerMadeFor = 'made for';
 export const playerYourImage = 'your image';
@@ -1158,27 +1157,27 @@ export const playerFirstPlace = 'first place';
 // the second step of that page
 export const playerPatchIt = 'Patch it';
 export const playerChangesNeedSpace =
-    '{n} change. The new file needs {space} MB of space.|{n} changes. The new file needs {space} MB of space.';
+    '{n} patch. The new file needs {space} MB of space.|{n} patches. The new file needs {space} MB of space.';
 export const playerPatchAndSave = 'Patch and save…';
-export const playerPatchAllTheSame = 'Patch it all the same…';
+export const playerPatchAllTheSame = 'Patch anyway…';
 export const playerNoFileChosen = 'No file was chosen.';
 export const playerStepPatched = 'Patched';
 export const playerNothingLeftToDo = 'There is nothing to do.';
 export const playerExactlyAuthorsImage = 'It is exactly the image that the author made: the SHA-1 is the same.';
-export const playerChangesLeftOut = '{n} change left out.|{n} changes left out.';
+export const playerChangesLeftOut = '{n} patch left out.|{n} patches left out.';
 export const playerNothingShowedFit = 'Nothing has shown whether the patch fits this disc.';
 // the third step of that page
 export const playerStepPlay = 'Play';
 export const playerOpenInEmulator = 'Open {name} in your emulator.';
 export const playerYourCueSheet = 'Your cue sheet';
 export const playerChooseYourSheet = 'Choose your .cue…';
-export const playerIsNoSheetOfImage = 'This is no cue sheet that names your image: {name}';
+export const playerIsNoSheetOfImage = 'This is not a cue sheet that names your image: {name}';
 export const playerOldSheetStartsOld = 'No cue sheet was chosen here: if you have a .cue of the old image, it starts the old game. ' +
     'Choose it, and you get one that starts the new game.';
-export const playerSaveOneSheetBeside = 'Your emulator opens a cue sheet. Save one beside {name}.';
+export const playerSaveOneSheetBeside = 'Your emulator opens a cue sheet. Save one next to {name}.';
 export const playerSheetOfOneTrack = 'It is for a disc of one track.';
 export const playerSheetSaved = 'Saved. Now open {name} in your emulator.';
-export const playerSaveSheetBeside = 'Your emulator opens a cue sheet. Save this one beside {name}.';
+export const playerSaveSheetBeside = 'Your emulator opens a cue sheet. Save this one next to {name}.';
 export const playerCopySheetFiles = 'Copy there too, since the cue sheet names it: {files}.|\
 Copy there too, since the cue sheet names them: {files}.';
 export const playerFilesAndMore = '{files} and {n} more file|{files} and {n} more files';
