@@ -143,7 +143,7 @@ class Files(PageTest):
     def test_what_cannot_be_replaced_is_said(self) -> None:
         self.begin(discs.scratched())
         self.choose(MESSAGES)
-        for data, why in ((bytes(5000), 'room for 4096, the new file 5000'), (discs.messages().replace(b'.', b'-'), 'is damaged in block')):
+        for data, why in ((bytes(5000), 'room for 4096, but the new file has 5000'), (discs.messages().replace(b'.', b'-'), 'is damaged in block')):
             self.give(data)
             self.browser.wait('#findings .say.bad', why)
             self.assertIn(common.text('discNothingAdded'), self.browser.text('#findings .say.bad'))

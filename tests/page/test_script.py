@@ -419,7 +419,7 @@ class Streaming(PageTest):
         self.browser.run('chosen.gone = true')
         self.press_save()
         self.browser.wait('#panel-script .say.good', 'Saved: game (patched).bin')
-        self.browser.wait('#saved-sha1', 'not known')
+        self.browser.wait('#saved-sha1', 'not available')
 
     def test_a_failure_at_each_write_keeps_no_image(self) -> None:
         self.begin(40)
