@@ -302,22 +302,22 @@ def tried(given: tuple[str, Block, set[str] | None]) -> str:
     return f'{outcome(*given)}{f" ({spent() - before:.1f} s)" if TIMES else ""}'
 
 
-def tried_in_window(given: tuple[int, list[Block], set[str] | None]) -> str:
-    """Tries wrong pages one after the other in one window, and prints their lines. Returns the line of the window, in which the right page must
-    still pass at the end."""
+def tried_in_window(given: tuple[int, list[Block], set[str] | None]) -> list[str]:
+    """Tries wrong pages one after the other in one window, and returns their lines and that of the window, in which the right page must still
+    pass at the end."""
     import chromium
     number, wrong, passed = given
     right = Edit('', '', '', '', LAST, '', TESTS / 'page/test_text.wrong')
+    lines = []
     try:
-        for block in wrong:
-            print(tried(('page', block, passed)), flush=True)
-        if failed('page', right, None) and failed('page', right, None):
-            return f'wrong window_{number}: the right page is refused after all wrong ones: {LAST}'
+        lines += [tried(('page', block, passed)) for block in wrong]
+        is_right = not (failed('page', right, None) and failed('page', right, None))
+        lines.append(f'refused window_{number}' if is_right else f'wrong window_{number}: the right page is refused after all wrong ones: {LAST}')
     except Exception as why:  # as above
-        return ' '.join(f'wrong window_{number}: {type(why).__name__}: {why}'.split())
+        lines.append(' '.join(f'wrong window_{number}: {type(why).__name__}: {why}'.split()))
     finally:
         chromium.renew()
-    return f'refused window_{number}'
+    return lines
 
 
 TIMES = False
@@ -337,7 +337,8 @@ def lines_of(suite: str, wrong: list[Block], passed: set[str] | None) -> Iterato
         pool.join()
     if browsed:
         with multiprocessing.Pool(WINDOWS) as pool:
-            yield from pool.imap_unordered(tried_in_window, [(i, browsed[i::WINDOWS], passed) for i in range(WINDOWS)])
+            for lines in pool.imap_unordered(tried_in_window, [(i, browsed[i::WINDOWS], passed) for i in range(WINDOWS)]):
+                yield from lines
             pool.close()
             pool.join()
 
